@@ -1,0 +1,8 @@
+use Rattle.jsonline_in.proofs.Clauses.{is_read, is_refused}
+use Rattle.jsonline_in.proofs.plain.fields_of.Goals as goal
+
+pub returns-clause-read : goal.returns-clause-read
+returns-clause-read c = is_read c.set_line.result c.args.line.now c.args.out.now c.set_line.new.out c.set_line.ensures
+
+pub returns-clause-refused : goal.returns-clause-refused
+returns-clause-refused c = is_refused c.set_line.result c.args.line.now c.args.out.now c.set_line.new.out c.set_line.ensures

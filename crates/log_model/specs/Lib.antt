@@ -1,0 +1,10 @@
+pub mod Field
+pub mod Row
+pub mod Moment
+pub mod Json
+pub mod Line
+pub mod Intake
+pub mod Words
+pub mod Query
+pub mod Print
+pub mod Program

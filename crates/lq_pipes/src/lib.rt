@@ -1,0 +1,10 @@
+//! Printed records: rows as lines of compact JSON.
+#![tactic(auto)]
+
+mod members;
+pub mod plain;
+mod record;
+#[cfg(test)]
+mod tests;
+
+pub use record::write_row;

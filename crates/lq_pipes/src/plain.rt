@@ -1,0 +1,72 @@
+//! The plain program: what the crate computes, in the plainest way. It is slow, and there to be compared with.
+ghost use Rattle.std.specs.Prelude.{◌≡◌, [], ◌∷◌, ◌++◌, cond, IfOk, OnOk, OnErr, string_bytes};
+ghost use Rattle.json.specs.Print.{quoted};
+ghost use Rattle.log_model.specs.Print.{line_text, member_text};
+ghost use Rattle.log_model.specs.Row.{record_of};
+
+use crate::record::{STREAM, STREAM_ID};
+use serde_json::Value;
+use std::alloc::{AllocError, Global};
+use time_text::write_moment;
+use vl_row::{Field, FieldList, Row, Text};
+
+/// Appends the row's record as one JSON object with its keys in byte order, and a line feed.
+pub fn write_row(alloc: Global, row: &Row, out: &mut Vec<u8>) -> Result<(), AllocError>
+    ensures ok { OnOk result (out.new.items ≡ out.old.items ++ line_text (record_of row.now)) }
+    ensures err { OnErr result (out.new.items ≡ out.old.items) }
+{
+    let record = record(alloc, row)?;
+    let line = line(alloc, record.as_slice())?;
+    out.extend_from_slice(line.as_bytes())
+}
+
+/// The row's fields, and the computed ones set among them.
+fn record(alloc: Global, row: &Row) -> Result<FieldList, AllocError>
+    ensures { IfOk result (λ fields. fields ≡ record_of row.now) }
+{
+    let mut moment = Text::try_of(alloc, "")?;
+    write_moment(alloc, row.time(), &mut moment)?;
+    let mut record = row.fields().try_copy(alloc)?;
+    record.set(alloc, "_stream", STREAM)?;
+    record.set(alloc, "_stream_id", STREAM_ID)?;
+    record.set(alloc, "_time", moment.as_str())?;
+    Ok(record)
+}
+
+/// The fields as a line.
+fn line(alloc: Global, fields: &[Field]) -> Result<String, AllocError>
+    ensures { IfOk result (λ line. string_bytes line ≡ line_text fields.now) }
+{
+    let mut line = String::from_str(alloc, "{")?;
+    for (place, field) in fields.iter().enumerate() {
+        push_member(alloc, place > 0, field, &mut line)?;
+    }
+    line.push_str("}\n")?;
+    Ok(line)
+}
+
+/// Appends a member, with a comma before it if it comes later than another.
+fn push_member(
+    alloc: Global,
+    later: bool,
+    field: &Field,
+    out: &mut String,
+) -> Result<(), AllocError>
+    ensures { OnOk result (string_bytes out.new
+        ≡ string_bytes out.old ++ (cond later (44 ∷ []) [] ++ member_text field.now)) }
+{
+    if later {
+        out.push(',')?;
+    }
+    push_quoted(alloc, field.name(), out)?;
+    out.push(':')?;
+    push_quoted(alloc, field.value(), out)
+}
+
+fn push_quoted(alloc: Global, text: &str, out: &mut String) -> Result<(), AllocError>
+    ensures { OnOk result (string_bytes out.new ≡ string_bytes out.old ++ quoted text.now) }
+{
+    let value = Value::String(String::from_str(alloc, text)?);
+    let printed = value.to_string(alloc)?;
+    out.push_str(printed.as_str())
+}

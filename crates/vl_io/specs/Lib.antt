@@ -1,0 +1,6 @@
+pub mod Bytes
+pub mod Faults
+pub mod Moments
+pub mod Memory
+pub mod Adapters
+pub mod ReadFault

@@ -1,0 +1,138 @@
+//! Whole transfers, over single reads and writes.
+ghost use Rattle.std.specs.Prelude.{◌≡◌, ◌+◌, ℕ, ◌<◌, ◌≤◌, List, [], IfOk, OnErr, OnOk, length, take, true, false, vec_len};
+ghost use Rattle.vl_io.specs.Bytes.{AddsPiece, Appends, Consumes, IsAtEnd};
+ghost use Rattle.vl_io.specs.Faults.{HasCause, Rose};
+
+use crate::outside::{Failed, Sink, Source};
+use std::alloc::{AllocError, Global};
+use std::error::Error;
+use std::fmt;
+
+/// Writes the whole piece. After `Failed` a front of it was written. An empty piece makes no write.
+pub fn put_all<K: Sink>(sink: &mut K, piece: &[u8]) -> Result<(), Failed>
+    ensures ok { OnOk result (Appends (K.written sink.old) (K.written sink.new) piece.now) }
+    ensures err { OnErr result ((n : ℕ) × (n ≤ length piece.now)
+        × Appends (K.written sink.old) (K.written sink.new) (take n piece.now)) }
+    ensures cause { HasCause (K.faults sink.old) (K.faults sink.new) result }
+    ensures idle { piece.now ≡ [] → sink.new ≡ sink.old }
+{
+    let mut done = 0;
+    while done < piece.len() {
+        done += sink.write(&piece[done..])?;
+    }
+    Ok(())
+}
+
+/// Why a source was not read to its end.
+#[derive(Clone, Copy, Debug, PartialEq, Eq)]
+pub enum ReadFault {
+    /// The source failed.
+    Failed,
+    /// More bytes came than are allowed.
+    Long,
+    /// There is no memory for the bytes.
+    Memory,
+}
+
+impl fmt::Display for ReadFault {
+    ghost use Rattle.std.specs.Prelude.{Some};
+    ghost use Rattle.vl_io.specs.ReadFault.{fault_text};
+
+    ghost output = { λ fault. Some (fault_text fault) };
+
+    fn fmt<W: fmt::Write>(&self, f: &mut fmt::Formatter<W>) -> fmt::Result {
+        match self {
+            ReadFault::Failed => f.write_str("read fault"),
+            ReadFault::Long => f.write_str("input long"),
+            ReadFault::Memory => f.write_str("no memory"),
+        }
+    }
+}
+
+impl Error for ReadFault {}
+
+impl From<Failed> for ReadFault {
+    ghost use Rattle.vl_io.specs.declared.transfer.ReadFault.TheVariants.{Failed as failed};
+
+    ghost from_gives = { λ _ fault. fault ≡ failed };
+
+    fn from(_: Failed) -> ReadFault {
+        ReadFault::Failed
+    }
+}
+
+impl From<AllocError> for ReadFault {
+    ghost use Rattle.vl_io.specs.declared.transfer.ReadFault.TheVariants.{Memory};
+
+    ghost from_gives = { λ _ fault. fault ≡ Memory };
+
+    fn from(_: AllocError) -> ReadFault {
+        ReadFault::Memory
+    }
+}
+
+/// How many bytes a read is offered room for: enough that the calls cost little, and few enough that
+/// they stay in the processor's cache.
+const PIECE: usize = 64 * 1024;
+
+/// Reads the source to its end, or until more than `limit` bytes have come.
+pub fn read_to_limit<S: Source>(
+    alloc: Global,
+    source: &mut S,
+    limit: usize,
+) -> Result<Vec<u8>, ReadFault>
+    ensures ok { IfOk result (λ bytes. Consumes (S.left source.old) (S.left source.new) bytes.items
+        × IsAtEnd (S.left source.new) × (vec_len bytes ≤ limit)) }
+    ensures long { result ≡ Err ReadFault.Long → (bytes : List ℕ)
+        × Consumes (S.left source.old) (S.left source.new) bytes × (limit < length bytes) }
+    ensures failed { result ≡ Err ReadFault.Failed
+        → Rose (S.faults source.old) (S.faults source.new) }
+    ensures faults { S.faults source.old ≤ S.faults source.new }
+
+    // Whatever the answer, a front of what was left was taken.
+    ensures taken { (bytes : List ℕ) × Consumes (S.left source.old) (S.left source.new) bytes }
+{
+    let mut buffer = piece_buffer(alloc)?;
+    let mut bytes = Vec::new(alloc);
+    while read_piece(source, buffer.as_mut_slice(), &mut bytes, limit)? {}
+    Ok(bytes)
+}
+
+fn piece_buffer(alloc: Global) -> Result<Vec<u8>, AllocError>
+    ensures { IfOk result (λ buffer. 0 < vec_len buffer) }
+{
+    Ok(vec![in alloc; 0; PIECE]?)
+}
+
+/// Reads one piece, and says whether there may be more.
+fn read_piece<S: Source>(
+    source: &mut S,
+    buffer: &mut [u8],
+    bytes: &mut Vec<u8>,
+    limit: usize,
+) -> Result<bool, ReadFault>
+    requires room { 0 < length buffer.old }
+    requires within { vec_len bytes.old ≤ limit }
+    ensures adds { OnOk result (AddsPiece (S.left source.old) (S.left source.new)
+        bytes.old.items bytes.new.items) }
+    ensures limited { OnOk result (vec_len bytes.new ≤ limit) }
+    ensures more { result ≡ Ok true → vec_len bytes.old < vec_len bytes.new }
+    ensures end { result ≡ Ok false → IsAtEnd (S.left source.new) }
+    ensures long { result ≡ Err ReadFault.Long → (piece : List ℕ)
+        × Consumes (S.left source.old) (S.left source.new) piece
+        × (limit < vec_len bytes.old + length piece) }
+    ensures failed { result ≡ Err ReadFault.Failed
+        → Rose (S.faults source.old) (S.faults source.new) }
+    ensures faults { S.faults source.old ≤ S.faults source.new }
+    ensures taken { (piece : List ℕ) × Consumes (S.left source.old) (S.left source.new) piece }
+{
+    let count = source.read(buffer)?;
+    if count == 0 {
+        return Ok(false);
+    }
+    if limit - bytes.len() < count {
+        return Err(ReadFault::Long);
+    }
+    bytes.extend_from_slice(&buffer[..count])?;
+    Ok(true)
+}

@@ -1,0 +1,16 @@
+//! Log rows: text, named fields, events and the batches in which they arrive, as types whose values keep the rules of
+//! `log_model`.
+#![tactic(auto)]
+
+mod batch;
+mod field;
+mod inline;
+mod row;
+#[cfg(test)]
+mod tests;
+mod text;
+
+pub use batch::{Batch, BatchFault};
+pub use field::{Field, FieldList};
+pub use row::{Row, RowFault};
+pub use text::Text;

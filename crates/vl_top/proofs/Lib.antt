@@ -1,0 +1,5 @@
+pub mod IntakeLemmas
+pub mod LineLemmas
+pub mod ReportLemmas
+pub mod TakingLemmas
+pub mod WeightLemmas

@@ -1,0 +1,4 @@
+pub mod Intake
+pub mod Query
+pub mod Run
+pub mod Status

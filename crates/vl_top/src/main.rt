@@ -1,0 +1,63 @@
+//! Duvonka, a log database: the program.
+#![tactic(auto)]
+
+mod answer;
+mod command;
+mod intake;
+mod lines;
+mod query;
+mod report;
+mod run;
+mod status;
+#[cfg(test)]
+mod tests;
+
+use report::say;
+use run::run;
+use status::Status;
+use std::alloc::AllocError;
+use std::env;
+use std::io::ErrorKind;
+use std::process::ExitCode;
+use vl_io::{InputSource, OutputSink, SystemClock};
+
+fn main(rt: HostRuntime) -> ExitCode {
+    let mut err = OutputSink::new(rt.stderr());
+    let mut src = InputSource::new(rt.stdin());
+    let mut out = OutputSink::new(rt.stdout());
+    let mut clock = SystemClock::new(rt);
+    let status = match words_of(&rt) {
+        Ok(words) => match borrowed(&rt, &words) {
+            Ok(words) => run(
+                &rt,
+                words.as_slice(),
+                &mut src,
+                &mut out,
+                &mut err,
+                &mut clock,
+            ),
+            Err(_) => Status::NoMemory.number(),
+        },
+        Err(status) => {
+            say(&mut err, status.text());
+            status.number()
+        }
+    };
+    ExitCode::from(status)
+}
+
+/// The words behind the program's name. One that is not UTF-8 makes them no command.
+fn words_of(rt: &HostRuntime) -> Result<Vec<String>, Status> {
+    match env::args(rt) {
+        Ok(words) => words
+            .skip(1)
+            .collect(rt.alloc())
+            .map_err(|_| Status::NoMemory),
+        Err(fault) if fault.kind() == ErrorKind::InvalidData => Err(Status::Usage),
+        Err(_) => Err(Status::NoMemory),
+    }
+}
+
+fn borrowed<'a>(rt: &HostRuntime, words: &'a Vec<String>) -> Result<Vec<&'a str>, AllocError> {
+    words.iter().map(|word| word.as_str()).collect(rt.alloc())
+}

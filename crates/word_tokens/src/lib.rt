@@ -1,0 +1,40 @@
+//! Words in texts (LogsQL, "Word"): which characters make words, and whether a text has a word.
+#![tactic(auto)]
+
+ghost use Rattle.std.specs.Prelude.{◌≡◌, ◌<◌, length};
+ghost use Rattle.log_model.specs.Words.{is_word_char, is_word_text as is_word_text_of, has_word as has_word_of};
+
+use unicode::properties::{GeneralCategory, GeneralCategoryGroup};
+
+pub mod plain;
+mod search;
+#[cfg(test)]
+mod tests;
+
+/// Whether the character is part of words: the underscore, a letter (Unicode's general categories L*)
+/// or a decimal digit (Nd).
+#[tactic(auto, unfolding(log_model::specs::Words::is_word_char))]
+pub fn is_word(c: char) -> bool
+    ensures { result ≡ is_word_char c }
+{
+    if c.is_ascii() {
+        return c.is_ascii_alphanumeric() || c == '_';
+    }
+    let category = GeneralCategory::for_char(c);
+    GeneralCategoryGroup::Letter.contains(category) || category == GeneralCategory::DecimalNumber
+}
+
+/// Whether the text is one or more word characters and nothing else.
+pub fn is_word_text(text: &str) -> bool
+    ensures { result ≡ is_word_text_of text.now }
+{
+    !text.is_empty() && text.chars().all(is_word)
+}
+
+/// Whether `word` is one of the words of `text`, which are its longest runs of word characters.
+pub fn has_word(text: &str, word: &str) -> bool
+    requires { 0 < length word.now }
+    ensures { result ≡ has_word_of text.now word.now }
+{
+    search::occurs_in(text, word) && is_word_text(word)
+}
