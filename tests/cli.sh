@@ -102,9 +102,7 @@ if [ -c /dev/full ]; then
 fi
 
 # the reader is gone before the answer is written
-mkfifo "$work/fifo"
-(exec 3< "$work/fifo"; exec 3<&-) &
-(exec 4> "$work/fifo"; wait; sleep 0.1; "$program" pipe error < "$work/three" >&4 2> "$work/err"; echo $? > "$work/status")
+{ sleep 0.3; "$program" pipe error < "$work/three" 2> "$work/err"; echo $? > "$work/status"; } | true
 : > "$work/out"; wants "" ""
 judge "a closed pipe as output" "$(cat "$work/status")" 4
 

@@ -245,7 +245,7 @@ member_again text member rest free m =
     let stays = quoted_stays (m.value_text ++ rest) (quoted_front m.value_text rest (string_quoted m.value_text member.1 m.value)) in
     rw (spelled, name_again m.name_text member.0 (m.colon ++ (m.value_text ++ rest)) free m.name, mark_again 58 m.colon (m.value_text ++ rest) refl m.mark, stays, string_again m.value_text member.1 rest m.value) refl
 
-free_named : (name : List ℕ) → is_free name ≡ true → 0 < length name
+pub free_named : (name : List ℕ) → is_free name ≡ true → 0 < length name
 free_named [] free = absurd cc
 free_named (byte ∷ bytes) free = omega arith
 

@@ -1,4 +1,4 @@
--- Setting members one after the other, as a loop does.
+-- Reading members one after the other, as a loop does, and setting each.
 use Rattle.std.proofs.Common.{◌≡◌, ℕ, zero, suc, ◌<◌, ◌≤◌, List, [], ◌∷◌, ◌++◌, length, Some, None, Result, Ok, Err, refl, sym, ap, ◌∙◌, append_assoc, arith}
 use Rattle.std.proofs.lemmas.List.{length-append}
 use Rattle.std.proofs.lemmas.List.Sums.{fold_push}
@@ -12,20 +12,27 @@ use Rattle.jsonline_in.proofs.Places.{space_within, past_within}
 abbrev pub with_front : List Field → Result (List Field × List ℕ) ℕ → Result (List Field × List ℕ) ℕ
 with_front front read = read >>= λ x. Ok (front ++ x.0, x.1)
 
+-- Those in front were read up to here, and with the members from here on they make the total.
+pub record Reached (front : List Field) (rest : List ℕ) (total : Result (List Field × List ℕ) ℕ) : Type 0 where
+  pub fuel : ℕ
+  pub enough : length rest ≤ fuel
+  pub more : with_front front (members_at fuel rest) ≡ total
+
 -- The members up to here were set, and those from here on make the total.
 pub record SoFar (old now : List Field) (rest : List ℕ) (total : Result (List Field × List ℕ) ℕ) : Type 0 where
   pub front : List Field
-  pub fuel : ℕ
-  pub enough : length rest ≤ fuel
   pub set : now ≡ set_all old front
-  pub more : with_front front (members_at fuel rest) ≡ total
+  pub reached : Reached front rest total
 
 nothing_before : (read : Result (List Field × List ℕ) ℕ) → with_front [] read ≡ read
 nothing_before (Ok x) = refl
 nothing_before (Err left) = refl
 
+pub nothing_read : (text : List ℕ) → Reached [] text (members_at (length text) text)
+nothing_read text = record { fuel = length text; enough = omega arith; more = nothing_before (members_at (length text) text) }
+
 pub starts : (old : List Field) (text : List ℕ) → SoFar old old text (members_at (length text) text)
-starts old text = record { front = []; fuel = length text; enough = omega arith; set = refl; more = nothing_before (members_at (length text) text) }
+starts old text = record { front = []; set = refl; reached = nothing_read text }
 
 abbrev before : ℕ → ℕ
 before zero = zero
@@ -60,34 +67,40 @@ member_shorter rest x e =
 pub next_shorter : (rest : List ℕ) (x : Field × List ℕ) (next : List ℕ) → member_at rest ≡ Ok x → past 44 (after_space x.1) ≡ Some next → length (after_space next) < length rest
 next_shorter rest x next e at = omega (arith, member_shorter rest x e, space_within x.1, past_within 44 (after_space x.1) next at, space_within next)
 
-module _ (old now : List Field) (rest : List ℕ) (total : Result (List Field × List ℕ) ℕ) (s : SoFar old now rest total) where
+module _ (front : List Field) (rest : List ℕ) (total : Result (List Field × List ℕ) ℕ) (r : Reached front rest total) where
   -- the next member is none
   pub stops : (left : ℕ) → member_at rest ≡ Err left → total ≡ Err left
-  stops left e = sym s.more ∙ rw (step s.fuel rest s.enough, e) refl
+  stops left e = sym r.more ∙ rw (step r.fuel rest r.enough, e) refl
 
   module _ (x : Field × List ℕ) (e : member_at rest ≡ Ok x) where
-    pub one_more : total ≡ with_front s.front (after_member s.fuel x)
-    one_more = sym s.more ∙ rw (step s.fuel rest s.enough, e) refl
+    pub one_more : total ≡ with_front front (after_member r.fuel x)
+    one_more = sym r.more ∙ rw (step r.fuel rest r.enough, e) refl
 
     -- a comma leads on to the next member
-    pub goes_on : (new : List Field) (next : List ℕ) → new ≡ set_field now x.0.0 x.0.1 → past 44 (after_space x.1) ≡ Some next → SoFar old new (after_space next) total
+    pub goes_on : (next : List ℕ) → past 44 (after_space x.1) ≡ Some next → Reached (front ++ x.0 ∷ []) (after_space next) total
     unfolding others_at
-    goes_on new next set at =
+    goes_on next at =
         record {
-          front = s.front ++ x.0 ∷ [];
-          fuel = before s.fuel;
-          enough = before_enough s.fuel (length (after_space next)) (omega (arith, s.enough, next_shorter rest x next e at));
-          set = set_more old now new s.front x.0 s.set set;
-          more = sym (one_more ∙ rw at (regroup s.front x.0 (members_at (before s.fuel) (after_space next))));
+          fuel = before r.fuel;
+          enough = before_enough r.fuel (length (after_space next)) (omega (arith, r.enough, next_shorter rest x next e at));
+          more = sym (one_more ∙ rw at (regroup front x.0 (members_at (before r.fuel) (after_space next))));
         }
 
     -- the object ends here
-    pub ends : (new : List Field) (end : List ℕ) → new ≡ set_field now x.0.0 x.0.1 → past 44 (after_space x.1) ≡ None → byte_at 125 (after_space x.1) ≡ Ok end
-        → (members : List Field) × (total ≡ Ok (members, after_space end)) × (new ≡ set_all old members)
+    pub ends : (end : List ℕ) → past 44 (after_space x.1) ≡ None → byte_at 125 (after_space x.1) ≡ Ok end → total ≡ Ok (front ++ x.0 ∷ [], after_space end)
     unfolding others_at close_at
-    ends new end set at closes = (s.front ++ x.0 ∷ [], one_more ∙ rw (at, closes) refl, set_more old now new s.front x.0 s.set set)
+    ends end at closes = one_more ∙ rw (at, closes) refl
 
     -- neither
     pub breaks : (left : ℕ) → past 44 (after_space x.1) ≡ None → byte_at 125 (after_space x.1) ≡ Err left → total ≡ Err left
     unfolding others_at close_at
     breaks left at closes = one_more ∙ rw (at, closes) refl
+
+module _ (old now new : List Field) (rest : List ℕ) (total : Result (List Field × List ℕ) ℕ) (s : SoFar old now rest total)
+    (x : Field × List ℕ) (e : member_at rest ≡ Ok x) (set : new ≡ set_field now x.0.0 x.0.1) where
+  pub sets_on : (next : List ℕ) → past 44 (after_space x.1) ≡ Some next → SoFar old new (after_space next) total
+  sets_on next at = record { front = s.front ++ x.0 ∷ []; set = set_more old now new s.front x.0 s.set set; reached = goes_on s.front rest total s.reached x e next at }
+
+  pub sets_last : (end : List ℕ) → past 44 (after_space x.1) ≡ None → byte_at 125 (after_space x.1) ≡ Ok end
+      → (members : List Field) × (total ≡ Ok (members, after_space end)) × (new ≡ set_all old members)
+  sets_last end at closes = (s.front ++ x.0 ∷ [], ends s.front rest total s.reached x e end at closes, set_more old now new s.front x.0 s.set set)

@@ -1,5 +1,5 @@
 -- Reading a line from left to right. A reader gives a value and the bytes after it, or how many bytes were left where no line of the form can go on.
-use Rattle.std.specs.Prelude.{ℕ, zero, suc, Bool, not, ◌-◌, List, [], ◌∷◌, length, take, drop, Option, Some, None, Result, Ok, Err, ◌==◌, if◌then◌else◌, ◌≡◌}
+use Rattle.std.specs.Prelude.{ℕ, zero, suc, Bool, not, ◌-◌, List, [], ◌∷◌, length, take, drop, map, Option, Some, None, Result, Ok, Err, ◌==◌, if◌then◌else◌, ◌≡◌}
 use Rattle.std.specs.List.{prefix_len}
 use Rattle.std.specs.Option.{ok_or}
 use Rattle.std.specs.Str.{is_utf8}
@@ -9,6 +9,7 @@ use Rattle.log_model.specs.Json.{is_space, is_plain}
 use Rattle.log_model.specs.Line.{is_free}
 use Rattle.jsonline_in.specs.declared.fault.JsonFault.{JsonFault}
 use Rattle.jsonline_in.specs.declared.fault.JsonFault.TheVariants as faults
+use Rattle.jsonline_in.specs.declared.scan.Member.{Member}
 use Rattle.jsonline_in.specs.declared.stop.Left.{Left}
 use Rattle.jsonline_in.specs.declared.stop.Stop.{Stop}
 use Rattle.jsonline_in.specs.declared.stop.Stop.TheVariants as stops
@@ -22,6 +23,18 @@ abbrev pub ◌>>=◌ : {A B : Type 0} → Result A ℕ → (A → Result B ℕ) 
 abbrev pub Gives : {X Y : Type 0} → (X → Y) → Result X Left → Result Y ℕ → Type 0
 Gives view (Ok x) read = read ≡ Ok (view x)
 Gives view (Err e) read = read ≡ Err e.0
+
+-- the same of a reader that needs memory
+abbrev pub Collects : {X Y : Type 0} → (X → Y) → Result X Stop → Result Y ℕ → Type 0
+Collects view (Ok x) read = read ≡ Ok (view x)
+Collects view (Err (stops.At e)) read = read ≡ Err e.0
+Collects view (Err stops.Memory) read = Unit {0}
+
+-- the same of a line, whose faults have their place from the front
+abbrev pub Lists : {X Y : Type 0} → (X → Y) → Result X JsonFault → Result Y ℕ → Type 0
+Lists view (Ok x) read = read ≡ Ok (view x)
+Lists view (Err (faults.NotBuilt at)) read = read ≡ Err at
+Lists view (Err faults.Memory) read = Unit {0}
 
 -- What was set over old is what reading gives, one member after another, and so is what is left, unless memory ran out.
 abbrev pub Sets : {X : Type 0} → (X → List ℕ) → Result X Stop → List Field → List Field → Result (List Field × List ℕ) ℕ → Type 0
@@ -40,6 +53,10 @@ abbrev pub Answers : Result (Unit {0}) JsonFault → List Field → List Field �
 Answers (Ok _) old new read = (members : List Field) × (read ≡ Ok members) × (new ≡ set_all old members)
 Answers (Err (faults.NotBuilt at)) old new read = read ≡ Err at
 Answers (Err faults.Memory) old new read = Unit {0}
+
+-- members as they stand in a line, and their fields
+abbrev pub fields_in : List Member → List Field
+fields_in members = map (λ member. (member.name.now, member.value.now)) members
 
 -- a byte that ends a run of plain ones
 abbrev pub is_stop : ℕ → Bool

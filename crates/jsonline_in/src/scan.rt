@@ -87,7 +87,7 @@ fn string_at(text: &str) -> Result<(&str, &str), Left>
 }
 
 #[inline]
-fn is_free(name: &str) -> bool
+pub(crate) fn is_free(name: &str) -> bool
     ensures { result ≡ is_free name.now }
 {
     match name.as_bytes().first() {

@@ -2,7 +2,7 @@
 ghost use Rattle.std.specs.Prelude.{◌≡◌};
 ghost use Rattle.jsonline_in.specs.declared.stop.Stop.TheVariants.{At, Memory};
 
-use std::alloc::AllocError;
+use std::alloc::{AllocError, AllocFailed};
 
 /// How many bytes were left where no line of the form can go on.
 #[derive(Clone, Copy)]
@@ -27,6 +27,14 @@ impl From<AllocError> for Stop {
     ghost from_gives = { λ _ e. e ≡ Memory };
 
     fn from(_e: AllocError) -> Stop {
+        Stop::Memory
+    }
+}
+
+impl<T: Drop> From<AllocFailed<T>> for Stop {
+    ghost from_gives = { λ _ e. e ≡ Memory };
+
+    fn from(_e: AllocFailed<T>) -> Stop {
         Stop::Memory
     }
 }

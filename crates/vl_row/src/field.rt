@@ -116,6 +116,8 @@ impl Model for FieldList {
 }
 
 impl FieldList {
+    ghost use Rattle.vl_row.specs.Faults.{stored};
+
     /// No fields. This allocates nothing.
     pub fn new(alloc: Global) -> FieldList
         ensures { result ≡ [] }
@@ -223,8 +225,6 @@ impl FieldList {
         place_in(self.fields.as_slice(), name)
     }
 
-    ghost use Rattle.vl_row.specs.Faults.{stored};
-
     /// Removes the fields of reserved names.
     pub(crate) fn leave_out_reserved(&mut self)
         ensures { self.new ≡ stored self.old }
@@ -232,7 +232,6 @@ impl FieldList {
         self.fields.retain(|field| !is_reserved(field.name()));
     }
 
-    /// An equal field, in memory of its own.
     /// Equal fields, in memory of their own, with no room to spare.
     pub fn try_copy(&self, alloc: Global) -> Result<FieldList, AllocError>
         ensures { IfOk result (λ list. list ≡ self.now) }

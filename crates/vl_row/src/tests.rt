@@ -24,11 +24,7 @@ fn shown(alloc: Global, list: &FieldList) -> Result<String, AllocError> {
 }
 
 fn repeated(alloc: Global, count: usize) -> Result<String, AllocError> {
-    let mut text = String::new(alloc);
-    for _ in 0..count {
-        text.push('v')?;
-    }
-    Ok(text)
+    String::from_utf8_lossy(alloc, &vec![in alloc; b'v'; count]?)
 }
 
 /// So many fields, whose names and values have these lengths.
@@ -142,29 +138,29 @@ fn rows_are_refused_past_their_limits(rt: HostRuntime) -> Result<(), Fail> {
 #[test]
 fn rows_leave_out_reserved_names(rt: HostRuntime) -> Result<(), Fail> {
     let alloc = rt.alloc();
-    let list = list_of(
-        alloc,
-        &[
-            ("_time", "x"),
-            ("_stream", "y"),
-            ("_stream_id", "z"),
-            ("_times", "k"),
-            ("a", "1"),
-        ],
-    )?;
-    let row = Row::try_new(7, list)
-        .ok()
-        .ok_or("refused")?
-        .try_copy(alloc)?;
+    let names = [
+        ("_time", "x"),
+        ("_stream", "y"),
+        ("_stream_id", "z"),
+        ("_times", "k"),
+        ("a", "1"),
+    ];
+    let Ok(row) = Row::try_new(7, list_of(alloc, &names)?) else {
+        return Err(Fail::from("refused"));
+    };
+    let row = row.try_copy(alloc)?;
     assert_eq!(rt; shown(alloc, row.fields())?.as_str(), "_times=k a=1 ");
-    assert_eq!(rt; row.weight(), 9);
-    assert_eq!(rt; row.value("a"), "1");
-    assert_eq!(rt; row.value("_time"), "");
-    let list = list_of(
-        alloc,
-        &[("_time", "x"), ("_stream", "y"), ("_stream_id", "z")],
-    )?;
-    let (fault, list) = Row::try_new(7, list).err().ok_or("taken")?;
+    assert!(rt; row.weight() == 9 && row.value("a") == "1" && row.value("_time").is_empty());
+    Ok(())
+}
+
+#[test]
+fn a_refused_row_gives_its_fields_back(rt: HostRuntime) -> Result<(), Fail> {
+    let alloc = rt.alloc();
+    let names = [("_time", "x"), ("_stream", "y"), ("_stream_id", "z")];
+    let Err((fault, list)) = Row::try_new(7, list_of(alloc, &names)?) else {
+        return Err(Fail::from("taken"));
+    };
     assert_eq!(rt; fault, RowFault::Empty);
     assert_eq!(rt;
         shown(alloc, &list)?.as_str(),

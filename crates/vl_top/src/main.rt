@@ -15,7 +15,6 @@ mod tests;
 use report::say;
 use run::run;
 use status::Status;
-use std::alloc::AllocError;
 use std::env;
 use std::io::ErrorKind;
 use std::process::ExitCode;
@@ -26,18 +25,20 @@ fn main(rt: HostRuntime) -> ExitCode {
     let mut src = InputSource::new(rt.stdin());
     let mut out = OutputSink::new(rt.stdout());
     let mut clock = SystemClock::new(rt);
-    let status = match words_of(&rt) {
-        Ok(words) => match borrowed(&rt, &words) {
-            Ok(words) => run(
-                &rt,
-                words.as_slice(),
-                &mut src,
-                &mut out,
-                &mut err,
-                &mut clock,
-            ),
-            Err(_) => Status::NoMemory.number(),
-        },
+    let words = words_of(&rt);
+    let words = match &words {
+        Ok(words) => borrowed(&rt, words),
+        Err(status) => Err(*status),
+    };
+    let status = match words {
+        Ok(words) => run(
+            &rt,
+            words.as_slice(),
+            &mut src,
+            &mut out,
+            &mut err,
+            &mut clock,
+        ),
         Err(status) => {
             say(&mut err, status.text());
             status.number()
@@ -58,6 +59,10 @@ fn words_of(rt: &HostRuntime) -> Result<Vec<String>, Status> {
     }
 }
 
-fn borrowed<'a>(rt: &HostRuntime, words: &'a Vec<String>) -> Result<Vec<&'a str>, AllocError> {
-    words.iter().map(|word| word.as_str()).collect(rt.alloc())
+fn borrowed<'a>(rt: &HostRuntime, words: &'a Vec<String>) -> Result<Vec<&'a str>, Status> {
+    words
+        .iter()
+        .map(|word| word.as_str())
+        .collect(rt.alloc())
+        .map_err(|_| Status::NoMemory)
 }

@@ -53,12 +53,21 @@ fn line(rt: &HostRuntime, before: &str, after: &str) -> Result<String, AllocErro
     format!(in rt.alloc(); "{{{before}{stream},{time}{after}}}\n")
 }
 
-/// So many pieces, one behind another.
-fn repeated(rt: &HostRuntime, piece: &[u8], count: usize) -> Result<Vec<u8>, AllocError> {
-    let mut text = Vec::new(rt.alloc());
-    for _ in 0..count {
-        text.extend_from_slice(piece)?;
-    }
+/// So many bytes of one kind.
+fn filled(rt: &HostRuntime, byte: u8, count: usize) -> Result<Vec<u8>, AllocError> {
+    vec![in rt.alloc(); byte; count]
+}
+
+/// What stands before, between and behind, one after another.
+fn joined(
+    rt: &HostRuntime,
+    before: &[u8],
+    middle: &[u8],
+    after: &[u8],
+) -> Result<Vec<u8>, AllocError> {
+    let mut text = Vec::from_slice(rt.alloc(), before)?;
+    text.extend_from_slice(middle)?;
+    text.extend_from_slice(after)?;
     Ok(text)
 }
 
@@ -125,8 +134,8 @@ fn what_is_not_built_is_refused_before_anything_is_read(rt: HostRuntime) -> Resu
 
 #[test]
 fn a_line_that_is_no_row_is_named_and_nothing_else_is_lost(rt: HostRuntime) -> Result<(), Fail> {
-    let brackets = repeated(&rt, b"[", 100_000)?;
-    let braces = repeated(&rt, b"{", 100_000)?;
+    let brackets = filled(&rt, b'[', 100_000)?;
+    let braces = filled(&rt, b'{', 100_000)?;
     let refused = [
         b"{".as_slice(),
         b"}",
@@ -145,10 +154,9 @@ fn a_line_that_is_no_row_is_named_and_nothing_else_is_lost(rt: HostRuntime) -> R
         &braces,
     ];
     let good = line(&rt, "\"_msg\":\"good\",", "")?;
+    let twice = joined(&rt, good.as_bytes(), good.as_bytes(), b"")?;
     for (number, bad) in refused.iter().enumerate() {
-        let mut input = Vec::from_slice(rt.alloc(), b"{\"_msg\":\"good\"}\n")?;
-        input.extend_from_slice(bad)?;
-        input.extend_from_slice(b"\n{\"_msg\":\"good\"}")?;
+        let input = joined(&rt, b"{\"_msg\":\"good\"}\n", bad, b"\n{\"_msg\":\"good\"}")?;
         let got = run_over(&rt, &["pipe", "*"], &input, NONE)?;
         assert_eq!(rt; got.status, 0, "{number}");
         assert_eq!(rt;
@@ -156,11 +164,7 @@ fn a_line_that_is_no_row_is_named_and_nothing_else_is_lost(rt: HostRuntime) -> R
             b"line 2: NotBuilt\n".as_slice(),
             "{number}"
         );
-        assert_eq!(rt;
-            got.out.as_slice(),
-            repeated(&rt, good.as_bytes(), 2)?.as_slice(),
-            "{number}"
-        );
+        assert_eq!(rt; got.out.as_slice(), twice.as_slice(), "{number}");
     }
     Ok(())
 }
@@ -183,59 +187,53 @@ fn lines_are_cut_at_line_feeds_and_blank_ones_are_passed_over(rt: HostRuntime) -
     Ok(())
 }
 
+/// Whether an input of one line is read.
+fn is_read(rt: &HostRuntime, line: &[u8]) -> Result<bool, AllocError> {
+    let got = run_over(rt, &["pipe", "*"], line, NONE)?;
+    Ok(got.status == 0 && got.err.is_empty())
+}
+
 #[test]
-fn limits_are_met_to_the_byte(rt: HostRuntime) -> Result<(), Fail> {
-    // a name of 128 bytes, and of 129
-    for (len, want) in [(128, ""), (129, "line 1: NotBuilt\n")] {
-        let mut input = Vec::from_slice(rt.alloc(), b"{\"")?;
-        input.extend_from_slice(&repeated(&rt, b"n", len)?)?;
-        input.extend_from_slice(b"\":\"v\"}")?;
-        let got = run_over(&rt, &["pipe", "*"], &input, NONE)?;
-        assert!(rt;
-            got.status == 0 && got.err.as_slice() == want.as_bytes(),
-            "{len}"
-        );
+fn a_name_has_128_bytes_at_most(rt: HostRuntime) -> Result<(), Fail> {
+    for (len, want) in [(128, true), (129, false)] {
+        let line = joined(&rt, b"{\"", &filled(&rt, b'n', len)?, b"\":\"v\"}")?;
+        assert_eq!(rt; is_read(&rt, &line)?, want, "{len}");
     }
+    Ok(())
+}
 
-    // 1,000 members with names of their own, and 1,001
-    for (count, want) in [(1000, ""), (1001, "line 1: NotBuilt\n")] {
-        let mut text = format!(in rt.alloc(); "{{\"a\":\"x\"")?;
+#[test]
+fn a_row_has_1000_fields_at_most(rt: HostRuntime) -> Result<(), Fail> {
+    for (count, want) in [(1000, true), (1001, false)] {
+        let mut line = format!(in rt.alloc(); "{{\"a\":\"x\"")?;
         for number in 1..count {
-            write!(text, ",\"{number}\":\"x\"")?;
+            write!(line, ",\"{number}\":\"x\"")?;
         }
-        text.push_str("}")?;
-        let got = run_over(&rt, &["pipe", "*"], text.as_bytes(), NONE)?;
-        assert!(rt;
-            got.status == 0 && got.err.as_slice() == want.as_bytes(),
-            "{count}"
-        );
+        line.push_str("}")?;
+        assert_eq!(rt; is_read(&rt, line.as_bytes())?, want, "{count}");
     }
+    Ok(())
+}
 
-    // a row that weighs 262,144 bytes, and one byte more
-    for (len, want) in [(262_143, ""), (262_144, "line 1: NotBuilt\n")] {
-        let mut input = Vec::from_slice(rt.alloc(), b"{\"a\":\"")?;
-        input.extend_from_slice(&repeated(&rt, b"v", len)?)?;
-        input.extend_from_slice(b"\"}")?;
-        let got = run_over(&rt, &["pipe", "*"], &input, NONE)?;
-        assert!(rt;
-            got.status == 0 && got.err.as_slice() == want.as_bytes(),
-            "{len}"
-        );
+#[test]
+fn a_row_weighs_262144_bytes_at_most(rt: HostRuntime) -> Result<(), Fail> {
+    for (len, want) in [(262_143, true), (262_144, false)] {
+        let line = joined(&rt, b"{\"a\":\"", &filled(&rt, b'v', len)?, b"\"}")?;
+        assert_eq!(rt; is_read(&rt, &line)?, want, "{len}");
     }
+    Ok(())
+}
 
-    // a line of 1,048,576 bytes, and one byte more; one that is blank may be longer
+// A blank line may be longer.
+#[test]
+fn a_line_has_1048576_bytes_at_most(rt: HostRuntime) -> Result<(), Fail> {
     for (len, end, want) in [
-        (1_048_567, "{\"a\":\"b\"}", ""),
-        (1_048_568, "{\"a\":\"b\"}", "line 1: NotBuilt\n"),
-        (1_048_577, "", ""),
+        (1_048_567, "{\"a\":\"b\"}", true),
+        (1_048_568, "{\"a\":\"b\"}", false),
+        (1_048_577, "", true),
     ] {
-        let mut input = repeated(&rt, b" ", len)?;
-        input.extend_from_slice(end.as_bytes())?;
-        let got = run_over(&rt, &["pipe", "*"], &input, NONE)?;
-        assert!(rt;
-            got.status == 0 && got.err.as_slice() == want.as_bytes(),
-            "{len}"
-        );
+        let line = joined(&rt, &filled(&rt, b' ', len)?, end.as_bytes(), b"")?;
+        assert_eq!(rt; is_read(&rt, &line)?, want, "{len} {end}");
     }
     Ok(())
 }
