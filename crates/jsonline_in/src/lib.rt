@@ -10,6 +10,3 @@ mod stop;
 
 pub use fault::JsonFault;
 pub use read::fields_of;
-
-#[cfg(test)]
-mod tests;

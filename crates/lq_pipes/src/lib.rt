@@ -4,7 +4,5 @@
 mod members;
 pub mod plain;
 mod record;
-#[cfg(test)]
-mod tests;
 
 pub use record::write_row;

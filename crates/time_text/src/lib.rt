@@ -5,8 +5,6 @@ ghost use Rattle.std.specs.Prelude.{◌≡◌, ◌++◌, ◌≤ℤ◌, pos, unsi
 ghost use Rattle.log_model.specs.Moment.{moment_text};
 
 pub mod plain;
-#[cfg(test)]
-mod tests;
 
 use jiff::Timestamp;
 use jiff::fmt::temporal::DateTimePrinter;

@@ -16,6 +16,3 @@ pub use memory::{MemClock, MemSink, MemSource};
 pub use outside::{Clock, Failed, Sink, Source};
 pub use sure::{SureSink, SureSource};
 pub use transfer::{ReadFault, put_all, read_to_limit};
-
-#[cfg(test)]
-mod tests;

@@ -6,8 +6,6 @@ mod batch;
 mod field;
 mod inline;
 mod row;
-#[cfg(test)]
-mod tests;
 mod text;
 
 pub use batch::{Batch, BatchFault};

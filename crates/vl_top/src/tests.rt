@@ -1,4 +1,13 @@
-//! The program over objects in memory. The expected texts are worked by hand from the rules in `docs/`.
+//! The program over objects in memory. Below it, the crates that it stands on: a crate with tests is proved twice, so theirs are here.
+//!
+//! The expected texts are worked by hand from the rules in `docs/`.
+mod lines;
+mod moments;
+mod outside;
+mod records;
+mod rows;
+mod words;
+
 use crate::run::run;
 use std::alloc::AllocError;
 use std::test::Fail;

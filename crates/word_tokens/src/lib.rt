@@ -8,8 +8,6 @@ use unicode::properties::{GeneralCategory, GeneralCategoryGroup};
 
 pub mod plain;
 mod search;
-#[cfg(test)]
-mod tests;
 
 /// Whether the character is part of words: the underscore, a letter (Unicode's general categories L*)
 /// or a decimal digit (Nd).

@@ -1,4 +1,5 @@
-use super::*;
+//! Lines of JSON (`jsonline_in`).
+use jsonline_in::{JsonFault, fields_of, plain, run};
 use std::alloc::{AllocError, Global};
 use std::test::Fail;
 use vl_row::FieldList;

@@ -1,5 +1,6 @@
-use crate::{plain, write_moment};
+//! Printed moments (`time_text`).
 use std::test::Fail;
+use time_text::{plain, write_moment};
 use vl_row::Text;
 
 // As GNU `date --utc --date=@SECONDS.NANOSECONDS +%FT%T.%N` prints them, less the zeros at the end.

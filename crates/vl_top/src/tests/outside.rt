@@ -1,7 +1,11 @@
-use super::*;
+//! Sources, sinks and clocks (`vl_io`).
 use std::io;
 use std::io::{ErrorKind, Read, Write};
 use std::test::Fail;
+use vl_io::{
+    Clock, Failed, InputSource, MemClock, MemSink, MemSource, OutputSink, ReadFault, Sink, Source,
+    SureSink, SureSource, SystemClock, put_all, read_to_limit,
+};
 
 /// Takes at most three bytes a call, and fails at one of its calls.
 #[derive(Drop)]

@@ -1,4 +1,5 @@
-use crate::{plain, write_row};
+//! Printed records (`lq_pipes`).
+use lq_pipes::{plain, write_row};
 use std::alloc::Global;
 use std::process::Abort;
 use std::str;

@@ -1,6 +1,7 @@
-use super::{Batch, BatchFault, FieldList, Row, RowFault, Text};
+//! Texts, fields, rows and batches (`vl_row`).
 use std::alloc::{AllocError, Global};
 use std::test::Fail;
+use vl_row::{Batch, BatchFault, FieldList, Row, RowFault, Text};
 
 fn list_of(alloc: Global, fields: &[(&str, &str)]) -> Result<FieldList, AllocError> {
     let mut list = FieldList::with_room(alloc, fields.len())?;

@@ -1,6 +1,7 @@
+//! Words in texts (`word_tokens`).
 // Expected answers: the general categories that Python's unicodedata gives, and the runs of word
 // characters that follow from them.
-use super::{has_word, is_word, is_word_text, plain};
+use word_tokens::{has_word, is_word, is_word_text, plain};
 
 #[test]
 fn word_characters(rt: HostRuntime) {
