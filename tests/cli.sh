@@ -106,15 +106,51 @@ fi
 : > "$work/out"; wants "" ""
 judge "a closed pipe as output" "$(cat "$work/status")" 4
 
-# an input of 67,108,864 bytes, and one byte more, whose refused line is not named
-sixty_four='{"_msg":"error in a long line of some sixty four bytes in all"}'
-(echo x; yes "$sixty_four") | head -c 67108864 | "$program" pipe zebra > "$work/out" 2> "$work/err"
-status=$?; wants "" $'line 1: NotBuilt\nline 1048577: NotBuilt\n'
-judge "an input at the limit" $status 0
+# lines at the limits of a line and of a row, between two that are read: a line of 1,048,576 bytes, and one more; a name of
+# 128 bytes; 1,000 fields; a weight of 262,144 bytes
+many() { head -c "$2" /dev/zero | tr '\0' "$1"; }
+numbered() { seq -f ',"%g":"x"' 2 "$1" | tr -d '\n'; }
+limits() { # END OF THE NAME: what the sizes are raised by
+  printf '%s{"a":"b"}\n' "$(many ' ' $((1048567 + $1)))"
+  printf '{"%s":"v"}\n' "$(many n $((128 + $1)))"
+  printf '{"1":"x"%s}\n' "$(numbered $((1000 + $1)))"
+  printf '{"a":"%s"}\n' "$(many v $((262143 + $1)))"
+  printf '%s\n' "$(many ' ' 1048577)"
+}
 
-(echo x; yes "$sixty_four") | head -c 67108865 | "$program" pipe zebra > "$work/out" 2> "$work/err"
-status=$?; wants "" $'input long\n'
-judge "an input above the limit" $status 8
+limits 0 | "$program" pipe zebra > "$work/out" 2> "$work/err"
+status=$?; wants "" ""
+judge "lines at their limits" $status 0
+
+limits 1 | "$program" pipe zebra > "$work/out" 2> "$work/err"
+status=$?; wants "" $'line 1: NotBuilt\nline 2: NotBuilt\nline 3: NotBuilt\nline 4: NotBuilt\n'
+judge "lines above their limits" $status 0
+
+# 2,500 lines are three groups
+seq -f '{"_msg":"error","n":"%g"}' 2500 | "$program" pipe error > "$work/out" 2> "$work/err"
+status=$?
+sed 's/.*"n":"\([0-9]*\)"}/\1/' "$work/out" > "$work/numbers"; mv "$work/numbers" "$work/out"
+seq 2500 > "$work/wanted_out"; : > "$work/wanted_err"
+judge "2,500 lines in their order" $status 0
+
+# a refused line of each group, and the third group is too heavy for a batch
+{ echo x; seq -f '{"n":"%g"}' 999; seq -f '{"n":"%g"}' 999; echo y; echo z
+  value=$(many v 262143); for _ in $(seq 257); do printf '{"a":"%s"}\n' "$value"; done; } > "$work/heavy"
+"$program" pipe error < "$work/heavy" > "$work/out" 2> "$work/err"
+status=$?; wants "" $'line 1: NotBuilt\nline 2000: NotBuilt\nlarge 67371008\n'
+judge "a group above the weight of a batch" $status 8
+
+# 4,096 groups with a row, and groups without any between them
+group() { echo '{"a":"b"}'; yes '' | head -n 999; }
+one_group=$(group; echo .); one_group=${one_group%.}
+{ yes '' | head -n 1000; for _ in $(seq 4096); do printf '%s' "$one_group"; done; yes '' | head -n 3000; } > "$work/many"
+"$program" pipe error < "$work/many" > "$work/out" 2> "$work/err"
+status=$?; wants "" ""
+judge "4,096 batches" $status 0
+
+{ cat "$work/many"; echo x; echo '{"a":"b"}'; } | "$program" pipe error > "$work/out" 2> "$work/err"
+status=$?; wants "" $'full 4096\n'
+judge "4,097 batches" $status 8
 
 echo "$passed passed, $failed failed"
 [ "$failed" = 0 ]

@@ -1,5 +1,5 @@
 -- Fields: names with values (VictoriaLogs, "Key concepts", data model).
-use Rattle.std.specs.Prelude.{ℕ, Bool, not, ◌||◌, ◌&&◌, ◌+◌, List, [], ◌∷◌, length, nat_lt, sum_by, bytes_eq, codes, unwrap_or, IsTrue, fold}
+use Rattle.std.specs.Prelude.{ℕ, Bool, not, ◌||◌, ◌+◌, List, [], ◌∷◌, length, nat_lt, sum_by, bytes_eq, codes, unwrap_or, IsTrue, fold}
 use Rattle.std.specs.List.{list_all}
 use Rattle.std.specs.List.Sorted.{IsStrictlySortedBy}
 use Rattle.std.specs.Ordering.{nat_cmp}

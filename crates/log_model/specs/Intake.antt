@@ -1,8 +1,8 @@
 -- What an input gives: its rows, and the lines that are refused (VictoriaLogs, "Data ingestion").
-use Rattle.std.specs.Prelude.{◌≡◌, ℕ, suc, ◌≤◌, List, [], ◌∷◌, ◌++◌, length, codes, decimal, IsTrue, IsFalse}
+use Rattle.std.specs.Prelude.{◌≡◌, ◌⊎◌, ℕ, suc, ◌<◌, ◌≤◌, List, [], ◌∷◌, ◌++◌, length, flat_map, codes, decimal, IsTrue, IsFalse}
 use Rattle.std.specs.List.{AllZip}
 use Rattle.log_model.specs.Field.{Field, set_all}
-use Rattle.log_model.specs.Row.{Row, IsRow}
+use Rattle.log_model.specs.Row.{Row, IsRow, Batch}
 use Rattle.log_model.specs.Line.{IsLine, is_blank, lines_of}
 
 -- The line says this row. Of members with one name the later counts, and an empty value is a missing field.
@@ -44,3 +44,29 @@ refusals_from number [] = []
 refusals_from number (passed_over ∷ outcomes) = refusals_from (suc number) outcomes
 refusals_from number (read row ∷ outcomes) = refusals_from (suc number) outcomes
 refusals_from number (refused ∷ outcomes) = refusal_text number ++ refusals_from (suc number) outcomes
+
+-- Lines go in groups of a thousand. A group with fewer is the last, and after it the input is over.
+abbrev pub AreGroups : List (List Outcome) → Type 0 → Type 0
+AreGroups [] over = Unit {0}
+AreGroups (group ∷ groups) over =
+    (0 < length group) × (length group ≤ 1000) × ((length group ≡ 1000) ⊎ (groups ≡ [] × over)) × AreGroups groups over
+
+abbrev pub outcomes_in : List (List Outcome) → List Outcome
+outcomes_in groups = flat_map (λ group. group) groups
+
+-- rows that came together are one batch, if there are any
+abbrev pub batch_of : List Row → List Batch
+batch_of [] = []
+batch_of (row ∷ rows) = (row ∷ rows) ∷ []
+
+-- each group with a row makes one batch
+abbrev pub batches_of : List (List Outcome) → List Batch
+batches_of groups = flat_map (λ group. batch_of (rows_read group)) groups
+
+-- The first lines of the input have these outcomes, in groups. `ended` says that no more input comes.
+pub record BeginsWith (now : ℕ) (input : List ℕ) (ended : Type 0) (groups : List (List Outcome)) : Type 0 where
+  pub lines : List (List ℕ)
+  pub later : List (List ℕ)
+  pub cut : lines_of input ≡ lines ++ later
+  pub given : AllZip (Gives now) lines (outcomes_in groups)
+  pub grouped : AreGroups groups (later ≡ [] × ended)

@@ -1,5 +1,7 @@
 pub mod Field
 pub mod Row
+pub mod History
+pub mod Core
 pub mod Moment
 pub mod Json
 pub mod Line

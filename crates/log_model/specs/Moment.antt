@@ -1,5 +1,5 @@
 -- Moments as texts (RFC 3339, section 5.6: `date-time` in UTC), over the Gregorian calendar (RFC 3339, appendix C).
-use Rattle.std.specs.Prelude.{ℕ, zero, suc, ◌+◌, ◌-◌, ◌*◌, ◌/◌, ◌%◌, ◌^◌, ◌<◌, Bool, not, ◌&&◌, ◌||◌, ◌==◌, nat_lt, if◌then◌else◌, List, [], ◌∷◌, ◌++◌}
+use Rattle.std.specs.Prelude.{ℕ, zero, suc, ◌+◌, ◌-◌, ◌/◌, ◌%◌, Bool, not, ◌&&◌, ◌||◌, ◌==◌, nat_lt, if◌then◌else◌, List, [], ◌∷◌, ◌++◌}
 
 -- every fourth year, but of the centuries only every fourth
 abbrev pub is_leap_year : ℕ → Bool

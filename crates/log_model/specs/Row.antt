@@ -1,5 +1,5 @@
--- Rows, batches and histories (VictoriaLogs, "Key concepts": a log entry). The limits are this product's own.
-use Rattle.std.specs.Prelude.{ℕ, ◌^◌, ◌<◌, ◌≤◌, not, List, [], ◌∷◌, ◌++◌, length, nat_le, sum_by, bytes_eq, codes, IsTrue, if◌then◌else◌, flat_map}
+-- Rows and batches (VictoriaLogs, "Key concepts": a log entry). The limits are this product's own.
+use Rattle.std.specs.Prelude.{ℕ, ◌^◌, ◌<◌, ◌≤◌, not, List, length, nat_le, sum_by, bytes_eq, codes, IsTrue, if◌then◌else◌}
 use Rattle.std.specs.List.{list_all, AllByRecursion}
 use Rattle.log_model.specs.Field.{Field, IsFieldList, field_value, is_reserved, set_field, weight}
 use Rattle.log_model.specs.Moment.{moment_text}
@@ -22,17 +22,17 @@ pub record IsRow (row : Row) : Type 0 where
 abbrev pub Batch : Type 0
 Batch = List Row
 
+-- how much it counts against the limit of a batch
+abbrev pub batch_weight : Batch → ℕ
+batch_weight rows = sum_by (λ row. weight row.fields) rows
+
+abbrev pub batch_limit : ℕ
+batch_limit = 67_108_864
+
 pub record IsBatch (rows : Batch) : Type 0 where
   pub some : 0 < length rows
   pub each : AllByRecursion IsRow rows
-  pub light : sum_by (λ row. weight row.fields) rows ≤ 67_108_864
-
--- the accepted batches, oldest first
-abbrev pub History : Type 0
-History = List Batch
-
-abbrev pub rows_of : History → List Row
-rows_of history = flat_map (λ batch. batch) history
+  pub light : batch_weight rows ≤ batch_limit
 
 -- The stream of a row without labels prints as this text, and its id is the first half of that text's SHA-256.
 abbrev pub stream_text : List ℕ

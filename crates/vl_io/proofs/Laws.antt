@@ -38,6 +38,11 @@ Consumes-trans (Some x) (Some y) (Some z) bs cs p q = p ∙ ap (λ l. bs ++ l) q
 pub Consumes-piece : (a b c : Option (List ℕ)) (before now : List ℕ) → Consumes a b before → AddsPiece b c before now → Consumes a c now
 Consumes-piece a b c before now p q = rw q.2 (Consumes-trans a b c _ _ p q.1)
 
+-- one piece after another
+pub AddsPiece-trans : (a b c : Option (List ℕ)) (first before now : List ℕ) → AddsPiece a b first before → AddsPiece b c before now → AddsPiece a c first now
+AddsPiece-trans a b c first before now p q =
+    (p.0 ++ q.0, Consumes-trans a b c _ _ p.1 q.1, q.2 ∙ ap (λ l. l ++ q.0) p.2 ∙ append_assoc first p.0 q.0)
+
 -- a count that rose has risen for good
 pub Rose-later : (a b c : ℕ) → Rose a b → b ≤ c → Rose a c
 Rose-later a b c p q = omega arith

@@ -1,3 +1,4 @@
 pub mod Laws
+mod Feeds
 mod Pieces
 mod Telling

@@ -4,3 +4,4 @@ pub mod Moments
 pub mod Memory
 pub mod Adapters
 pub mod ReadFault
+pub mod Lines

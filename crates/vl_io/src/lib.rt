@@ -6,13 +6,15 @@
 #![tactic(auto)]
 
 mod adapters;
+mod lines;
 mod memory;
 mod outside;
 mod sure;
 mod transfer;
 
 pub use adapters::{InputSource, OutputSink, SystemClock};
+pub use lines::GroupReader;
 pub use memory::{MemClock, MemSink, MemSource};
 pub use outside::{Clock, Failed, Sink, Source};
 pub use sure::{SureSink, SureSource};
-pub use transfer::{ReadFault, put_all, read_to_limit};
+pub use transfer::{ReadFault, put_all};

@@ -75,37 +75,15 @@ impl From<AllocError> for ReadFault {
 /// they stay in the processor's cache.
 const PIECE: usize = 64 * 1024;
 
-/// Reads the source to its end, or until more than `limit` bytes have come.
-pub fn read_to_limit<S: Source>(
-    alloc: Global,
-    source: &mut S,
-    limit: usize,
-) -> Result<Vec<u8>, ReadFault>
-    ensures ok { IfOk result (λ bytes. Consumes (S.left source.old) (S.left source.new) bytes.items
-        × IsAtEnd (S.left source.new) × (vec_len bytes ≤ limit)) }
-    ensures long { result ≡ Err ReadFault.Long → (bytes : List ℕ)
-        × Consumes (S.left source.old) (S.left source.new) bytes × (limit < length bytes) }
-    ensures failed { result ≡ Err ReadFault.Failed
-        → Rose (S.faults source.old) (S.faults source.new) }
-    ensures faults { S.faults source.old ≤ S.faults source.new }
-
-    // Whatever the answer, a front of what was left was taken.
-    ensures taken { (bytes : List ℕ) × Consumes (S.left source.old) (S.left source.new) bytes }
-{
-    let mut buffer = piece_buffer(alloc)?;
-    let mut bytes = Vec::new(alloc);
-    while read_piece(source, buffer.as_mut_slice(), &mut bytes, limit)? {}
-    Ok(bytes)
-}
-
-fn piece_buffer(alloc: Global) -> Result<Vec<u8>, AllocError>
+/// Room for a piece.
+pub(crate) fn piece_buffer(alloc: Global) -> Result<Vec<u8>, AllocError>
     ensures { IfOk result (λ buffer. 0 < vec_len buffer) }
 {
     Ok(vec![in alloc; 0; PIECE]?)
 }
 
 /// Reads one piece, and says whether there may be more.
-fn read_piece<S: Source>(
+pub(crate) fn read_piece<S: Source>(
     source: &mut S,
     buffer: &mut [u8],
     bytes: &mut Vec<u8>,
@@ -115,9 +93,9 @@ fn read_piece<S: Source>(
     requires within { vec_len bytes.old ≤ limit }
     ensures adds { OnOk result (AddsPiece (S.left source.old) (S.left source.new)
         bytes.old.items bytes.new.items) }
-    ensures limited { OnOk result (vec_len bytes.new ≤ limit) }
+    ensures limited { vec_len bytes.new ≤ limit }
     ensures more { result ≡ Ok true → vec_len bytes.old < vec_len bytes.new }
-    ensures end { result ≡ Ok false → IsAtEnd (S.left source.new) }
+    ensures end { result ≡ Ok false → IsAtEnd (S.left source.new) × (bytes.new.items ≡ bytes.old.items) }
     ensures long { result ≡ Err ReadFault.Long → (piece : List ℕ)
         × Consumes (S.left source.old) (S.left source.new) piece
         × (limit < vec_len bytes.old + length piece) }

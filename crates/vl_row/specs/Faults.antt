@@ -1,8 +1,8 @@
 -- Why a row or a batch is refused.
-use Rattle.std.specs.Prelude.{ℕ, ℤ, Bool, ◌-◌, ◌^◌, min, not, List, length, nat_lt, int_lt, pos, filter, sum_by, Option, Some, None, if◌then◌else◌}
+use Rattle.std.specs.Prelude.{ℕ, ℤ, Bool, ◌-◌, ◌^◌, min, not, List, length, nat_lt, int_lt, pos, filter, Option, Some, None, if◌then◌else◌}
 use Rattle.std.specs.List.{list_any}
 use Rattle.log_model.specs.Field.{Field, is_reserved, weight}
-use Rattle.log_model.specs.Row.{Row}
+use Rattle.log_model.specs.Row.{Row, batch_weight}
 use Rattle.vl_row.specs.declared.row.RowFault.{RowFault}
 use Rattle.vl_row.specs.declared.row.RowFault.TheVariants.{TimeRange, NameLong, ManyFields, RowLarge, Empty}
 use Rattle.vl_row.specs.declared.batch.BatchFault.{BatchFault}
@@ -31,10 +31,6 @@ fields_fault fields = size_fault (list_any is_long_named fields) (length fields)
 -- what is wrong with a row of this time and these fields
 abbrev pub row_fault : ℤ → List Field → Option RowFault
 row_fault time fields = if int_lt time (pos 0) then Some TimeRange else fields_fault (stored fields)
-
--- the weights of the rows, together
-abbrev pub batch_weight : List Row → ℕ
-batch_weight rows = sum_by (λ row. weight row.fields) rows
 
 -- what is wrong with a batch of these rows
 abbrev pub batch_fault : List Row → Option BatchFault

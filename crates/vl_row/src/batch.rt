@@ -1,7 +1,7 @@
 ghost use Rattle.std.specs.Prelude.{◌≡◌, ◌-◌, ◌^◌, min, IfOk, IfErr, Some, None};
 ghost use Rattle.std.specs.List.{AllByRecursion};
-ghost use Rattle.log_model.specs.Row.{IsBatch, IsRow};
-ghost use Rattle.vl_row.specs.Faults.{batch_fault, batch_weight};
+ghost use Rattle.log_model.specs.Row.{IsBatch, IsRow, batch_weight};
+ghost use Rattle.vl_row.specs.Faults.{batch_fault};
 
 use crate::row::Row;
 use std::marker::Model;
@@ -25,16 +25,18 @@ pub enum BatchFault {
 #[derive(Drop)]
 pub struct Batch {
     rows: Vec<Row>,
+    weight: u64,
 }
 
 impl Model for Batch {
-    ghost use Rattle.log_model.specs.Row.{Batch as Rows, IsBatch};
+    ghost use Rattle.std.specs.Prelude.{◌≡◌};
+    ghost use Rattle.log_model.specs.Row.{Batch as Rows, IsBatch, batch_weight};
 
     ghost Value = { Rows };
 
     ghost view = { λ b. b.rows.items };
 
-    ghost invariant = { λ b. IsBatch b.rows.items };
+    ghost invariant = { λ b. IsBatch b.rows.items × (b.weight ≡ batch_weight b.rows.items) };
 }
 
 impl Batch {
@@ -51,7 +53,7 @@ impl Batch {
         if weight > MAX_WEIGHT {
             return Err((BatchFault::Large { weight }, rows));
         }
-        Ok(Batch { rows })
+        Ok(Batch { rows, weight })
     }
 
     /// The rows, in the order in which they came.
@@ -60,6 +62,21 @@ impl Batch {
         ensures rules { IsBatch self.now }
     {
         self.rows.as_slice()
+    }
+
+    /// How much the batch counts against its limit: the weights of its rows together.
+    pub fn weight(&self) -> u64
+        ensures { result ≡ batch_weight self.now }
+    {
+        self.weight
+    }
+
+    /// The rows, without the batch.
+    pub fn into_rows(self) -> Vec<Row>
+        ensures value { result.items ≡ self }
+        ensures rules { IsBatch self }
+    {
+        self.rows
     }
 }
 

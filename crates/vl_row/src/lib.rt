@@ -4,11 +4,15 @@
 
 mod batch;
 mod field;
+mod held;
 mod inline;
 mod row;
+mod row_list;
 mod text;
 
 pub use batch::{Batch, BatchFault};
 pub use field::{Field, FieldList};
+pub use held::Held;
 pub use row::{Row, RowFault};
+pub use row_list::RowList;
 pub use text::Text;

@@ -1,5 +1,10 @@
+pub mod AnswerLemmas
+pub mod GroupLemmas
+pub mod HeldLemmas
 pub mod IntakeLemmas
 pub mod LineLemmas
+pub mod LoadLemmas
+pub mod PipeLemmas
 pub mod ReportLemmas
 pub mod TakingLemmas
 pub mod WeightLemmas

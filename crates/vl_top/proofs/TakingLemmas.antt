@@ -1,12 +1,10 @@
 -- Lines that are taken in one after another.
-use Rattle.std.proofs.Common.{◌≡◌, ℕ, suc, ◌+◌, List, [], ◌∷◌, ◌++◌, refl, sym, ap, subst, ◌∙◌, add-one, append_assoc, string_bytes, arith}
+use Rattle.std.proofs.Common.{◌≡◌, ℕ, suc, ◌+◌, List, [], ◌∷◌, ◌++◌, refl, sym, ap, subst, ◌∙◌, add-one, append_assoc, string_bytes}
 use Rattle.std.specs.List.{AllZip}
 use Rattle.log_model.specs.Line.{lines_of}
 use Rattle.log_model.specs.Intake.{Outcome, passed_over, read, refused, Gives, IsIntake, rows_read, refusals_from, refusal_text}
 use Rattle.vl_top.specs.declared.intake.Intake.{Intake}
-use Rattle.vl_row.specs.Faults.{batch_weight}
 use Rattle.vl_top.specs.Intake.{IsTaking, IsTaken}
-use Rattle.vl_top.proofs.WeightLemmas.{rows_weight}
 
 rows_read-cons : (o : Outcome) (os : List Outcome) → rows_read (o ∷ os) ≡ rows_read (o ∷ []) ++ rows_read os
 rows_read-cons passed_over os = refl
@@ -22,17 +20,17 @@ refusals_from-cons number passed_over os = refl
 refusals_from-cons number (read row) os = refl
 refusals_from-cons number refused os = ap (λ text. text ++ refusals_from (suc number) os) (sym (append_nil (refusal_text number)))
 
-pub taking_none : (now : ℕ) (input : List ℕ) (intake : Intake) → intake.rows.items ≡ [] → string_bytes intake.refusals ≡ [] → IsTaking now input input 0 intake
-taking_none now input intake rows refusals later all =
+pub taking_none : (now : ℕ) (body : List ℕ) (before : ℕ) (intake : Intake) → intake.rows.items ≡ [] → string_bytes intake.refusals ≡ [] → IsTaking now body before body before intake
+taking_none now body before intake rows refusals later all =
     (later, all, rw rows refl, rw refusals refl)
 
 -- the next line gives this outcome
-pub taking_more : (now : ℕ) (input rest line after : List ℕ) (number : ℕ) (old new : Intake) (o : Outcome)
+pub taking_more : (now : ℕ) (body : List ℕ) (before : ℕ) (rest line after : List ℕ) (number : ℕ) (old new : Intake) (o : Outcome)
     → lines_of rest ≡ line ∷ lines_of after → Gives now line o
     → new.rows.items ≡ old.rows.items ++ rows_read (o ∷ [])
     → string_bytes new.refusals ≡ string_bytes old.refusals ++ refusals_from (number + 1) (o ∷ [])
-    → IsTaking now input rest number old → IsTaking now input after (number + 1) new
-taking_more now input rest line after number old new o cut gives rows refusals taking later all =
+    → IsTaking now body before rest number old → IsTaking now body before after (number + 1) new
+taking_more now body before rest line after number old new o cut gives rows refusals taking later all =
     let zip : IsIntake now rest (o ∷ later) = subst (λ ls. AllZip (Gives now) ls (o ∷ later)) (sym cut) (gives, all) in
     let h = taking (o ∷ later) zip in (
       h.0,
@@ -42,14 +40,14 @@ taking_more now input rest line after number old new o cut gives rows refusals t
           ∙ ap (λ r. r ++ refusals_from (suc (number + 1)) later) (sym refusals) ∙ ap (λ n. string_bytes new.refusals ++ refusals_from n later) (sym (add-one (number + 1))),
     )
 
-pub taken : (now : ℕ) (input rest : List ℕ) (number : ℕ) (intake : Intake) → lines_of rest ≡ [] → IsTaking now input rest number intake → IsTaken now input intake
-taken now input rest number intake none taking =
-    let h = taking [] (subst (λ ls. AllZip (Gives now) ls []) (sym none) tt) in
-    let rows = sym (h.2 ∙ append_nil intake.rows.items) in
-    record {
-      outcomes = h.0;
-      is_intake = h.1;
-      rows = rows;
-      refusals = sym (h.3 ∙ append_nil _);
-      light = omega (arith, ap batch_weight rows, rows_weight now input h.0 h.1);
-    }
+pub taken : (now : ℕ) (body : List ℕ) (before : ℕ) (rest : List ℕ) (number : ℕ) (intake : Intake) → lines_of rest ≡ [] → IsTaking now body before rest number intake
+    → (outcomes : List Outcome) × IsTaken now body before outcomes intake
+taken now body before rest number intake none taking =
+    let h = taking [] (subst (λ ls. AllZip (Gives now) ls []) (sym none) tt) in (
+      h.0,
+      record {
+        given = h.1;
+        rows = sym (h.2 ∙ append_nil intake.rows.items);
+        refusals = sym (h.3 ∙ append_nil _);
+      },
+    )

@@ -1,4 +1,6 @@
 pub mod Intake
+pub mod Load
 pub mod Query
 pub mod Run
 pub mod Status
+pub mod Stop

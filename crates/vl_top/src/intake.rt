@@ -1,5 +1,5 @@
-ghost use Rattle.std.specs.Prelude.{◌≡◌, ◌≤ℤ◌, ◌++◌, [], ◌∷◌, ℕ, pos, unsigned_abs, string_bytes, IfOk, OnOk};
-ghost use Rattle.log_model.specs.Intake.{Gives, rows_read, refusals_from, refusal_text};
+ghost use Rattle.std.specs.Prelude.{◌≡◌, ◌≤ℤ◌, ◌++◌, [], ◌∷◌, ◌+◌, ◌^◌, ◌<◌, List, length, pos, unsigned_abs, string_bytes, IfOk, OnOk};
+ghost use Rattle.log_model.specs.Intake.{Gives, Outcome as Fate, rows_read, refusals_from, refusal_text};
 ghost use Rattle.vl_top.specs.Intake.{outcome_of, IsMade, IsTaken};
 
 use crate::lines::{is_blank, next_line};
@@ -80,18 +80,24 @@ fn push_refusal(text: &mut String, number: u64) -> Result<(), AllocError>
     write!(text, "line {number}: NotBuilt\n")
 }
 
-/// Reads each line of the input at the moment `now`.
-pub fn take_in(alloc: Global, now: i64, input: &[u8]) -> Result<Intake, AllocError>
-    requires { pos 0 ≤ℤ now }
-    ensures { IfOk result (IsTaken (unsigned_abs now) input.now) }
+/// Reads each line of the body at the moment `now`, where so many lines came before it.
+pub fn take_in(
+    alloc: Global,
+    now: i64,
+    body: &[u8],
+    lines_before: u64,
+) -> Result<Intake, AllocError>
+    requires moment { pos 0 ≤ℤ now }
+    requires numbers { lines_before + length body.now < 2 ^ 64 }
+    ensures { IfOk result (λ intake. (outcomes : List Fate) × IsTaken (unsigned_abs now) body.now lines_before outcomes intake) }
 {
     let mut intake = Intake {
         rows: Vec::new(alloc),
         refusals: String::new(alloc),
     };
-    let mut number = 0;
+    let mut number = lines_before;
     let mut room = 0;
-    let mut rest = input;
+    let mut rest = body;
     while let Some((line, after)) = next_line(rest) {
         number += 1;
         let outcome = read_line(alloc, now, line, room)?;

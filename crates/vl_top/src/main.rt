@@ -5,14 +5,16 @@ mod answer;
 mod command;
 mod intake;
 mod lines;
+mod load;
 mod query;
 mod report;
 mod run;
 mod status;
+mod stop;
 #[cfg(test)]
 mod tests;
 
-use report::say;
+use report::{report_no_memory, report_usage};
 use run::run;
 use status::Status;
 use std::env;
@@ -40,7 +42,10 @@ fn main(rt: HostRuntime) -> ExitCode {
             &mut clock,
         ),
         Err(status) => {
-            say(&mut err, status.text());
+            let status = match status {
+                Status::Usage => report_usage(&mut err),
+                _ => report_no_memory(&mut err),
+            };
             status.number()
         }
     };

@@ -1,4 +1,5 @@
 //! Printed moments (`time_text`).
+use std::alloc::{AllocError, Global};
 use std::test::Fail;
 use time_text::{plain, write_moment};
 use vl_row::Text;
@@ -17,16 +18,25 @@ const MOMENTS: [(i64, &str); 10] = [
     (9_223_372_036_854_775_807, "2262-04-11T23:47:16.854775807Z"),
 ];
 
+/// Whether both bodies append the text of this moment.
+fn writes(alloc: Global, time: i64, written: &str) -> Result<bool, AllocError> {
+    if time < 0 {
+        return Ok(false);
+    }
+    let mut text = Text::new();
+    write_moment(alloc, time, &mut text)?;
+    text.push_str(alloc, " ")?;
+    plain::write_moment(alloc, time, &mut text)?;
+    let Some((first, second)) = text.as_str().split_once(' ') else {
+        return Ok(false);
+    };
+    Ok(first == written && second == written)
+}
+
 #[test]
 fn writes_moments(rt: HostRuntime) -> Result<(), Fail> {
     for (time, written) in MOMENTS {
-        assert!(rt; time >= 0);
-        let mut text = Text::try_of(rt.alloc(), "at ")?;
-        write_moment(rt.alloc(), time, &mut text)?;
-        text.push_str(rt.alloc(), ", plainly ")?;
-        plain::write_moment(rt.alloc(), time, &mut text)?;
-        let wanted = format!(in rt.alloc(); "at {written}, plainly {written}")?;
-        assert_eq!(rt; text.as_str(), wanted.as_str());
+        assert!(rt; writes(rt.alloc(), time, written)?, "{written}");
     }
     Ok(())
 }

@@ -1,10 +1,11 @@
 //! Sources, sinks and clocks (`vl_io`).
+use std::alloc::{AllocError, Global};
 use std::io;
 use std::io::{ErrorKind, Read, Write};
 use std::test::Fail;
 use vl_io::{
-    Clock, Failed, InputSource, MemClock, MemSink, MemSource, OutputSink, ReadFault, Sink, Source,
-    SureSink, SureSource, SystemClock, put_all, read_to_limit,
+    Clock, Failed, GroupReader, InputSource, MemClock, MemSink, MemSource, OutputSink, ReadFault,
+    Sink, Source, SureSink, SureSource, SystemClock, put_all,
 };
 
 /// Takes at most three bytes a call, and fails at one of its calls.
@@ -55,17 +56,51 @@ fn given<'a, S: Source>(source: &mut S, buf: &'a mut [u8]) -> &'a [u8] {
     }
 }
 
+/// Whether a source gives these pieces in turn, into so much room.
+fn gives<S: Source>(source: &mut S, room: usize, pieces: &[&str]) -> bool {
+    let mut buffer = [0; 4];
+    let room = room.min(4);
+    for piece in pieces {
+        if given(source, &mut buffer[..room]) != piece.as_bytes() {
+            return false;
+        }
+    }
+    true
+}
+
 #[test]
 fn a_source_gives_its_bytes_in_pieces(rt: HostRuntime) -> Result<(), Fail> {
     let mut source = MemSource::of(rt.alloc(), b"first line", &[3, 9, 1], &[1])?;
-    for want in ["fir", "failed", "s", "t li", "ne", "", ""] {
-        assert_eq!(rt; given(&mut source, &mut [0; 4]), want.as_bytes());
-    }
+    let pieces = ["fir", "failed", "s", "t li", "ne", "", ""];
+    assert!(rt; gives(&mut source, 4, &pieces));
     let mut source = SureSource::of(rt.alloc(), b"line", &[1])?;
-    for want in ["l", "in", "e", ""] {
-        assert_eq!(rt; given(&mut source, &mut [0; 2]), want.as_bytes());
-    }
+    assert!(rt; gives(&mut source, 2, &["l", "in", "e", ""]));
     Ok(())
+}
+
+/// Whether a writer that fails after so many calls is given the piece so, and this front of it is written.
+fn writes(
+    alloc: Global,
+    calls_left: u32,
+    want: Result<(), Failed>,
+    front: &str,
+) -> Result<bool, AllocError> {
+    let mut taken = Vec::new(alloc);
+    let mut sink = OutputSink::new(ShortWriter {
+        taken: &mut taken,
+        calls_left,
+    });
+    let answer = put_all(&mut sink, b"stored");
+    drop(sink);
+    Ok(answer == want && taken.as_slice() == front.as_bytes())
+}
+
+/// Whether a sink in memory fails at its second call alone, and keeps what it was given at the others.
+fn keeps(alloc: Global) -> Result<bool, AllocError> {
+    let mut sink = MemSink::of(alloc, &[1])?;
+    let first = put_all(&mut sink, b"one,").is_ok() && put_all(&mut sink, b"").is_ok();
+    let second = put_all(&mut sink, b"two,").is_err() && put_all(&mut sink, b"three").is_ok();
+    Ok(first && second && sink.bytes() == b"one,three".as_slice())
 }
 
 #[test]
@@ -75,22 +110,9 @@ fn a_piece_is_written_whole_or_its_front(rt: HostRuntime) -> Result<(), Fail> {
         (2, Ok(()), "stored"),
         (1, Err(Failed), "sto"),
     ] {
-        let mut taken = Vec::new(rt.alloc());
-        let mut sink = OutputSink::new(ShortWriter {
-            taken: &mut taken,
-            calls_left: calls,
-        });
-        assert_eq!(rt; put_all(&mut sink, b"stored"), want);
-        drop(sink);
-        assert_eq!(rt; taken.as_slice(), front.as_bytes());
+        assert!(rt; writes(rt.alloc(), calls, want, front)?, "{calls} calls");
     }
-    let mut sink = MemSink::of(rt.alloc(), &[1])?;
-    assert_eq!(rt; put_all(&mut sink, b"one,"), Ok(()));
-    assert_eq!(rt; put_all(&mut sink, b""), Ok(()));
-    assert_eq!(rt; put_all(&mut sink, b"two,"), Err(Failed));
-    assert_eq!(rt; put_all(&mut sink, b"three"), Ok(()));
-    assert_eq!(rt; sink.bytes(), b"one,three".as_slice());
-    assert_eq!(rt; put_all(&mut SureSink::new(), b"piece"), Ok(()));
+    assert!(rt; keeps(rt.alloc())? && put_all(&mut SureSink::new(), b"piece").is_ok());
     Ok(())
 }
 
@@ -99,7 +121,7 @@ fn a_clock_gives_its_moments_and_then_the_last(rt: HostRuntime) -> Result<(), Fa
     let mut clock = MemClock::of(rt.alloc(), &[1_700_000_000_000_000_000, 5])?;
     for want in [1_700_000_000_000_000_000, 5, 5] {
         clock.pause();
-        assert_eq!(rt; clock.now(), want);
+        assert!(rt; clock.now() == want);
     }
     // The system's clock stands after the year 2020, in nanoseconds.
     let mut clock = SystemClock::new(&rt);
@@ -108,35 +130,50 @@ fn a_clock_gives_its_moments_and_then_the_last(rt: HostRuntime) -> Result<(), Fa
     Ok(())
 }
 
-#[test]
-fn input_is_read_up_to_the_limit(rt: HostRuntime) -> Result<(), Fail> {
-    for (limit, want) in [
-        (6, None),
-        (5, None),
-        (4, Some(ReadFault::Long)),
-        (0, Some(ReadFault::Long)),
-    ] {
-        let mut source = MemSource::of(rt.alloc(), b"lines", &[2, 2], &[])?;
-        let read = read_to_limit(rt.alloc(), &mut source, limit);
-        assert_eq!(rt; read.as_ref().err().copied(), want, "at {limit}");
-        if let Ok(bytes) = read {
-            assert_eq!(rt; bytes.as_slice(), b"lines".as_slice());
+/// Whether a source is read in these groups of two lines, up to so many bytes, and then so ended.
+fn reads(
+    alloc: Global,
+    source: &mut MemSource,
+    limit: usize,
+    groups: &[&str],
+    end: Result<bool, ReadFault>,
+) -> Result<bool, ReadFault> {
+    let mut reader = GroupReader::of(alloc, 2, limit)?;
+    for group in groups {
+        if !reader.advance(source)? || reader.group() != group.as_bytes() {
+            return Ok(false);
         }
     }
-    let long = vec![in rt.alloc(); 7; 200_000]?;
-    let mut source = InputSource::new(long.as_slice());
-    let bytes = read_to_limit(rt.alloc(), &mut source, 200_000)?;
-    assert!(rt; bytes == long);
+    Ok(reader.advance(source) == end)
+}
+
+#[test]
+fn input_is_read_in_groups_up_to_the_limit(rt: HostRuntime) -> Result<(), Fail> {
+    for (limit, groups, end) in [
+        (9, ["a\nb\n", "\ncd\n", "e"].as_slice(), Ok(false)),
+        (8, &["a\nb\n", "\ncd\n"], Err(ReadFault::Long)),
+        (0, &[], Err(ReadFault::Long)),
+    ] {
+        let mut source = MemSource::of(rt.alloc(), b"a\nb\n\ncd\ne", &[1, 6, 1], &[])?;
+        assert!(rt;
+            reads(rt.alloc(), &mut source, limit, groups, end)?,
+            "at {limit}"
+        );
+    }
+    let mut source = MemSource::of(rt.alloc(), b"a\nb\nc\n", &[5], &[1])?;
+    let failed = Err(ReadFault::Failed);
+    assert!(rt; reads(rt.alloc(), &mut source, 9, &["a\nb\n"], failed)?);
     Ok(())
 }
 
 #[test]
-fn a_fault_of_the_source_ends_the_reading(rt: HostRuntime) -> Result<(), Fail> {
-    let mut source = MemSource::of(rt.alloc(), b"lines", &[2], &[1])?;
-    let read = read_to_limit(rt.alloc(), &mut source, 9);
-    assert_eq!(rt; read.err(), Some(ReadFault::Failed));
+fn a_fault_of_a_reader_is_a_fault_of_the_source(rt: HostRuntime) -> Result<(), Fail> {
+    let mut reader = GroupReader::of(rt.alloc(), 1, 9)?;
     let mut source = InputSource::new(BrokenReader { gave: false });
-    let read = read_to_limit(rt.alloc(), &mut source, 9);
-    assert_eq!(rt; read.err(), Some(ReadFault::Failed));
+    assert!(rt; reader.advance(&mut source) == Err(ReadFault::Failed));
+    let long = vec![in rt.alloc(); 7; 200_000]?;
+    let mut reader = GroupReader::of(rt.alloc(), 1, 200_000)?;
+    let mut source = InputSource::new(long.as_slice());
+    assert!(rt; reader.advance(&mut source)? && reader.group() == long.as_slice());
     Ok(())
 }

@@ -1,0 +1,23 @@
+-- When a batch is not committed.
+use Rattle.std.specs.Prelude.{◌≡◌, ℕ, ◌-◌, ◌^◌, ◌==◌, List, length, codes, decimal, ◌++◌, Option, Some, None, if◌then◌else◌}
+use Rattle.log_model.specs.Core.{Contents, count_of, held_limit}
+use Rattle.log_core.specs.declared.fault.CommitFault.{CommitFault}
+use Rattle.log_core.specs.declared.fault.CommitFault.TheVariants.{Full, Spent, Memory}
+
+-- what stands against one more batch
+abbrev pub commit_fault : {P : Type 0} → Contents P → Option CommitFault
+commit_fault held =
+    if length held.unsettled == held_limit then Some (Full held_limit)
+    else (if count_of held == 2 ^ 63 - 1 then Some Spent
+    else None)
+
+-- A part is refused for what stands against it, and is handed back. Where nothing does, memory ran out.
+abbrev pub IsRefused : {P : Type 0} → Option CommitFault → P → CommitFault × Option P → Type 0
+IsRefused (Some fault) part refusal = (refusal.0 ≡ fault) × (refusal.1 ≡ Some part)
+IsRefused None part refusal = refusal.0 ≡ Memory
+
+-- how a fault prints
+abbrev pub fault_text : CommitFault → List ℕ
+fault_text (Full held) = codes "full " ++ decimal held
+fault_text Spent = codes "spent"
+fault_text Memory = codes "no memory"

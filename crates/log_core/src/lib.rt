@@ -1,0 +1,11 @@
+//! The core of the database: the state that all callers share. It holds the accepted batches, takes one more at its end,
+//! and lends looks at them that stay as they were.
+#![tactic(auto)]
+
+mod fault;
+mod shelf;
+mod snapshot;
+
+pub use fault::CommitFault;
+pub use shelf::Shelf;
+pub use snapshot::Snapshot;

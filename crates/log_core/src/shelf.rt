@@ -1,0 +1,161 @@
+ghost use Rattle.std.specs.Prelude.{◌≡◌, ℕ, ◌+◌, ◌++◌, ◌^◌, ◌<◌, length, IfNone, None, Option, OnErr, OnOk, IfErr, IfOk, [], ◌∷◌, map};
+ghost use Rattle.std.specs.Arc.{arc_value};
+ghost use Rattle.log_model.specs.Core.{Goes, Stands, after, commit, count_of, held_limit, nothing, with_part};
+ghost use Rattle.log_model.specs.History.{AreBatch, History, numbered_in, rows_in};
+ghost use Rattle.log_core.specs.Shared.{parts_in};
+ghost use Rattle.log_core.specs.Faults.{IsRefused, commit_fault};
+
+use crate::fault::CommitFault;
+use crate::snapshot::Snapshot;
+use std::alloc::{AllocError, Global};
+use std::marker::Model;
+use std::sync::Arc;
+use vl_row::Held;
+
+/// How many batches may wait to be settled.
+const HELD_LIMIT: usize = 4_096;
+
+/// The last number of a batch.
+const LAST_BATCH: u64 = i64::MAX as u64;
+
+/// The state that all callers share: the accepted batches, each held as a part.
+#[derive(Drop)]
+pub struct Shelf<P> {
+    parts: Arc<Vec<Arc<P>>>,
+}
+
+impl<P> Model for Shelf<P> {
+    ghost use Rattle.std.specs.Prelude.{◌≤◌, length};
+    ghost use Rattle.log_model.specs.Core.{Contents, held_limit};
+    ghost use Rattle.log_core.specs.Shared.{contents_of, parts_in};
+
+    ghost Value = { Contents P };
+
+    ghost view = { λ s. contents_of (parts_in s.parts) };
+
+    ghost invariant = { λ s. length (parts_in s.parts) ≤ held_limit };
+}
+
+impl<P: Held> Shelf<P> {
+    /// No batch.
+    pub fn fresh(alloc: Global) -> Result<Shelf<P>, AllocError>
+        ensures nothing { IfOk result (λ shelf. shelf ≡ nothing) }
+        ensures stands { IfOk result (λ shelf. Stands P.numbered shelf []) }
+    {
+        let parts = Arc::new(alloc, Vec::new(alloc))?;
+        Ok(Shelf { parts })
+    }
+
+    /// Appends the batch that the part holds, under whatever number, as the next one, and answers its number. The first
+    /// fault that applies is answered, and the part handed back with it, except where memory ran out.
+    pub fn commit(&mut self, alloc: Global, part: P) -> Result<u64, (CommitFault, Option<P>)>
+        requires { AreBatch (P.numbered part) }
+        ensures number { IfOk result (λ number. number ≡ count_of self.old + 1) }
+        ensures goes { OnOk result ((maker : Option ℕ)
+            → Goes P.numbered self.old (commit maker (rows_in (P.numbered part))) self.new) }
+
+        // So the history gains exactly this batch.
+        ensures stands { OnOk result ((history : History) (maker : Option ℕ) → Stands P.numbered self.old history
+            → Stands P.numbered self.new (after history (commit maker (rows_in (P.numbered part))))) }
+
+        // A batch is refused exactly where something stands against it, or for memory.
+        ensures accepted { OnOk result (commit_fault self.old ≡ None) }
+        ensures refused { IfErr result (IsRefused (commit_fault self.old) part) }
+        ensures err { OnErr result (self.new ≡ self.old) }
+    {
+        if let Some(fault) = self.fault() {
+            return Err((fault, Some(part)));
+        }
+        match self.push(alloc, part) {
+            Ok(number) => Ok(number),
+            Err(AllocError) => Err((CommitFault::Memory, None)),
+        }
+    }
+
+    /// What is held now. It copies one shared pointer.
+    pub fn look(&self) -> Result<Snapshot<P>, AllocError>
+        ensures { IfOk result (λ snapshot. snapshot ≡ self.now) }
+    {
+        let parts = Arc::try_clone(&self.parts)?;
+        Ok(Snapshot { parts })
+    }
+
+    /// How many batches there are.
+    fn count(&self) -> u64
+        ensures value { result ≡ count_of self.now }
+        ensures small { result < 2 ^ 63 }
+    {
+        self.parts.len() as u64
+    }
+
+    /// What stands against one more batch.
+    fn fault(&self) -> Option<CommitFault>
+        ensures value { result ≡ commit_fault self.now }
+        ensures room { IfNone result (length self.now.unsettled < held_limit) }
+    {
+        if self.parts.len() == HELD_LIMIT {
+            return Some(CommitFault::Full {
+                held: HELD_LIMIT as u64,
+            });
+        }
+        if self.count() == LAST_BATCH {
+            return Some(CommitFault::Spent);
+        }
+        None
+    }
+
+    /// Appends a batch, under the next number, which it answers.
+    #[tactic(auto, using(log_model::proofs::Numbering::batch_is_one, log_model::proofs::Numbering::batch_with_number))]
+    fn push(&mut self, alloc: Global, mut part: P) -> Result<u64, AllocError>
+        requires batch { AreBatch (P.numbered part) }
+        requires room { length self.old.unsettled < held_limit }
+        ensures number { IfOk result (λ number. number ≡ count_of self.old + 1) }
+        ensures goes { OnOk result ((maker : Option ℕ)
+            → Goes P.numbered self.old (commit maker (rows_in (P.numbered part))) self.new) }
+        ensures err { OnErr result (self.new ≡ self.old) }
+    {
+        let number = self.count() + 1;
+        part.set_batch(number);
+        let part = Arc::new(alloc, part)?;
+        self.append(alloc, part)?;
+        Ok(number)
+    }
+
+    fn append(&mut self, alloc: Global, part: Arc<P>) -> Result<(), AllocError>
+        requires { length self.old.unsettled < held_limit }
+        ensures ok { OnOk result (self.new ≡ with_part self.old (arc_value part)) }
+        ensures err { OnErr result (self.new ≡ self.old) }
+    {
+        push_part(alloc, &mut self.parts, part)
+    }
+}
+
+/// Appends a part to the list. A list that a snapshot still has is copied first, which copies one pointer a part.
+fn push_part<P: Drop>(
+    alloc: Global,
+    parts: &mut Arc<Vec<Arc<P>>>,
+    part: Arc<P>,
+) -> Result<(), AllocError>
+    ensures ok { OnOk result (parts_in parts.new ≡ parts_in parts.old ++ arc_value part ∷ []) }
+    ensures err { OnErr result (parts_in parts.new ≡ parts_in parts.old) }
+{
+    if let Some(list) = Arc::get_mut(parts) {
+        list.push(part)?;
+        return Ok(());
+    }
+    let mut list = copied(alloc, parts.as_slice())?;
+    list.push(part)?;
+    *parts = Arc::new(alloc, list)?;
+    Ok(())
+}
+
+/// The same parts, with room for one more.
+fn copied<P: Drop>(alloc: Global, parts: &[Arc<P>]) -> Result<Vec<Arc<P>>, AllocError>
+    ensures { IfOk result (λ copies. map arc_value copies.items ≡ map arc_value parts.now) }
+{
+    let mut copies = Vec::with_capacity(alloc, parts.len().saturating_add(1))?;
+    for part in parts {
+        copies.push(Arc::try_clone(part)?)?;
+    }
+    Ok(copies)
+}

@@ -1,0 +1,60 @@
+ghost use Rattle.std.specs.Prelude.{◌≡◌, ◌↔◌, ◌<◌, IsTrue, Some, [], length, slice_get};
+ghost use Rattle.std.specs.Arc.{arc_value};
+ghost use Rattle.log_model.specs.Core.{count_of, parts_of};
+
+use std::marker::Model;
+use std::sync::Arc;
+
+/// A look at the shared state. It stays as it was, whatever is committed later.
+#[derive(Drop)]
+pub struct Snapshot<P> {
+    pub(crate) parts: Arc<Vec<Arc<P>>>,
+}
+
+impl<P> Model for Snapshot<P> {
+    ghost use Rattle.log_model.specs.Core.{Contents};
+    ghost use Rattle.log_core.specs.Shared.{contents_of, parts_in};
+
+    ghost Value = { Contents P };
+
+    ghost view = { λ s. contents_of (parts_in s.parts) };
+}
+
+impl<P> Snapshot<P> {
+    /// How many batches there were.
+    pub fn front(&self) -> u64
+        ensures { result ≡ count_of self.now }
+    {
+        self.parts.len() as u64
+    }
+
+    /// How many of them, from the first on, were held as day parts.
+    pub fn settled(&self) -> u64
+        ensures { result ≡ self.now.settled }
+    {
+        let _ = &self.parts;
+        0
+    }
+
+    /// How many parts hold them.
+    pub fn len(&self) -> usize
+        ensures { result ≡ length (parts_of self.now) }
+    {
+        self.parts.len()
+    }
+
+    /// Whether there was no batch.
+    pub fn is_empty(&self) -> bool
+        ensures { IsTrue result ↔ (parts_of self.now ≡ []) }
+    {
+        self.parts.is_empty()
+    }
+
+    /// The part at this place: the day parts come first, and then the parts of the other batches, oldest first.
+    pub fn part(&self, i: usize) -> &Arc<P>
+        requires { i < length (parts_of self.now) }
+        ensures { slice_get (parts_of self.now) i ≡ Some (arc_value result.now) }
+    {
+        &self.parts[i]
+    }
+}

@@ -1,0 +1,62 @@
+-- The history: the batches that were accepted, oldest first. A batch has its number from 1 on, and its rows have their
+-- places from 0 on.
+use Rattle.std.specs.Prelude.{◌≡◌, ℕ, suc, ◌<◌, List, [], ◌∷◌, ◌++◌, length, map, flat_map, Option}
+use Rattle.std.specs.List.{AllByRecursion}
+use Rattle.log_model.specs.Row.{Row, Batch}
+
+-- an accepted batch, and who made it: the number of a caller, or none where a store held the batch when it was opened
+pub record Entry : Type 0 where
+  pub batch : Batch
+  pub maker : Option ℕ
+
+abbrev pub History : Type 0
+History = List Entry
+
+-- batches that one caller made, one after another
+abbrev pub made_by : Option ℕ → List Batch → History
+made_by maker batches = map (λ (batch : Batch). record { batch = batch; maker = maker }) batches
+
+-- the history as it was at some time before
+abbrev pub IsFront : History → History → Type 0
+IsFront front history = (later : History) × (history ≡ front ++ later)
+
+abbrev pub rows_of : History → List Row
+rows_of history = flat_map (λ entry. entry.batch) history
+
+-- a row with the number of its batch and its place in it
+pub record Numbered : Type 0 where
+  pub batch : ℕ
+  pub place : ℕ
+  pub row : Row
+
+-- rows of one batch, of which the first has this place
+abbrev pub numbered_from : ℕ → ℕ → List Row → List Numbered
+numbered_from batch place [] = []
+numbered_from batch place (row ∷ rows) = record { batch = batch; place = place; row = row } ∷ numbered_from batch (suc place) rows
+
+-- the rows of the batch with this number
+abbrev pub numbered_in : ℕ → Batch → List Numbered
+numbered_in batch rows = numbered_from batch 0 rows
+
+-- the rows of the batches that come after so many others
+abbrev pub numbered_after : ℕ → History → List Numbered
+numbered_after count [] = []
+numbered_after count (entry ∷ entries) = numbered_in (suc count) entry.batch ++ numbered_after (suc count) entries
+
+abbrev pub numbered : History → List Numbered
+numbered history = numbered_after 0 history
+
+abbrev pub rows_in : List Numbered → List Row
+rows_in rows = map (λ row. row.row) rows
+
+-- the rows are all of one batch
+abbrev pub AreOfOneBatch : List Numbered → Type 0
+AreOfOneBatch rows = (number : ℕ) × AllByRecursion (λ row. row.batch ≡ number) rows
+
+-- the same rows under another batch number
+abbrev pub with_batch : ℕ → List Numbered → List Numbered
+with_batch number rows = map (λ (row : Numbered). record { batch = number; place = row.place; row = row.row }) rows
+
+-- These are all rows of one batch, in order, whatever its number.
+abbrev pub AreBatch : List Numbered → Type 0
+AreBatch rows = (0 < length rows) × ((number : ℕ) × (rows ≡ numbered_in number (rows_in rows)))

@@ -1,0 +1,54 @@
+-- Reading a source in groups of lines.
+use Rattle.std.specs.Prelude.{◌≡◌, ◌⊎◌, ℕ, ◌+◌, ◌<◌, ◌≤◌, Bool, true, ◌==◌, List, [], ◌∷◌, ◌++◌, length, take, count_by, Option, MatchOption}
+use Rattle.vl_io.specs.Bytes.{IsAtEnd}
+
+abbrev pub is_feed : ℕ → Bool
+is_feed byte = byte == 10
+
+-- so many lines, each with its line feed
+pub record AreLines (count : ℕ) (bytes : List ℕ) : Type 0 where
+  pub feeds : count_by is_feed bytes ≡ count
+  pub front : List ℕ
+  pub ends : bytes ≡ front ++ 10 ∷ []
+
+-- Where so many lines end. Without an answer there are fewer, and the source has no more.
+abbrev pub IsLinesEnd : ℕ → List ℕ → Option (List ℕ) → Option ℕ → Type 0
+IsLinesEnd lines bytes left place = MatchOption place ((count_by is_feed bytes < lines) × IsAtEnd left) (λ end. (end ≤ length bytes) × AreLines lines (take end bytes))
+
+-- what a reader of groups has
+pub record Reading : Type 0 where
+  -- of a group
+  pub lines : ℕ
+  -- of all bytes
+  pub limit : ℕ
+  -- how many bytes came before the group
+  pub passed : ℕ
+  pub group : List ℕ
+  -- what was read behind the group
+  pub ahead : List ℕ
+  -- whether the source ended
+  pub ended : Bool
+
+-- so many bytes the source gave
+abbrev pub bytes_read : Reading → ℕ
+bytes_read reading = reading.passed + length reading.group + length reading.ahead
+
+-- the next group, after a piece was read
+pub record Advances (old new : Reading) (piece : List ℕ) : Type 0 where
+  pub lines : new.lines ≡ old.lines
+  pub limit : new.limit ≡ old.limit
+  pub passed : new.passed ≡ old.passed + length old.group
+  pub joined : new.group ++ new.ahead ≡ old.ahead ++ piece
+  pub within : bytes_read new ≤ new.limit
+
+-- The group has all its lines, or those that are left, where they are fewer.
+abbrev pub IsGroup : Reading → Type 0
+IsGroup reading =
+    AreLines reading.lines reading.group
+    ⊎ ((0 < length reading.group) × (count_by is_feed reading.group < reading.lines) × (reading.ahead ≡ []) × (reading.ended ≡ true))
+
+-- nothing is left
+pub record IsOver (reading : Reading) : Type 0 where
+  pub group : reading.group ≡ []
+  pub ahead : reading.ahead ≡ []
+  pub ended : reading.ended ≡ true

@@ -1,0 +1,176 @@
+//! Reading a source in groups of lines.
+ghost use Rattle.std.specs.Prelude.{◌≡◌, ℕ, ◌+◌, ◌-◌, ◌<◌, ◌≤◌, List, [], IfOk, IfErr, OnOk, length, take, true, false, vec_len, count_by};
+ghost use Rattle.vl_io.specs.Bytes.{AddsPiece, Consumes, IsAtEnd};
+ghost use Rattle.vl_io.specs.Faults.{Rose};
+ghost use Rattle.vl_io.specs.Lines.{Advances, AreLines, IsGroup, IsLinesEnd, IsOver, bytes_read, is_feed};
+
+use crate::outside::Source;
+use crate::transfer::{ReadFault, piece_buffer, read_piece};
+use memchr::memchr;
+use std::alloc::{AllocError, Global};
+use std::marker::Model;
+use std::mem;
+
+/// Reads a source in groups of so many lines, in large pieces. The last group has what is left.
+#[derive(Drop)]
+pub struct GroupReader {
+    lines: usize,
+    limit: usize,
+    passed: usize,
+    group: Vec<u8>,
+    ahead: Vec<u8>,
+    ended: bool,
+    piece: Vec<u8>,
+}
+
+impl Model for GroupReader {
+    ghost use Rattle.std.specs.Prelude.{◌≡◌, ◌+◌, ◌<◌, ◌≤◌, [], true, vec_len};
+    ghost use Rattle.vl_io.specs.Lines.{Reading};
+
+    ghost Value = { Reading };
+
+    ghost view = { λ r. record {
+      lines = r.lines;
+      limit = r.limit;
+      passed = r.passed;
+      group = r.group.items;
+      ahead = r.ahead.items;
+      ended = r.ended;
+    } };
+
+    ghost invariant = { λ r. (0 < r.lines) × (0 < vec_len r.piece)
+        × (r.passed + vec_len r.group + vec_len r.ahead ≤ r.limit) × (r.ended ≡ true → r.ahead.items ≡ []) };
+}
+
+impl GroupReader {
+    /// A reader that has read nothing yet. It gives groups of so many lines, and reads no more than `limit` bytes.
+    pub fn of(alloc: Global, lines: usize, limit: usize) -> Result<GroupReader, AllocError>
+        requires { 0 < lines }
+        ensures { IfOk result (λ reader. reader ≡ record {
+          lines = lines;
+          limit = limit;
+          passed = 0;
+          group = [];
+          ahead = [];
+          ended = false;
+        }) }
+    {
+        Ok(GroupReader {
+            lines,
+            limit,
+            passed: 0,
+            group: Vec::new(alloc),
+            ahead: Vec::new(alloc),
+            ended: false,
+            piece: piece_buffer(alloc)?,
+        })
+    }
+
+    /// The group that was read last, with its line feeds. There is none before the first call of `advance`.
+    pub fn group(&self) -> &[u8]
+        ensures { result.now ≡ self.now.group }
+    {
+        self.group.as_slice()
+    }
+
+    /// Goes on to the next group, and says whether there is one. After an error no clause says what is in the reader.
+    pub fn advance<S: Source>(&mut self, source: &mut S) -> Result<bool, ReadFault>
+        ensures read { OnOk result ((piece : List ℕ) × Consumes (S.left source.old) (S.left source.new) piece
+            × Advances self.old self.new piece) }
+        ensures group { result ≡ Ok true → IsGroup self.new }
+        ensures over { result ≡ Ok false → IsOver self.new }
+
+        // The source is at its end, and is not asked again.
+        ensures ended { OnOk result (self.old.ended ≡ false → self.new.ended ≡ true
+            → IsAtEnd (S.left source.new) × (self.new.ahead ≡ [])) }
+        ensures idle { self.old.ended ≡ true → (source.new ≡ source.old) × (result ≡ Ok false) }
+
+        ensures long { result ≡ Err ReadFault.Long → (piece : List ℕ)
+            × Consumes (S.left source.old) (S.left source.new) piece
+            × (self.old.limit < bytes_read self.old + length piece) }
+        ensures failed { result ≡ Err ReadFault.Failed
+            → Rose (S.faults source.old) (S.faults source.new) }
+        ensures faults { S.faults source.old ≤ S.faults source.new }
+
+        // Whatever the answer, a front of what was left was taken.
+        ensures taken { (piece : List ℕ) × Consumes (S.left source.old) (S.left source.new) piece }
+    {
+        self.passed += self.group.len();
+        mem::swap(&mut self.group, &mut self.ahead);
+        self.ahead.clear();
+        if self.ended {
+            return Ok(false);
+        }
+        let most = self.limit - self.passed;
+        let place = read_lines(
+            source,
+            self.piece.as_mut_slice(),
+            &mut self.group,
+            self.lines,
+            most,
+        )?;
+        match place {
+            Some(end) => {
+                self.ahead.extend_from_slice(&self.group[end..])?;
+                self.group.truncate(end);
+            }
+            None => self.ended = true,
+        }
+        Ok(!self.group.is_empty())
+    }
+}
+
+/// Reads until there are so many lines, and says where they end. Where the source ends before, the answer is `None`.
+fn read_lines<S: Source>(
+    source: &mut S,
+    piece: &mut [u8],
+    bytes: &mut Vec<u8>,
+    lines: usize,
+    limit: usize,
+) -> Result<Option<usize>, ReadFault>
+    requires some { 0 < lines }
+    requires room { 0 < length piece.old }
+    requires within { vec_len bytes.old ≤ limit }
+    ensures adds { OnOk result (AddsPiece (S.left source.old) (S.left source.new)
+        bytes.old.items bytes.new.items) }
+    ensures limited { vec_len bytes.new ≤ limit }
+    ensures place { IfOk result (IsLinesEnd lines bytes.new.items (S.left source.new)) }
+    ensures long { result ≡ Err ReadFault.Long → (piece : List ℕ)
+        × Consumes (S.left source.old) (S.left source.new) piece
+        × (limit < vec_len bytes.old + length piece) }
+    ensures failed { result ≡ Err ReadFault.Failed
+        → Rose (S.faults source.old) (S.faults source.new) }
+    ensures faults { S.faults source.old ≤ S.faults source.new }
+    ensures taken { (piece : List ℕ) × Consumes (S.left source.old) (S.left source.new) piece }
+{
+    let mut seen = 0;
+    let mut missing = lines;
+    'pieces: loop {
+        match lines_end(&bytes[seen..], missing) {
+            Ok(end) => return Ok(Some(seen + end)),
+            Err(fewer) => missing = fewer,
+        }
+        seen = bytes.len();
+        if !read_piece(source, piece, bytes, limit)? {
+            return Ok(None);
+        }
+    }
+}
+
+/// Where so many lines end, or how many are missing.
+fn lines_end(bytes: &[u8], lines: usize) -> Result<usize, usize>
+    requires { 0 < lines }
+    ensures ok { IfOk result (λ end. (end ≤ length bytes.now) × AreLines lines (take end bytes.now)) }
+    ensures err { IfErr result (λ missing. (0 < missing) × (count_by is_feed bytes.now + missing ≡ lines)) }
+{
+    let mut end = 0;
+    let mut missing = lines;
+    while missing > 0 {
+        let Some(place) = memchr(b'\n', &bytes[end..]) else {
+            return Err(missing);
+        };
+        end += place + 1;
+        missing -= 1;
+    }
+    Ok(end)
+}

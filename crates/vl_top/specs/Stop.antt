@@ -1,0 +1,19 @@
+-- Why a run ends before all is done, as the program keeps it.
+use Rattle.log_model.specs.Program as model
+use Rattle.vl_io.specs.declared.transfer.ReadFault.{ReadFault}
+use Rattle.vl_io.specs.declared.transfer.ReadFault.TheVariants as faults
+use Rattle.vl_top.specs.declared.stop.Limit.{Limit}
+use Rattle.vl_top.specs.declared.stop.Limit.TheVariants.{Long, Large, Full}
+use Rattle.vl_top.specs.declared.stop.Stop.{Stop}
+use Rattle.vl_top.specs.declared.stop.Stop.TheVariants.{Unreadable, Beyond, NoMemory}
+
+abbrev pub limit_of : Limit → model.Limit
+limit_of Long = model.long
+limit_of (Large weight) = model.large weight
+limit_of Full = model.full
+
+-- what a fault of reading means for the run
+abbrev pub stop_at : ReadFault → Stop
+stop_at faults.Failed = Unreadable
+stop_at faults.Long = Beyond Long
+stop_at faults.Memory = NoMemory
