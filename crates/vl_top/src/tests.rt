@@ -1,12 +1,12 @@
 //! The program over objects in memory. Below it, the crates that it stands on: a crate with tests is proved twice, so theirs are here.
 //!
 //! The expected texts are worked by hand from the rules in `docs/`.
-mod core;
 mod lines;
 mod moments;
 mod outside;
 mod records;
 mod rows;
+mod shelf;
 mod words;
 
 use crate::run::run;
