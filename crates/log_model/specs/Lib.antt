@@ -1,6 +1,7 @@
 pub mod Field
 pub mod Row
 pub mod Moment
+pub mod MomentText
 pub mod Json
 pub mod Line
 pub mod Intake

@@ -32,7 +32,7 @@ record IsAtDay (count : ℕ) (date : Date) : Type 0 where
 same_year : (year : ℕ) → days_in_year year ≡ civil_days_in_year (pos year)
 same_year year = refl
 
-same_month : (year month : ℕ) → days_in_month year month ≡ civil_days_in_month (pos year) month
+pub same_month : (year month : ℕ) → days_in_month year month ≡ civil_days_in_month (pos year) month
 same_month year month = grind (arith, nat_tests)
 
 -- a day below the end of the calendar lies in a year of it
