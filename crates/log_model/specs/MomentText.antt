@@ -5,8 +5,8 @@ use Rattle.std.specs.Str.Parse.{digits_value}
 use Rattle.log_model.specs.Moment.{Date, days_in_year, days_in_month, date_text, two_digits}
 
 -- the moment can be kept
-abbrev pub IsInRange : ℤ → Type 0
-IsInRange moment = (pos 0 ≤ℤ moment) × (moment <ℤ pos (2 ^ 63))
+abbrev pub IsMomentInRange : ℤ → Type 0
+IsMomentInRange moment = (pos 0 ≤ℤ moment) × (moment <ℤ pos (2 ^ 63))
 
 -- nanoseconds, of whole seconds and a fraction
 abbrev pub nanoseconds_of : ℤ → ℕ → ℤ

@@ -1,18 +1,18 @@
 -- A number that is too great for its type is out of range, whatever its unit.
-use Rattle.std.proofs.Common.{◌≡◌, ℕ, ◌+◌, ◌-◌, ◌*◌, ◌^◌, ◌<◌, ◌≤◌, min, nat_lt, nat_le, not, ◌||◌, length, take, drop, slice_index, ◌+ℤ◌, ◌-ℤ◌, ◌*ℤ◌, ◌==◌, ◌&&◌, true, false, List, [], ◌∷◌, Option, Some, None, Result, Ok, Err, pos, ℤ, refl, sym, ap, subst, inl, inr, ◌∙◌, arith}
+use Rattle.std.proofs.Common.{◌≡◌, ℕ, ◌+◌, ◌-◌, ◌*◌, ◌^◌, ◌<◌, ◌≤◌, nat_lt, nat_le, not, ◌||◌, length, take, drop, slice_index, ◌+ℤ◌, ◌-ℤ◌, ◌*ℤ◌, ◌==◌, ◌&&◌, true, false, List, [], ◌∷◌, Option, Some, None, Result, Ok, Err, pos, ℤ, refl, sym, ap, subst, inl, inr, ◌∙◌, arith}
 use Rattle.std.proofs.lemmas.Bool.{cases_lt, cases_eq, le-ltb, le-leb, and_right, and_from, or_left, or_right, not_from_false, eq-eqb, ne_eqb}
 use Rattle.std.proofs.lemmas.Bool.Decides.{nat_tests}
 use Rattle.std.proofs.lemmas.Grind.{common_steps}
 use Rattle.jiff_core.proofs.SignedLemmas.{signed_arith}
-use Rattle.log_model.specs.MomentText.{IsInRange, unit_of, nanoseconds_of}
+use Rattle.log_model.specs.MomentText.{IsMomentInRange, unit_of, nanoseconds_of}
 use Rattle.time_text.specs.declared.fault.TimeFault.{TimeFault}
 use Rattle.time_text.specs.declared.fault.TimeFault.TheVariants.{NotATime, OutOfRange}
-use Rattle.time_text.specs.Reading.{Answers, digits_len, number_at, after_number, count_at, day_at, time_at, tail_at, date_time_at}
+use Rattle.time_text.specs.Reading.{Answers, digits_len, number_at, AreAlike, after_number, count_at, day_at, time_at, tail_at, date_time_at}
 
 unit_of-large : (n : ℕ) → 10 ^ 17 ≤ n → unit_of n ≡ 1
 unit_of-large n h = grind (arith, nat_tests)
 
-beyond : (n m : ℕ) (z : ℤ) → 2 ^ 63 ≤ n → Some (pos (n * 1)) ≡ Some z → IsInRange z → ⊥
+beyond : (n m : ℕ) (z : ℤ) → 2 ^ 63 ≤ n → Some (pos (n * 1)) ≡ Some z → IsMomentInRange z → ⊥
 beyond n m z h e range = let same : pos (n * 1) ≡ z = cc in omega (arith, signed_arith, range.0, range.1)
 
 -- both counts are out of range
@@ -30,15 +30,12 @@ late r n m (byte ∷ bytes) large larger high higher a =
     let other = and_right (byte == 46) (nat_lt m (10 ^ 11)) (le-ltb m (10 ^ 11) (omega arith)) in
     rw other (rw one at a)
 
--- what is answered for the greatest number that there is, is answered for every greater one
-pub saturated : (r : Result ℤ TimeFault) (number n : ℕ) (bytes : List ℕ) → number ≡ min n (2 ^ 64 - 1) → Answers r (after_number number bytes) → Answers r (after_number n bytes)
-saturated r number n bytes e a =
-    elim (cases_lt n (2 ^ 64 - 1)) [
-      | inl below ↦ let same : number ≡ n = omega arith in subst (λ (k : ℕ). Answers r (after_number k bytes)) same a
-      | inr above ↦ late r number n bytes (omega arith) (omega arith) (omega arith) (omega arith) a
-    ]
+-- what is answered for one number beyond range is answered for every other
+pub alike : (r : Result ℤ TimeFault) (number n : ℕ) (bytes : List ℕ) → AreAlike number n → Answers r (after_number number bytes) → Answers r (after_number n bytes)
+alike r number n bytes (inl same) a = subst (λ (k : ℕ). Answers r (after_number k bytes)) same a
+alike r number n bytes (inr beyond) a = late r number n bytes (omega arith) (omega arith) (omega arith) (omega arith) a
 
-pub count_is : (r : Result ℤ TimeFault) (bytes : List ℕ) (len number : ℕ) → len ≡ digits_len bytes → number ≡ min (number_at bytes) (2 ^ 64 - 1) → 1 ≤ len
+pub count_is : (r : Result ℤ TimeFault) (bytes : List ℕ) (len number : ℕ) → len ≡ digits_len bytes → AreAlike number (number_at bytes) → 1 ≤ len
     → (slice_index bytes 0 ≡ 48 → len ≡ 1) → Answers r (after_number number (drop len bytes)) → Answers r (count_at bytes)
 unfolding count_at
 count_is r bytes len number same_len same some first a =
@@ -48,7 +45,7 @@ count_is r bytes len number same_len same some first a =
       | inr other ↦ or_left _ _ (not_from_false _ (ne_eqb (slice_index bytes 0) 48 other))
     ] in
     let test = and_from (nat_le 1 (digits_len bytes)) _ (le-leb 1 (digits_len bytes) (omega (arith, same_len))) plain in
-    rw test (saturated r number (number_at bytes) _ same (rw same_len at a))
+    rw test (alike r number (number_at bytes) _ same (rw same_len at a))
 
 -- ---- dates and times
 

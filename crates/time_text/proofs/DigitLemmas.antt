@@ -1,5 +1,5 @@
 -- What the loop over digits keeps.
-use Rattle.std.proofs.Common.{◌≡◌, ℕ, ◌+◌, ◌-◌, ◌*◌, ◌^◌, ◌<◌, ◌≤◌, min, true, false, List, length, get_or, take, drop, Some, ◌&&◌, nat_le, refl, sym, ap, subst, ◌∙◌, arith, below_more}
+use Rattle.std.proofs.Common.{◌≡◌, ℕ, ◌+◌, ◌-◌, ◌*◌, ◌^◌, ◌<◌, ◌≤◌, inl, inr, ◌⊎◌, true, false, List, length, get_or, take, drop, Some, ◌&&◌, nat_le, refl, sym, ap, subst, ◌∙◌, arith, below_more}
 use Rattle.std.proofs.lemmas.Bool.Decides.{nat_tests}
 use Rattle.std.proofs.lemmas.Int.Digits.{digits_value_more}
 use Rattle.std.proofs.lemmas.List.Sums.{prefix_len_is}
@@ -14,31 +14,37 @@ use Rattle.std.proofs.Math.Nat.{one-le-pow, pow-le-pow_right, mul-lt-mul_of_pos_
 use Rattle.std.specs.Int.{IsInRange}
 use Rattle.std.specs.Char.{is_ascii_digit, digit_value}
 use Rattle.std.specs.Str.Parse.{digits_value, AllDigits}
-use Rattle.time_text.specs.Reading.{digits_len, number_at, fraction_at}
+use Rattle.time_text.specs.Reading.{digits_len, number_at, AreAlike, fraction_at}
 
--- the first bytes are digits, and they say the number, or a greater one than there is
+-- the first bytes are digits, and they say the number, or one that is beyond range as it is
 pub record AreRead (bytes : List ℕ) (len number : ℕ) : Type 0 where
   pub each : (k : ℕ) → k < len → is_ascii_digit (get_or bytes k 0) ≡ true
-  pub value : number ≡ min (digits_value 10 (take len bytes)) (2 ^ 64 - 1)
+  pub value : AreAlike number (digits_value 10 (take len bytes))
 
 pub digit_value_is : (c : ℕ) → is_ascii_digit c ≡ true → digit_value c ≡ c - 48
 digit_value_is c h = grind (arith, nat_tests)
 
 pub none_read : (bytes : List ℕ) → AreRead bytes 0 0
-none_read bytes = record { each = λ k h. absurd (omega arith); value = refl }
+none_read bytes = record { each = λ k h. absurd (omega arith); value = inl refl }
 
 pub one_more : (bytes : List ℕ) (len number next : ℕ) → AreRead bytes len number → len < length bytes → is_ascii_digit (get_or bytes len 0) ≡ true
-    → next ≡ min (min (number * 10) (2 ^ 64 - 1) + (get_or bytes len 0 - 48)) (2 ^ 64 - 1) → AreRead bytes (len + 1) next
+    → ((number < 2 ^ 60) × (next ≡ number * 10 + (get_or bytes len 0 - 48))) ⊎ ((2 ^ 60 ≤ number) × (next ≡ 2 ^ 64 - 1)) → AreRead bytes (len + 1) next
 one_more bytes len number next h within digit e = record {
   each = below_more _ _ h.each digit;
-  value = omega (arith, h.value, digits_value_more 10 bytes len within, digit_value_is (get_or bytes len 0) digit);
+  value = rw (digits_value_more 10 bytes len within, digit_value_is (get_or bytes len 0) digit) (grown number (digits_value 10 (take len bytes)) next (get_or bytes len 0 - 48) h.value e);
 }
+  where
+    grown : (m n next d : ℕ) → AreAlike m n → ((m < 2 ^ 60) × (next ≡ m * 10 + d)) ⊎ ((2 ^ 60 ≤ m) × (next ≡ 2 ^ 64 - 1)) → AreAlike next (n * 10 + d)
+    grown m n next d (inl same) (inl small) = inl (omega arith)
+    grown m n next d (inl same) (inr large) = inr (omega arith, omega arith)
+    grown m n next d (inr beyond) (inl small) = absurd (omega arith)
+    grown m n next d (inr beyond) (inr large) = inr (omega arith, omega arith)
 
 pub all_read : (bytes : List ℕ) (len number : ℕ) → AreRead bytes len number → len ≤ length bytes → (len < length bytes → is_ascii_digit (get_or bytes len 0) ≡ false)
-    → (len ≡ digits_len bytes) × (number ≡ min (number_at bytes) (2 ^ 64 - 1))
+    → (len ≡ digits_len bytes) × AreAlike number (number_at bytes)
 all_read bytes len number h within stop =
     let here = prefix_len_is is_ascii_digit bytes len 0 within h.each stop in
-    (sym here, h.value ∙ ap (λ (n : ℕ). min (digits_value 10 (take n bytes)) (2 ^ 64 - 1)) (sym here))
+    (sym here, subst (λ (n : ℕ). AreAlike number (digits_value 10 (take n bytes))) (sym here) h.value)
 
 -- ---- the digits at the front of a text
 
@@ -64,12 +70,16 @@ fraction_below len number few below =
     let scale = one-le-pow (9 - len) 10 (omega arith) in
     omega (arith, product, mul-lt-mul_of_pos_right below scale)
 
-module _ (bytes : List ℕ) (len number : ℕ) (scale : ℕ) (same_len : len ≡ digits_len bytes) (same : number ≡ min (number_at bytes) (2 ^ 64 - 1)) (scaled : scale ≡ 10 ^ (9 - len)) (few : len ≤ 9) where
+small_alike : (m n : ℕ) → n < 2 ^ 63 → AreAlike m n → m ≡ n
+small_alike m n small (inl same) = same
+small_alike m n small (inr beyond) = absurd (omega arith)
+
+module _ (bytes : List ℕ) (len number : ℕ) (scale : ℕ) (same_len : len ≡ digits_len bytes) (same : AreAlike number (number_at bytes)) (scaled : scale ≡ 10 ^ (9 - len)) (few : len ≤ 9) where
   exact : number ≡ number_at bytes
   exact =
       let below : number_at bytes < 10 ^ len = rw same_len (number_below bytes) in
       let most : 10 ^ len ≤ 10 ^ 9 = pow-le-pow_right (omega arith) few in
-      omega (arith, same)
+      small_alike number (number_at bytes) (omega arith) same
 
   pub nanos_below : number * scale < 1_000_000_000
   nanos_below =

@@ -6,3 +6,4 @@ pub mod CountLemmas
 pub mod Counts
 pub mod Spelling
 pub mod DateTimes
+pub mod Written

@@ -1,7 +1,7 @@
 -- What is read of a text is the moment that it spells, and it spells no other.
 use Rattle.std.proofs.Common.{◌≡◌, ℕ, Bool, true, false, cond, ◌==◌, List, length, slice_index, Option, Some, None, Result, Ok, Err, ℤ, refl, sym, ◌∙◌, arith}
 use Rattle.std.specs.Prelude.{IfOk}
-use Rattle.log_model.specs.MomentText.{IsInRange, SpellsMoment, counted, in_seconds, dated}
+use Rattle.log_model.specs.MomentText.{IsMomentInRange, SpellsMoment, counted, in_seconds, dated}
 use Rattle.time_text.specs.declared.fault.TimeFault.{TimeFault}
 use Rattle.time_text.specs.declared.fault.TimeFault.TheVariants.{NotATime, OutOfRange}
 use Rattle.time_text.specs.Reading.{Answers, count_at, date_time_at, moment_at}
@@ -24,14 +24,14 @@ moment_again text moment (dated h) = rw (date_time-dash text moment h) (date_tim
 
 -- ---- the clauses
 
-pub is_read : (r : Result ℤ TimeFault) (text : List ℕ) → Answers r (moment_at text) → IfOk r (λ moment. SpellsMoment text moment × IsInRange moment)
+pub is_read : (r : Result ℤ TimeFault) (text : List ℕ) → Answers r (moment_at text) → IfOk r (λ moment. SpellsMoment text moment × IsMomentInRange moment)
 is_read (Ok moment) text a = (moment_takes text moment a.0, a.1)
 is_read (Err fault) text a = tt
 
 pub is_no_time : (r : Result ℤ TimeFault) (text : List ℕ) → Answers r (moment_at text) → r ≡ Err NotATime → (moment : ℤ) → SpellsMoment text moment → ⊥
 is_no_time r text a e moment h = let none = rw e at a in let some = moment_again text moment h in cc
 
-pub is_out_of_range : (r : Result ℤ TimeFault) (text : List ℕ) → Answers r (moment_at text) → r ≡ Err OutOfRange → (moment : ℤ) × SpellsMoment text moment × (IsInRange moment → ⊥)
+pub is_out_of_range : (r : Result ℤ TimeFault) (text : List ℕ) → Answers r (moment_at text) → r ≡ Err OutOfRange → (moment : ℤ) × SpellsMoment text moment × (IsMomentInRange moment → ⊥)
 is_out_of_range r text a e = let found = rw e at a in (found.0, moment_takes text found.0 found.1, found.2)
 
 pub is_only : (text : List ℕ) (one other : ℤ) → SpellsMoment text one → SpellsMoment text other → one ≡ other

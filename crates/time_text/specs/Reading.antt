@@ -1,10 +1,10 @@
 -- Reading a moment's text from left to right. A reader gives nothing where no text of its form stands.
-use Rattle.std.specs.Prelude.{◌≡◌, ℕ, ◌+◌, ◌-◌, ◌*◌, ◌^◌, Bool, not, ◌&&◌, ◌||◌, ◌==◌, nat_lt, nat_le, if◌then◌else◌, List, [], ◌∷◌, length, take, drop, slice_index, Option, Some, None, Result, Ok, Err, ℤ, pos, neg_ℤ, ◌+ℤ◌, ◌-ℤ◌, ◌*ℤ◌}
+use Rattle.std.specs.Prelude.{◌≡◌, ℕ, ◌+◌, ◌-◌, ◌*◌, ◌^◌, ◌≤◌, ◌⊎◌, Bool, not, ◌&&◌, ◌||◌, ◌==◌, nat_lt, nat_le, if◌then◌else◌, List, [], ◌∷◌, length, take, drop, slice_index, Option, Some, None, Result, Ok, Err, ℤ, pos, neg_ℤ, ◌+ℤ◌, ◌-ℤ◌, ◌*ℤ◌}
 use Rattle.std.specs.Char.{is_ascii_digit}
 use Rattle.std.specs.List.{prefix_len}
 use Rattle.std.specs.Str.Parse.{digits_value}
 use Rattle.log_model.specs.Moment.{Date, days_in_month}
-use Rattle.log_model.specs.MomentText.{IsInRange, nanoseconds_of, unit_of, day_number}
+use Rattle.log_model.specs.MomentText.{IsMomentInRange, nanoseconds_of, unit_of, day_number}
 use Rattle.time_text.specs.declared.fault.TimeFault.{TimeFault}
 use Rattle.time_text.specs.declared.fault.TimeFault.TheVariants.{NotATime, OutOfRange}
 
@@ -15,9 +15,9 @@ None >>= f = None
 
 -- What was returned is the moment that reading gives, where it is in range.
 abbrev pub Answers : Result ℤ TimeFault → Option ℤ → Type 0
-Answers (Ok moment) read = (read ≡ Some moment) × IsInRange moment
+Answers (Ok moment) read = (read ≡ Some moment) × IsMomentInRange moment
 Answers (Err NotATime) read = read ≡ None
-Answers (Err OutOfRange) read = (moment : ℤ) × (read ≡ Some moment) × (IsInRange moment → ⊥)
+Answers (Err OutOfRange) read = (moment : ℤ) × (read ≡ Some moment) × (IsMomentInRange moment → ⊥)
 
 -- ---- digits
 
@@ -34,6 +34,10 @@ digits_len bytes = prefix_len is_ascii_digit bytes
 
 abbrev pub number_at : List ℕ → ℕ
 number_at bytes = digits_value 10 (take (digits_len bytes) bytes)
+
+-- both are the same, or both are beyond the range of moments
+abbrev pub AreAlike : ℕ → ℕ → Type 0
+AreAlike m n = (m ≡ n) ⊎ ((2 ^ 63 ≤ m) × (2 ^ 63 ≤ n))
 
 -- the nanoseconds of one to nine digits, and what follows them
 unfoldable pub fraction_at : List ℕ → Option (ℕ × List ℕ)

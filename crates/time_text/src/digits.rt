@@ -1,8 +1,8 @@
 // Digits, as they stand in texts of moments.
-ghost use Rattle.std.specs.Prelude.{◌≡◌, ◌+◌, ◌-◌, ◌^◌, ◌<◌, ◌≤◌, min, IfSome};
+ghost use Rattle.std.specs.Prelude.{◌≡◌, ◌+◌, ◌-◌, ◌^◌, ◌<◌, ◌≤◌, IfSome};
 ghost use Rattle.std.specs.Option.{option_map};
 ghost use Rattle.std.specs.Str.Parse.{digits_value};
-ghost use Rattle.time_text.specs.Reading.{pair, digits_len, number_at, fraction_at};
+ghost use Rattle.time_text.specs.Reading.{pair, digits_len, number_at, AreAlike, fraction_at};
 
 /// What [`pair`] gives for two bytes that are no digits: more than two digits can say.
 pub(crate) const NO_PAIR: u8 = 100;
@@ -20,27 +20,32 @@ pub(crate) fn pair(tens: u8, ones: u8) -> u8
     }
 }
 
+/// A number whose tenfold is beyond range.
+const LARGE: u64 = 1 << 60;
+
 /// The digits at the front of a text.
 #[derive(Clone, Copy)]
 pub(crate) struct Digits {
     pub(crate) len: usize,
-    /// The number that they say, or the greatest one that there is where it is larger.
+    /// The number that they say, or another one beyond range where that is beyond range.
     pub(crate) number: u64,
 }
 
 #[inline]
 pub(crate) fn digits_at(bytes: &[u8]) -> Digits
     ensures len { result.len ≡ digits_len bytes.now }
-    ensures number { result.number ≡ min (number_at bytes.now) (2 ^ 64 - 1) }
+    ensures number { AreAlike result.number (number_at bytes.now) }
 {
     let mut number: u64 = 0;
     for (len, byte) in bytes.iter().enumerate() {
         if !byte.is_ascii_digit() {
             return Digits { len, number };
         }
-        number = number
-            .saturating_mul(10)
-            .saturating_add((*byte - b'0') as u64);
+        number = if number < LARGE {
+            number * 10 + (*byte - b'0') as u64
+        } else {
+            u64::MAX
+        };
     }
     Digits {
         len: bytes.len(),

@@ -1,6 +1,6 @@
 // Reading moments.
 ghost use Rattle.std.specs.Prelude.{◌≡◌, ℤ, IfOk};
-ghost use Rattle.log_model.specs.MomentText.{SpellsMoment, IsInRange};
+ghost use Rattle.log_model.specs.MomentText.{SpellsMoment, IsMomentInRange};
 ghost use Rattle.time_text.specs.Reading.{Answers, moment_at};
 
 use crate::TimeFault;
@@ -11,10 +11,10 @@ use crate::date_time::date_time_at;
 /// milliseconds, microseconds or nanoseconds, seconds with a fraction, or a date and a time
 /// as in RFC 3339, where a blank may stand for the `T` and the offset may be left out.
 pub fn read_moment(text: &str) -> Result<i64, TimeFault>
-    ensures ok { IfOk result (λ moment. SpellsMoment text.now moment × IsInRange moment) }
+    ensures ok { IfOk result (λ moment. SpellsMoment text.now moment × IsMomentInRange moment) }
     ensures not_a_time { result ≡ Err TimeFault.NotATime → (moment : ℤ) → SpellsMoment text.now moment → ⊥ }
     ensures out_of_range { result ≡ Err TimeFault.OutOfRange
-        → (moment : ℤ) × SpellsMoment text.now moment × (IsInRange moment → ⊥) }
+        → (moment : ℤ) × SpellsMoment text.now moment × (IsMomentInRange moment → ⊥) }
 
     // A text says one moment at most.
     ensures only { (one other : ℤ) → SpellsMoment text.now one → SpellsMoment text.now other → one ≡ other }

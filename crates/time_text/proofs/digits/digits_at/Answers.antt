@@ -1,6 +1,7 @@
-use Rattle.std.proofs.Common.{arith, sym, ◌∙◌}
+use Rattle.std.proofs.Common.{arith, sym, inl, inr, ◌∙◌}
 use Rattle.time_text.proofs.DigitLemmas.{one_more, all_read}
 use Rattle.time_text.proofs.digits.digits_at.Goals as goal
+use Rattle.time_text.proofs.digits.digits_at.Goals.{then-number-lt-LARGE, else-number-lt-LARGE}
 
 pub returns-then-not-is_ascii_digit-clause-len : goal.returns-then-not-is_ascii_digit-clause-len
 returns-then-not-is_ascii_digit-clause-len c =
@@ -12,9 +13,8 @@ returns-then-not-is_ascii_digit-clause-number c =
 
 pub loop-len-preserved : goal.loop-len-preserved
 loop-len-preserved c =
-    let product = c.saturating_mul.ensures in
-    let total = c.saturating_add-number.ensures in
-    one_more c.args.bytes.now c.loop-len.len c.loop-len.number _ c.loop-len.invariant c.loop-len-test.true (sym c.is_ascii_digit.ensures.value ∙ c.if-not-is_ascii_digit.false) (omega arith)
+    one_more c.args.bytes.now c.loop-len.len c.loop-len.number c.if-number-lt-LARGE.number c.loop-len.invariant c.loop-len-test.true (sym c.is_ascii_digit.ensures.value ∙ c.if-not-is_ascii_digit.false)
+    (elim c.if-number-lt-LARGE.branch [ then-number-lt-LARGE w ↦ inl (omega arith, omega arith) | else-number-lt-LARGE w ↦ inr (omega arith, omega arith) ])
 
 pub returns-clause-len : goal.returns-clause-len
 returns-clause-len c =
