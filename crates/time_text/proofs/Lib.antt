@@ -7,3 +7,4 @@ pub mod Counts
 pub mod Spelling
 pub mod DateTimes
 pub mod Written
+pub mod PlainReading

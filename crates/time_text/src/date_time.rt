@@ -1,6 +1,6 @@
 // Dates and times of day, whose numbers have fixed places.
 ghost use Rattle.std.specs.Prelude.{◌≡◌, ◌<◌, ◌≤◌, length, IfSome, pos, neg_ℤ, ◌+ℤ◌, ◌-ℤ◌, ◌*ℤ◌};
-ghost use Rattle.jiff_core.specs.Calendar.{IsEpochDay, IsWithin};
+ghost use Rattle.jiff_core.specs.Calendar.{IsWithin};
 ghost use Rattle.time_text.specs.Reading.{Answers, number_of, day_at, time_at, hours_at, offset_at, tail_at, date_time_at};
 
 use crate::TimeFault;
@@ -19,7 +19,7 @@ fn day_number(year: u16, month: u8, day: u8) -> Option<i32>
     requires month { month ≤ 100 }
     requires day { day ≤ 100 }
     ensures value { result ≡ number_of record { year = year; month = month; day = day } }
-    ensures range { IfSome result IsEpochDay }
+    ensures range { IfSome result (IsWithin 5_000_000) }
 {
     match Date::new(year as i16, month as i8, day as i8) {
         Ok(date) => Some(date.to_unix_epoch_day()),
@@ -32,7 +32,7 @@ fn day_number(year: u16, month: u8, day: u8) -> Option<i32>
 fn day_at(bytes: &[u8]) -> Option<i32>
     requires { 19 ≤ length bytes.now }
     ensures value { result ≡ day_at bytes.now }
-    ensures range { IfSome result IsEpochDay }
+    ensures range { IfSome result (IsWithin 5_000_000) }
 {
     let century = pair(bytes[0], bytes[1]);
     let year = pair(bytes[2], bytes[3]);
@@ -44,9 +44,9 @@ fn day_at(bytes: &[u8]) -> Option<i32>
     day_number(century as u16 * 100 + year as u16, month, day)
 }
 
-// The second of the day.
+/// The second of the day.
 #[tactic(auto, unfolding(crate::specs::Reading::time_at))]
-fn time_at(bytes: &[u8]) -> Option<u32>
+pub(crate) fn time_at(bytes: &[u8]) -> Option<u32>
     requires { 19 ≤ length bytes.now }
     ensures value { result ≡ time_at bytes.now }
     ensures range { IfSome result (λ time. time < 86_400) }
@@ -84,7 +84,7 @@ fn hours_at(bytes: &[u8]) -> Option<i32>
 }
 
 #[tactic(auto, unfolding(crate::specs::Reading::offset_at))]
-fn offset_at(bytes: &[u8]) -> Option<i32>
+pub(crate) fn offset_at(bytes: &[u8]) -> Option<i32>
     ensures value { result ≡ offset_at bytes.now }
     ensures range { IfSome result (IsWithin 86_399) }
 {
@@ -112,9 +112,9 @@ fn tail_at(bytes: &[u8]) -> Option<(u32, i32)>
     }
 }
 
-// Seconds from 1970 on, of a day, a second of that day and how far its clock is ahead of UTC.
-fn seconds_of(day: i32, time: u32, offset: i32) -> i64
-    requires day { IsEpochDay day }
+/// Seconds from 1970 on, of a day, a second of that day and how far its clock is ahead of UTC.
+pub(crate) fn seconds_of(day: i32, time: u32, offset: i32) -> i64
+    requires day { IsWithin 5_000_000 day }
     requires time { time < 86_400 }
     requires offset { IsWithin 86_399 offset }
     ensures { result ≡ day *ℤ pos 86_400 +ℤ pos time -ℤ offset }
