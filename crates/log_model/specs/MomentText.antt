@@ -1,10 +1,10 @@
 -- Texts of moments: a count since 1970-01-01T00:00:00Z, or a date and a time (RFC 3339, section 5.6: `date-time`).
-use Rattle.std.specs.Prelude.{◌≡◌, ℕ, zero, suc, ◌+◌, ◌-◌, ◌*◌, ◌^◌, ◌<◌, ◌≤◌, Bool, ◌||◌, ◌==◌, nat_lt, if◌then◌else◌, ◌⊎◌, List, [], ◌∷◌, ◌++◌, length, slice_index, IsTrue, ℤ, pos, neg_ℤ, ◌+ℤ◌, ◌-ℤ◌, ◌*ℤ◌, ◌<ℤ◌, ◌≤ℤ◌}
+use Rattle.std.specs.Prelude.{◌≡◌, ℕ, zero, suc, ◌+◌, ◌-◌, ◌*◌, ◌^◌, ◌<◌, ◌≤◌, ◌||◌, ◌==◌, nat_lt, if◌then◌else◌, ◌⊎◌, List, [], ◌∷◌, ◌++◌, length, slice_index, IsTrue, ℤ, pos, neg_ℤ, ◌+ℤ◌, ◌-ℤ◌, ◌*ℤ◌, ◌<ℤ◌, ◌≤ℤ◌}
 use Rattle.std.specs.Str.{all_ascii_digits}
 use Rattle.std.specs.Str.Parse.{digits_value}
 use Rattle.log_model.specs.Moment.{Date, days_in_year, days_in_month, date_text, two_digits}
 
--- the moment can be kept
+-- the moment is one that is kept: from 1970 on, and below 2^63 nanoseconds
 abbrev pub IsMomentInRange : ℤ → Type 0
 IsMomentInRange moment = (pos 0 ≤ℤ moment) × (moment <ℤ pos (2 ^ 63))
 

@@ -1,6 +1,6 @@
 -- A number that is too great for its type is out of range, whatever its unit.
-use Rattle.std.proofs.Common.{◌≡◌, ℕ, ◌+◌, ◌-◌, ◌*◌, ◌^◌, ◌<◌, ◌≤◌, nat_lt, nat_le, not, ◌||◌, length, take, drop, slice_index, ◌+ℤ◌, ◌-ℤ◌, ◌*ℤ◌, ◌==◌, ◌&&◌, true, false, List, [], ◌∷◌, Option, Some, None, Result, Ok, Err, pos, ℤ, refl, sym, ap, subst, inl, inr, ◌∙◌, arith}
-use Rattle.std.proofs.lemmas.Bool.{cases_lt, cases_eq, le-ltb, le-leb, and_right, and_from, or_left, or_right, not_from_false, eq-eqb, ne_eqb}
+use Rattle.std.proofs.Common.{◌≡◌, ℕ, ◌-◌, ◌*◌, ◌^◌, ◌≤◌, nat_lt, nat_le, not, ◌||◌, length, take, drop, slice_index, ◌+ℤ◌, ◌-ℤ◌, ◌*ℤ◌, ◌==◌, true, List, [], ◌∷◌, Some, Result, Ok, Err, pos, ℤ, refl, sym, subst, inl, inr, ◌∙◌, arith}
+use Rattle.std.proofs.lemmas.Bool.{cases_eq, le-ltb, le-leb, and_right, and_from, or_left, or_right, not_from_false, eq-eqb, ne_eqb}
 use Rattle.std.proofs.lemmas.Bool.Decides.{nat_tests}
 use Rattle.std.proofs.lemmas.Grind.{common_steps}
 use Rattle.jiff_core.proofs.SignedLemmas.{signed_arith}

@@ -1,7 +1,7 @@
 -- Counts and seconds with a fraction: what is read is spelled so, and what is spelled so is read.
-use Rattle.std.proofs.Common.{◌≡◌, ℕ, suc, ◌+◌, ◌-◌, ◌*◌, ◌^◌, ◌<◌, ◌≤◌, Bool, true, false, cond, not, ◌&&◌, ◌||◌, ◌==◌, nat_lt, nat_le, ◌⊎◌, inl, inr, List, [], ◌∷◌, ◌++◌, length, get_or, slice_index, take, drop, Option, Some, None, ℤ, pos, refl, sym, ap, subst, ◌∙◌, arith}
+use Rattle.std.proofs.Common.{◌≡◌, ℕ, ◌-◌, ◌*◌, ◌^◌, ◌≤◌, Bool, true, false, cond, not, ◌&&◌, ◌||◌, ◌==◌, nat_lt, nat_le, inl, inr, List, [], ◌∷◌, ◌++◌, length, slice_index, take, drop, Option, Some, None, ℤ, pos, refl, sym, ap, subst, ◌∙◌, arith}
 use Rattle.std.specs.Char.{is_ascii_digit}
-use Rattle.std.specs.List.{prefix_len, list_all}
+use Rattle.std.specs.List.{list_all}
 use Rattle.std.specs.Str.{all_ascii_digits}
 use Rattle.std.specs.Str.Parse.{digits_value}
 use Rattle.std.proofs.lemmas.Bool.{and_parts, and_from, or_cases, or_left, or_right, not-true, not_from_false, eqb-true, eqb-false, eq-eqb, ne_eqb, ltb-true, lt-ltb, leb-true, le-leb, cases_eq, cases_lt, false≢true}
@@ -11,7 +11,7 @@ use Rattle.std.proofs.lemmas.Bool.Decides.{nat_tests}
 use Rattle.std.proofs.lemmas.Option.{none-some}
 use Rattle.std.proofs.lemmas.Str.Parse.{numerals_by_value, tells_all_ascii_digits}
 use Rattle.std.proofs.Math.ListN.{get_or-append}
-use Rattle.log_model.specs.MomentText.{AreDigits, IsNumber, IsFraction, IsCount, AreSeconds, SpellsMoment, counted, in_seconds, nanoseconds_of, unit_of}
+use Rattle.log_model.specs.MomentText.{AreDigits, IsNumber, IsCount, AreSeconds, SpellsMoment, counted, in_seconds, nanoseconds_of}
 use Rattle.time_text.specs.Reading.{◌>>=◌, digits_len, number_at, fraction_at, only_fraction, after_number, count_at}
 use Rattle.time_text.proofs.DigitLemmas.{front_digits}
 

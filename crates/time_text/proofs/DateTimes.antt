@@ -1,13 +1,13 @@
 -- Dates and times: what is read is spelled so, and what is spelled so is read.
-use Rattle.std.proofs.Common.{◌≡◌, ℕ, zero, suc, ◌+◌, ◌-◌, ◌*◌, ◌/◌, ◌%◌, ◌^◌, ◌<◌, ◌≤◌, Bool, true, false, cond, not, ◌&&◌, ◌||◌, ◌==◌, nat_lt, nat_le, ◌⊎◌, inl, inr, List, [], ◌∷◌, ◌++◌, length, get_or, slice_index, take, drop, drop-cons, Option, Some, None, ℤ, pos, neg_ℤ, ◌+ℤ◌, ◌-ℤ◌, ◌*ℤ◌, refl, sym, ap, subst, ◌∙◌, arith}
+use Rattle.std.proofs.Common.{◌≡◌, ℕ, zero, suc, ◌+◌, ◌*◌, ◌/◌, ◌%◌, ◌<◌, ◌≤◌, true, false, ◌==◌, nat_lt, ◌⊎◌, inl, inr, List, [], ◌∷◌, ◌++◌, length, get_or, slice_index, drop, drop-cons, Some, ℤ, refl, sym, ap, subst, ◌∙◌, arith}
 use Rattle.std.specs.Char.{is_ascii_digit}
-use Rattle.std.proofs.lemmas.Bool.{and_parts, and_from, or_cases, eqb-true, eq-eqb, ne_eqb, ltb-true, ltb-false, lt-ltb, le-ltb, leb-true, le-leb, cases_eq, cases_lt}
+use Rattle.std.proofs.lemmas.Bool.{and_parts, or_cases, eqb-true, eq-eqb, ne_eqb, ltb-true, lt-ltb, le-ltb, cases_eq, cases_lt}
 use Rattle.std.proofs.lemmas.Bool.Decides.{nat_tests}
 use Rattle.std.proofs.lemmas.Option.{none-some}
 use Rattle.std.proofs.Math.ListN.{drop_of_length-le}
 use Rattle.log_model.specs.Moment.{Date, date_text, two_digits, days_in_month}
-use Rattle.log_model.specs.MomentText.{IsDate, IsFraction, IsDateTime, Offset, omitted, zulu, small_zulu, ahead, behind, IsOffset, offset_text, seconds_ahead, hours_text, day_number, nanoseconds_of}
-use Rattle.time_text.specs.Reading.{◌>>=◌, pair, pair_at, digits_len, fraction_at, date_at, is_date, is_date_at, number_of, day_at, is_mark, is_time_at, time_at, is_hours_at, signed, hours_at, offset_at, with_nanos, offset_behind, tail_at, moment_with, date_time_at}
+use Rattle.log_model.specs.MomentText.{IsDate, IsFraction, IsDateTime, Offset, omitted, zulu, small_zulu, ahead, behind, IsOffset, offset_text, seconds_ahead, hours_text, day_number}
+use Rattle.time_text.specs.Reading.{◌>>=◌, pair, pair_at, digits_len, fraction_at, date_at, is_date, number_of, day_at, is_mark, time_at, signed, hours_at, offset_at, with_nanos, offset_behind, tail_at, moment_with, date_time_at}
 use Rattle.time_text.proofs.Counts.{bind_some, some_is, test_some, fraction_takes, fraction_again}
 use Rattle.time_text.proofs.DayNumbers.{IsDate-is_date, is_date-IsDate}
 

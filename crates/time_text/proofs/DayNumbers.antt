@@ -1,14 +1,13 @@
 -- The definition of a day's number, joined to jiff's calendar.
-use Rattle.std.proofs.Common.{◌≡◌, ℕ, zero, suc, ◌+◌, ◌-◌, ◌*◌, ◌<◌, ◌≤◌, Bool, true, false, ◌&&◌, refl, sym, ap, ◌∙◌, arith, pos, ◌-ℤ◌, ℤ, unsigned_abs, Some, None}
+use Rattle.std.proofs.Common.{◌≡◌, ℕ, zero, suc, ◌+◌, ◌-◌, ◌<◌, ◌≤◌, true, false, refl, ap, arith, pos, ℤ, Some, None}
 use Rattle.std.proofs.lemmas.Bool.{false_from_ne_true, and_parts, and_from, leb-true, le-leb}
-use Rattle.std.proofs.lemmas.Bool.Decides.{nat_tests}
 use Rattle.jiff_core.specs.Calendar.{day_count, days_from_civil, IsDate as IsCivilDate, days_of_months as civil_days_of_months, days_in_month as civil_days_in_month}
 use Rattle.jiff_core.specs.Date.{epoch_day}
 use Rattle.jiff_core.specs.declared.civil.date.Date.{Date as CivilDate}
 use Rattle.jiff_core.proofs.SignedLemmas.{signed_arith}
 use Rattle.jiff_core.proofs.CalendarLemmas.{day_count-next_year, day_count-day_of_year, days_from_civil-day_count}
 use Rattle.jiff_core.proofs.MarchLemmas.{day_count-early}
-use Rattle.log_model.specs.Moment.{Date, days_in_year, days_in_month}
+use Rattle.log_model.specs.Moment.{Date, days_in_month}
 use Rattle.log_model.specs.MomentText.{days_before_year, days_of_months, day_number, IsDate}
 use Rattle.time_text.specs.Reading.{is_date, number_of}
 use Rattle.time_text.proofs.MomentText.{same_month}

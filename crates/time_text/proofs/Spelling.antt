@@ -1,5 +1,5 @@
 -- What is read of a text is the moment that it spells, and it spells no other.
-use Rattle.std.proofs.Common.{◌≡◌, ℕ, Bool, true, false, cond, ◌==◌, List, length, slice_index, Option, Some, None, Result, Ok, Err, ℤ, refl, sym, ◌∙◌, arith}
+use Rattle.std.proofs.Common.{◌≡◌, ℕ, Bool, true, false, cond, ◌==◌, List, slice_index, Some, Result, Ok, Err, ℤ, sym, ◌∙◌}
 use Rattle.std.specs.Prelude.{IfOk}
 use Rattle.log_model.specs.MomentText.{IsMomentInRange, SpellsMoment, counted, in_seconds, dated}
 use Rattle.time_text.specs.declared.fault.TimeFault.{TimeFault}

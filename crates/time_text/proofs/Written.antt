@@ -1,15 +1,15 @@
 -- The text of a moment spells that moment.
-use Rattle.std.proofs.Common.{◌≡◌, ℕ, zero, suc, ◌+◌, ◌-◌, ◌*◌, ◌/◌, ◌%◌, ◌^◌, ◌<◌, ◌≤◌, Bool, true, false, ◌&&◌, ◌==◌, ◌⊎◌, inl, inr, List, [], ◌∷◌, ◌++◌, length, ℤ, pos, ◌+ℤ◌, ◌-ℤ◌, ◌*ℤ◌, refl, sym, ap, ◌∙◌, arith}
+use Rattle.std.proofs.Common.{◌≡◌, ℕ, zero, suc, ◌+◌, ◌-◌, ◌*◌, ◌/◌, ◌%◌, ◌^◌, ◌<◌, ◌≤◌, true, ◌⊎◌, inl, inr, [], length, ℤ, pos, ◌+ℤ◌, ◌-ℤ◌, ◌*ℤ◌, refl, sym, ap, ◌∙◌, arith}
 use Rattle.std.specs.Char.{is_ascii_digit, digit_value}
 use Rattle.std.specs.Str.{all_ascii_digits}
 use Rattle.std.specs.Str.Parse.{digits_value, digits_value_after}
-use Rattle.std.proofs.lemmas.Bool.{and_from, eqb-true, eqb-false, eq-eqb, ne_eqb, cases_eq, cases_lt}
+use Rattle.std.proofs.lemmas.Bool.{and_from, eq-eqb, ne_eqb, cases_eq, cases_lt}
 use Rattle.std.proofs.lemmas.Bool.Decides.{nat_tests}
 use Rattle.std.proofs.lemmas.Nat.{div_below, pow-add}
-use Rattle.std.proofs.Math.Nat.{pow-suc, mod-lt, mul-div-mul_right, mul_assoc, mod-eq-sub-div-mul, div-add-mod, lt_of_mul-lt-mul_right, one-le-pow}
+use Rattle.std.proofs.Math.Nat.{pow-suc, mod-lt, mul-div-mul_right, div-add-mod, lt_of_mul-lt-mul_right, one-le-pow}
 use Rattle.jiff_core.proofs.SignedLemmas.{signed_arith}
-use Rattle.log_model.specs.Moment.{Date, days_in_month, date_of, places, trailing_zeros, fraction_text, moment_text}
-use Rattle.log_model.specs.MomentText.{IsDate, IsFraction, AreDigits, IsDateTime, SpellsMoment, dated, zulu, day_number, nanoseconds_of}
+use Rattle.log_model.specs.Moment.{date_of, places, trailing_zeros, fraction_text, moment_text}
+use Rattle.log_model.specs.MomentText.{IsDate, IsFraction, SpellsMoment, dated, zulu, day_number, nanoseconds_of}
 use Rattle.time_text.proofs.DayNumbers.{day_number-count}
 use Rattle.time_text.proofs.DigitLemmas.{digit_value_is}
 use Rattle.time_text.proofs.MomentText.{date_of-at_day, same_month}
@@ -106,8 +106,9 @@ fraction_spells n below =
 
 -- ---- a moment
 
-date_spells : (days : ℕ) → days < 2_932_897 → IsDate (date_of days) × (day_number (date_of days) ≡ pos days)
-date_spells days h =
+-- the date of a day has that day's number
+pub day_number-date_of : (days : ℕ) → days < 2_932_897 → IsDate (date_of days) × (day_number (date_of days) ≡ pos days)
+day_number-date_of days h =
     let at_day = date_of-at_day days h in
     let real = at_day.real in
     let count = day_number-count (date_of days) real.2.0 in (
@@ -127,7 +128,7 @@ moment_text-spells moment h =
     let days = moment / 86_400_000_000_000 in
     let rest = moment % 86_400_000_000_000 in
     let seconds = rest / 1_000_000_000 in
-    let date = date_spells days (omega arith) in
+    let date = day_number-date_of days (omega arith) in
     dated (record {
       date = date_of days;
       mark = 84;

@@ -1,4 +1,5 @@
 //! Printed moments (`time_text`).
+use std::process::Abort;
 use std::test::Fail;
 use time_text::{TimeFault, day_of, plain, read_moment, write_moment};
 use vl_row::Text;
@@ -156,7 +157,7 @@ const NOT_A_TIME: [&str; 52] = [
 ];
 
 // Both readers give this.
-fn assert_reads(rt: &HostRuntime, text: &str, wanted: Result<i64, TimeFault>) {
+fn assert_reads(rt: &impl Abort, text: &str, wanted: Result<i64, TimeFault>) {
     assert_eq!(rt; read_moment(text), wanted, "{text}");
     assert_eq!(rt; plain::read_moment(text), wanted, "{text}, plainly");
 }

@@ -1,4 +1,4 @@
-use Rattle.std.proofs.Common.{arith, ◌∙◌, ◌≡◌, pos, to_z, of_z, w32, ap, Some, sym}
+use Rattle.std.proofs.Common.{arith, ◌∙◌, ◌≡◌, pos, to_z, of_z, w32, ap, Some}
 use Rattle.std.specs.Int.{w8, w16}
 use Rattle.std.proofs.lemmas.Bool.{false≢true}
 use Rattle.std.proofs.lemmas.Int.{to_z_pos}

@@ -1,4 +1,3 @@
-use Rattle.time_text.specs.Reading.{Answers, moment_at}
 use Rattle.time_text.proofs.Spelling.{is_read, is_no_time, is_out_of_range, is_only}
 use Rattle.time_text.proofs.read.read_moment.Goals as goal
 

@@ -1,4 +1,4 @@
-use Rattle.std.proofs.Common.{arith, w64, to_z, of_z}
+use Rattle.std.proofs.Common.{arith, to_z, of_z}
 use Rattle.std.specs.Int.{w128}
 use Rattle.jiff_core.proofs.SignedLemmas.{signed_arith}
 use Rattle.time_text.proofs.PlainReading.{date_time_some}

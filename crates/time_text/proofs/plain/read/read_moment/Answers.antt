@@ -1,4 +1,3 @@
-use Rattle.time_text.specs.Reading.{Answers, moment_at}
 use Rattle.time_text.proofs.Spelling.{is_read, is_no_time, is_out_of_range}
 use Rattle.time_text.proofs.plain.read.read_moment.Goals as goal
 

@@ -1,5 +1,5 @@
 use Rattle.std.proofs.Common.{arith}
-use Rattle.time_text.proofs.PlainReading.{is_digit_at, none_weighed, one_weighed, all_weighed}
+use Rattle.time_text.proofs.PlainReading.{is_digit_at, one_weighed, all_weighed}
 use Rattle.time_text.proofs.plain.read.weighed.Goals as goal
 
 pub overflow_sub-nanoseconds : goal.overflow_sub-nanoseconds
