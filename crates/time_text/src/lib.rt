@@ -3,7 +3,6 @@
 
 ghost use Rattle.std.specs.Prelude.{◌≡◌, ◌++◌, ◌/◌, ◌≤ℤ◌, pos, unsigned_abs, OnOk, OnErr};
 ghost use Rattle.log_model.specs.Moment.{moment_text};
-ghost use Rattle.log_model.specs.MomentText.{SpellsMoment};
 
 mod count;
 mod date_time;
@@ -26,9 +25,6 @@ pub fn write_moment(alloc: Global, time: i64, out: &mut Text) -> Result<(), Allo
     requires { pos 0 ≤ℤ time }
     ensures ok { OnOk result (out.new ≡ out.old ++ moment_text (unsigned_abs time)) }
     ensures err { OnErr result (out.new ≡ out.old) }
-
-    // What is appended is read again as this moment.
-    ensures spelled { SpellsMoment (moment_text (unsigned_abs time)) time }
 {
     let Ok(instant) = Timestamp::from_nanosecond(time as i128) else {
         unreachable!()

@@ -1,5 +1,6 @@
 // Reading moments.
-ghost use Rattle.std.specs.Prelude.{◌≡◌, ℤ, IfOk};
+ghost use Rattle.std.specs.Prelude.{◌≡◌, ℕ, ◌^◌, ◌<◌, ℤ, pos, IfOk};
+ghost use Rattle.log_model.specs.Moment.{moment_text};
 ghost use Rattle.log_model.specs.MomentText.{SpellsMoment, IsMomentInRange};
 ghost use Rattle.time_text.specs.Reading.{Answers, moment_at};
 
@@ -18,6 +19,9 @@ pub fn read_moment(text: &str) -> Result<i64, TimeFault>
 
     // A text says one moment at most.
     ensures only { (one other : ℤ) → SpellsMoment text.now one → SpellsMoment text.now other → one ≡ other }
+
+    // What `write_moment` appends says the moment that it was given.
+    ensures written { (moment : ℕ) → moment < 2 ^ 63 → SpellsMoment (moment_text moment) (pos moment) }
 {
     moment_at(text.as_bytes())
 }

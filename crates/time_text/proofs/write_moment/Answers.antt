@@ -5,7 +5,6 @@ use Rattle.jiff_core.proofs.SignedLemmas.{signed_arith, one_part}
 use Rattle.jiff_core.specs.declared.timestamp.Timestamp.{Timestamp}
 use Rattle.log_model.specs.Moment.{moment_text}
 use Rattle.time_text.proofs.MomentText.{timestamp_text-moment_text}
-use Rattle.time_text.proofs.Written.{moment_text-spells}
 use Rattle.time_text.proofs.write_moment.Goals as goal
 
 pub returns-clause-ok : goal.returns-clause-ok
@@ -21,10 +20,3 @@ returns-clause-ok c =
     c.as_str.ensures.value ∙ timestamp_text-moment_text c.new.result instant c.timestamp_text-text.result.bytes moment c.new.ensures c.timestamp_text-text.ensures same (omega (arith, signed_arith)) in
     let told = c.push_str.ensures.ok in
     rw text at told
-
-pub returns-clause-spelled : goal.returns-clause-spelled
-returns-clause-spelled c =
-    let fits : FitsSigned w64 c.args.time = c.ranges.time in
-    let sign = one_part c.args.time in
-    let same : c.args.time ≡ pos (unsigned_abs c.args.time) = omega (arith, signed_arith) in
-    rw (← same) at (moment_text-spells (unsigned_abs c.args.time) (omega (arith, signed_arith)))

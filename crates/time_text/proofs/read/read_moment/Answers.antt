@@ -1,4 +1,5 @@
 use Rattle.time_text.proofs.Spelling.{is_read, is_no_time, is_out_of_range, is_only}
+use Rattle.time_text.proofs.Written.{moment_text-spells}
 use Rattle.time_text.proofs.read.read_moment.Goals as goal
 
 pub returns-clause-ok : goal.returns-clause-ok
@@ -12,3 +13,6 @@ returns-clause-out_of_range c = is_out_of_range c.moment_at.result c.args.text.n
 
 pub returns-clause-only : goal.returns-clause-only
 returns-clause-only c = is_only c.args.text.now
+
+pub returns-clause-written : goal.returns-clause-written
+returns-clause-written c = moment_text-spells
