@@ -5,7 +5,7 @@ ghost use Rattle.std.specs.Str.Parse.{digits_value};
 ghost use Rattle.time_text.specs.Reading.{pair, digits_len, number_at, AreAlike, fraction_at};
 
 /// What [`pair`] gives for two bytes that are no digits: more than two digits can say.
-pub(crate) const NO_PAIR: u8 = 100;
+const NO_PAIR: u8 = 100;
 
 /// The number that two digits say.
 #[inline]

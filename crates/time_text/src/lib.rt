@@ -1,4 +1,4 @@
-//! Moments as text: the `date-time` of RFC 3339, section 5.6, in UTC.
+//! Moments as text, written and read: the `date-time` of RFC 3339, section 5.6, and counts.
 #![tactic(auto)]
 
 ghost use Rattle.std.specs.Prelude.{◌≡◌, ◌++◌, ◌/◌, ◌≤ℤ◌, pos, unsigned_abs, OnOk, OnErr};

@@ -1,4 +1,4 @@
-// Reading the same texts, where days are counted off from the year 0 and digits weighed by their places.
+// Reading the same texts: days are counted off from the year 0, and digits weighed by their places.
 ghost use Rattle.std.specs.Prelude.{◌≡◌, ◌+◌, ◌-◌, ◌*◌, ◌^◌, ◌<◌, ◌≤◌, ℤ, length, take, drop, IsTrue, IfOk, IfSome, IfNone, Some, pos};
 ghost use Rattle.std.specs.Option.{option_map};
 ghost use Rattle.std.specs.Str.{all_ascii_digits};
@@ -15,7 +15,8 @@ use crate::digits::pair;
 /// The moment that a text says, as [`crate::read_moment`] gives it.
 pub fn read_moment(text: &str) -> Result<i64, TimeFault>
     ensures ok { IfOk result (λ moment. SpellsMoment text.now moment × IsMomentInRange moment) }
-    ensures not_a_time { result ≡ Err TimeFault.NotATime → (moment : ℤ) → SpellsMoment text.now moment → ⊥ }
+    ensures not_a_time { result ≡ Err TimeFault.NotATime
+        → (moment : ℤ) → SpellsMoment text.now moment → ⊥ }
     ensures out_of_range { result ≡ Err TimeFault.OutOfRange
         → (moment : ℤ) × SpellsMoment text.now moment × (IsMomentInRange moment → ⊥) }
 {
