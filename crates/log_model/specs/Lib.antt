@@ -3,6 +3,7 @@ pub mod Row
 pub mod History
 pub mod Core
 pub mod Moment
+pub mod MomentText
 pub mod Json
 pub mod Line
 pub mod Intake

@@ -1,2 +1,10 @@
 pub mod Counting
 pub mod MomentText
+pub mod DigitLemmas
+pub mod DayNumbers
+pub mod CountLemmas
+pub mod Counts
+pub mod Spelling
+pub mod DateTimes
+pub mod Written
+pub mod PlainReading

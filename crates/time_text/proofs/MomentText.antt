@@ -25,14 +25,14 @@ use Rattle.jiff.specs.Names.{iso_datetime_text}
 use Rattle.log_model.specs.Moment.{Date, days_in_year, days_in_month, date_in, date_after, date_of, places, trailing_zeros, fraction_text, date_text, clock_text, moment_text}
 
 -- the date is real and lies that many days after 1 January of the year -10000
-record IsAtDay (count : ℕ) (date : Date) : Type 0 where
-  real : IsCivilDate (pos date.year) date.month date.day
-  at : day_count (pos date.year) date.month date.day ≡ count
+pub record IsAtDay (count : ℕ) (date : Date) : Type 0 where
+  pub real : IsCivilDate (pos date.year) date.month date.day
+  pub at : day_count (pos date.year) date.month date.day ≡ count
 
 same_year : (year : ℕ) → days_in_year year ≡ civil_days_in_year (pos year)
 same_year year = refl
 
-same_month : (year month : ℕ) → days_in_month year month ≡ civil_days_in_month (pos year) month
+pub same_month : (year month : ℕ) → days_in_month year month ≡ civil_days_in_month (pos year) month
 same_month year month = grind (arith, nat_tests)
 
 -- a day below the end of the calendar lies in a year of it
@@ -90,7 +90,7 @@ date_after-at_day (suc years) year days few in_calendar =
     let count : day_count (pos (year + 1)) 1 1 + (days - days_in_year year) ≡ day_count (pos year) 1 1 + days = omega arith in
     rw (test, ← count) (date_after-at_day years (year + 1) (days - days_in_year year) (grind arith) (omega arith)))
 
-date_of-at_day : (days : ℕ) → days < 2_932_897 → IsAtDay (4_371_953 + days) (date_of days)
+pub date_of-at_day : (days : ℕ) → days < 2_932_897 → IsAtDay (4_371_953 + days) (date_of days)
 date_of-at_day days h = rw (← day_count-epoch) (date_after-at_day days 1970 days (omega arith) (omega (arith, day_count-epoch)))
 
 -- a date of jiff's with the day number `days` has the parts of `date_of days`

@@ -1,13 +1,20 @@
-//! Moments as text: the `date-time` of RFC 3339, section 5.6, in UTC.
+//! Moments as text, written and read: the `date-time` of RFC 3339, section 5.6, and counts.
 #![tactic(auto)]
 
-ghost use Rattle.std.specs.Prelude.{◌≡◌, ◌++◌, ◌≤ℤ◌, pos, unsigned_abs, OnOk, OnErr};
+ghost use Rattle.std.specs.Prelude.{◌≡◌, ◌++◌, ◌/◌, ◌≤ℤ◌, pos, unsigned_abs, OnOk, OnErr};
 ghost use Rattle.log_model.specs.Moment.{moment_text};
 
+mod count;
+mod date_time;
+mod digits;
+mod fault;
 pub mod plain;
+mod read;
 
+pub use fault::TimeFault;
 use jiff::Timestamp;
 use jiff::fmt::temporal::DateTimePrinter;
+pub use read::read_moment;
 use std::alloc::{AllocError, Global};
 use vl_row::Text;
 
@@ -24,4 +31,12 @@ pub fn write_moment(alloc: Global, time: i64, out: &mut Text) -> Result<(), Allo
     };
     let text = DateTimePrinter::new().timestamp_text(instant.to_plain());
     out.push_str(alloc, text.as_str())
+}
+
+/// The number of a moment's day in UTC, from 1 January 1970 on.
+pub fn day_of(time: i64) -> u32
+    requires { pos 0 ≤ℤ time }
+    ensures { result ≡ unsigned_abs time / 86_400_000_000_000 }
+{
+    (time.unsigned_abs() / 86_400_000_000_000) as u32
 }

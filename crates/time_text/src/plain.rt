@@ -1,7 +1,10 @@
-//! The same text by a plain slow program, which counts off years and months from 1970.
+//! The same by plain slow programs, which count off years and months.
 ghost use Rattle.std.specs.Prelude.{◌≡◌, ◌+◌, ◌++◌, ◌<◌, ◌≤◌, ◌≤ℤ◌, [], ◌∷◌, pos, unsigned_abs, OnOk, OnErr, string_bytes};
 ghost use Rattle.log_model.specs.Moment as spec;
 
+mod read;
+
+pub use read::read_moment;
 use std::alloc::{AllocError, Global};
 use std::marker::Model;
 use vl_row::Text;
