@@ -1,2 +1,5 @@
 pub mod Reading
 pub mod Faults
+pub mod ObjectReading
+pub mod ObjectClauses
+pub mod ObjectFaults

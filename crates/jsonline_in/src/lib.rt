@@ -7,6 +7,7 @@ mod read;
 pub mod run;
 mod scan;
 mod stop;
+pub mod whole;
 
 pub use fault::JsonFault;
 pub use read::fields_of;

@@ -1,2 +1,3 @@
+pub mod Labels
 pub mod Numbering
 pub mod Standing

@@ -10,7 +10,7 @@ pub record IsRead (now : ℕ) (line : List ℕ) (row : Row) : Type 0 where
   pub short : length line ≤ 1_048_576
   pub members : List Field
   pub is_line : IsLine line members
-  pub is_read : row ≡ record { moment = now; fields = set_all [] members }
+  pub is_read : row ≡ record { moment = now; labels = []; fields = set_all [] members }
   pub is_row : IsRow row
 
 -- what becomes of a line

@@ -4,6 +4,7 @@ pub mod History
 pub mod Core
 pub mod Moment
 pub mod MomentText
+pub mod Stream
 pub mod Json
 pub mod Line
 pub mod Intake
@@ -11,3 +12,6 @@ pub mod Words
 pub mod Query
 pub mod Print
 pub mod Program
+pub mod Token
+pub mod Value
+pub mod ObjectLine

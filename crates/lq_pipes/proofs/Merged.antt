@@ -11,7 +11,9 @@ use Rattle.std.proofs.lemmas.Map.Lookups.{exact_bytes}
 use Rattle.json.specs.Token.{Token}
 use Rattle.log_model.specs.Field.{Field, bytes_cmp, is_reserved, set_field}
 use Rattle.log_model.specs.Moment.{moment_text}
-use Rattle.log_model.specs.Row.{Row, IsRow, stream_text, stream_id, record_of}
+use Rattle.log_model.specs.Row.{Row, IsRow, record_of}
+use Rattle.log_model.specs.Stream.{label_text, stream_id}
+use Rattle.log_model.proofs.Labels.{label_text-some, stream_id-some}
 use Rattle.lq_pipes.specs.Merge.{is_after, fields_before, fields_from}
 use Rattle.lq_pipes.specs.Tokens.{members_tokens}
 
@@ -114,29 +116,41 @@ insert_three first second third second_first third_first third_second reserved_f
     ap behind (insert_behind second.0 second.1 third.0 third.1 last third_second rest ∙
     ap (λ later. fields_before second.0 rest ++ second ∷ later) (insert_new third.0 third.1 reserved_third last (stored_from second.0 rest stored_rest)))
 
-abbrev stream : Field
-stream = (codes "_stream", stream_text)
+-- three values that are not empty, set one after another, are inserted
+set_three : (fields : List Field) (first second third : Field) → 0 < length first.1 → 0 < length second.1 → 0 < length third.1 →
+    set_field (set_field (set_field fields first.0 first.1) second.0 second.1) third.0 third.1 ≡
+    insert_entry bytes_cmp (insert_entry bytes_cmp (insert_entry bytes_cmp fields first.0 first.1) second.0 second.1) third.0 third.1
+set_three fields first second third some_first some_second some_third =
+    set_filled (set_field (set_field fields first.0 first.1) second.0 second.1) third.0 third.1 some_third ∙
+    ap (λ list. insert_entry bytes_cmp list third.0 third.1) (
+    set_filled (set_field fields first.0 first.1) second.0 second.1 some_second ∙
+    ap (λ list. insert_entry bytes_cmp list second.0 second.1) (set_filled fields first.0 first.1 some_first)
+    )
 
-abbrev id : Field
-id = (codes "_stream_id", stream_id)
+-- the computed fields of a row
+abbrev stream : Row → Field
+stream row = (codes "_stream", label_text row.labels)
 
-abbrev time : ℕ → Field
-time moment = (codes "_time", moment_text moment)
+abbrev id : Row → Field
+id row = (codes "_stream_id", stream_id row.labels)
+
+abbrev time : Row → Field
+time row = (codes "_time", moment_text row.moment)
 
 pub record_of-merged : (row : Row) → IsRow row →
-    record_of row ≡ fields_before stream.0 row.fields ++ stream ∷
-    (let rest = fields_from stream.0 row.fields in fields_before id.0 rest ++ id ∷
-    (let rest = fields_from id.0 rest in fields_before (codes "_time") rest ++ time row.moment ∷ fields_from (codes "_time") rest))
+    record_of row ≡ fields_before (codes "_stream") row.fields ++ stream row ∷
+    (let rest = fields_from (codes "_stream") row.fields in fields_before (codes "_stream_id") rest ++ id row ∷
+    (let rest = fields_from (codes "_stream_id") rest in fields_before (codes "_time") rest ++ time row ∷ fields_from (codes "_time") rest))
 record_of-merged row rules =
-    set_filled (set_field (set_field row.fields stream.0 stream.1) id.0 id.1) (codes "_time") (moment_text row.moment) (moment_text-some row.moment) ∙
-    insert_three stream id (time row.moment) refl refl refl refl refl refl row.fields rules.unreserved
+    set_three row.fields (stream row) (id row) (time row) (label_text-some row.labels) (stream_id-some row.labels) (moment_text-some row.moment) ∙
+    insert_three (stream row) (id row) (time row) refl refl refl refl refl refl row.fields rules.unreserved
 
 -- its members, written in four pieces
-pub tokens-record_of : (row : Row) → IsRow row → (fields rest_first rest_second rest_third : List Field) (moment : List ℕ) (tokens first second third : List Token) →
-    fields ≡ row.fields → moment ≡ moment_text row.moment →
-    first ≡ tokens ++ members_tokens (fields_before stream.0 fields ++ stream ∷ []) → rest_first ≡ fields_from stream.0 fields →
-    second ≡ first ++ members_tokens (fields_before id.0 rest_first ++ id ∷ []) → rest_second ≡ fields_from id.0 rest_first →
+pub tokens-record_of : (row : Row) → IsRow row → (fields rest_first rest_second rest_third : List Field) (text id_text moment : List ℕ) (tokens first second third : List Token) →
+    fields ≡ row.fields → text ≡ label_text row.labels → id_text ≡ stream_id row.labels → moment ≡ moment_text row.moment →
+    first ≡ tokens ++ members_tokens (fields_before (codes "_stream") fields ++ (codes "_stream", text) ∷ []) → rest_first ≡ fields_from (codes "_stream") fields →
+    second ≡ first ++ members_tokens (fields_before (codes "_stream_id") rest_first ++ (codes "_stream_id", id_text) ∷ []) → rest_second ≡ fields_from (codes "_stream_id") rest_first →
     third ≡ second ++ members_tokens (fields_before (codes "_time") rest_second ++ (codes "_time", moment) ∷ []) → rest_third ≡ fields_from (codes "_time") rest_second →
     third ++ members_tokens rest_third ≡ tokens ++ members_tokens (record_of row)
-tokens-record_of row rules fields rest_first rest_second rest_third moment tokens first second third f m e1 r1 e2 r2 e3 r3 =
-    rw (record_of-merged row rules) (rw (e3, e2, e1, r3, r2, r1, f, m) (simp (flat_map-append, append_assoc)))
+tokens-record_of row rules fields rest_first rest_second rest_third text id_text moment tokens first second third f s i m e1 r1 e2 r2 e3 r3 =
+    rw (record_of-merged row rules) (rw (e3, e2, e1, r3, r2, r1, f, s, i, m) (simp (flat_map-append, append_assoc)))

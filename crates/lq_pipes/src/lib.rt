@@ -3,6 +3,7 @@
 
 mod members;
 pub mod plain;
+mod printed_stream;
 mod record;
 
-pub use record::write_row;
+pub use record::Printer;

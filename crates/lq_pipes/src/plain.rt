@@ -4,9 +4,9 @@ ghost use Rattle.json.specs.Print.{quoted};
 ghost use Rattle.log_model.specs.Print.{line_text, member_text};
 ghost use Rattle.log_model.specs.Row.{record_of};
 
-use crate::record::{STREAM, STREAM_ID};
 use serde_json::Value;
 use std::alloc::{AllocError, Global};
+use stream_label::{label_text, stream_id};
 use time_text::write_moment;
 use vl_row::{Field, FieldList, Row, Text};
 
@@ -24,11 +24,15 @@ pub fn write_row(alloc: Global, row: &Row, out: &mut Vec<u8>) -> Result<(), Allo
 fn record(alloc: Global, row: &Row) -> Result<FieldList, AllocError>
     ensures { IfOk result (λ fields. fields ≡ record_of row.now) }
 {
-    let mut moment = Text::try_of(alloc, "")?;
+    let mut stream = Text::new();
+    label_text(alloc, row.stream(), &mut stream)?;
+    let mut id = Text::new();
+    stream_id(alloc, row.stream(), &mut id)?;
+    let mut moment = Text::new();
     write_moment(alloc, row.time(), &mut moment)?;
     let mut record = row.fields().try_copy(alloc)?;
-    record.set(alloc, "_stream", STREAM)?;
-    record.set(alloc, "_stream_id", STREAM_ID)?;
+    record.set(alloc, "_stream", stream.as_str())?;
+    record.set(alloc, "_stream_id", id.as_str())?;
     record.set(alloc, "_time", moment.as_str())?;
     Ok(record)
 }

@@ -1,15 +1,18 @@
 -- What a row keeps of its fields, and when it is not refused.
-use Rattle.std.proofs.Common.{◌≡◌, ℕ, suc, ◌-◌, ◌^◌, ◌<◌, ◌≤◌, min, Bool, true, false, cond, not, IsTrue, List, [], ◌∷◌, length, filter, take, nat_le, nat_lt, if◌then◌else◌, Some, None, refl, sym, ap, ◌∙◌, arith}
+use Rattle.std.proofs.Common.{◌≡◌, ℕ, suc, ◌-◌, ◌^◌, ◌<◌, ◌≤◌, min, Bool, true, false, cond, not, ◌||◌, bytes_eq, IsTrue, List, [], ◌∷◌, length, filter, take, nat_le, nat_lt, if◌then◌else◌, Some, None, refl, sym, ap, ◌∙◌, arith}
 use Rattle.std.specs.List.{list_all, list_any}
-use Rattle.std.proofs.lemmas.Bool.{and_from, cond_both, ltb-false, or_parts}
+use Rattle.std.proofs.lemmas.Bool.{and_from, and_parts, cond_both, ltb-false, or_parts}
 use Rattle.std.proofs.lemmas.Bool.Decides.{nat_tests}
 use Rattle.std.proofs.lemmas.List.{length-take}
 use Rattle.std.proofs.lemmas.List.Sums.{count_by-le-length, length-filter}
 use Rattle.std.proofs.lemmas.Option.{none-some}
+use Rattle.std.proofs.lemmas.Slice.Eq.{bytes_eq-Decides}
 use Rattle.log_model.specs.Field.{Field, IsFieldList, is_reserved, weight}
-use Rattle.log_model.specs.Row.{IsRow}
-use Rattle.vl_row.specs.Faults.{fields_fault, is_long_named, size_fault, stored}
+use Rattle.log_model.specs.Row.{IsRow, has_field}
+use Rattle.vl_row.specs.Faults.{fields_fault, is_long_named, labels_of, size_fault, stored}
+use Rattle.vl_row.specs.Names.{is_among}
 use Rattle.vl_row.specs.declared.row.RowFault.TheVariants.{NameLong, ManyFields, RowLarge, Empty}
+use Rattle.vl_row.proofs.Labels.{IsFieldList-labels}
 use Rattle.vl_row.proofs.Sorted.{IsFieldList-filter}
 
 length-filter-le : {X : Type 0} (p : X → Bool) (xs : List X) → length (filter p xs) ≤ length xs
@@ -84,11 +87,40 @@ weight-exact fields total t h =
     let light = (passes (list_any is_long_named (stored fields)) (length (stored fields)) (weight (stored fields)) h).light in
     omega arith
 
-pub IsRow-stored : (moment : ℕ) (fields : List Field) → moment < 2 ^ 63 → IsFieldList fields → fields_fault (stored fields) ≡ None → IsRow (record { moment = moment; fields = stored fields })
-IsRow-stored moment fields m rules h =
+-- ---- labels are fields
+
+or_right : (a b : Bool) → b ≡ true → (a || b) ≡ true
+or_right true b h = refl
+or_right false b h = h
+
+has_first : (f : Field) (fs : List Field) → has_field (f ∷ fs) f ≡ true
+has_first f fs =
+    let name : bytes_eq f.0 f.0 ≡ true = (bytes_eq-Decides f.0 f.0).1 refl in
+    let value : bytes_eq f.1 f.1 ≡ true = (bytes_eq-Decides f.1 f.1).1 refl in
+    rw (name, value) refl
+
+has_more : (f : Field) (fs labels : List Field) → IsTrue (list_all (has_field fs) labels) → IsTrue (list_all (has_field (f ∷ fs)) labels)
+has_more f fs [] h = refl
+has_more f fs (label ∷ labels) h =
+    let both = and_parts (has_field fs label) (list_all (has_field fs) labels) h in
+    and_from (has_field (f ∷ fs) label) (list_all (has_field (f ∷ fs)) labels) (or_right _ (has_field fs label) both.0) (has_more f fs labels both.1)
+
+-- what a filter keeps is among the fields
+has_kept : (p : Field → Bool) (fields : List Field) → IsTrue (list_all (has_field fields) (filter p fields))
+has_kept p [] = refl
+has_kept p (f ∷ fs) =
+    let rest = has_more f fs (filter p fs) (has_kept p fs) in
+    cond_both (p f) (f ∷ filter p fs) (filter p fs) (λ ys. IsTrue (list_all (has_field (f ∷ fs)) ys))
+    (λ _. and_from (has_field (f ∷ fs) f) (list_all (has_field (f ∷ fs)) (filter p fs)) (has_first f fs) rest) (λ _. rest)
+
+pub IsRow-stored : (moment : ℕ) (names : List (List ℕ)) (fields : List Field) → moment < 2 ^ 63 → IsFieldList fields → fields_fault (stored fields) ≡ None
+    → IsRow (record { moment = moment; labels = labels_of names fields; fields = stored fields })
+IsRow-stored moment names fields m rules h =
     let p = passes (list_any is_long_named (stored fields)) (length (stored fields)) (weight (stored fields)) h in
     record {
       moment = m;
+      labels = IsFieldList-labels names fields rules;
+      labelled = has_kept (λ field. is_among names field.0) (stored fields);
       fields = IsFieldList-filter (λ field. not (is_reserved field.0)) fields rules;
       unreserved = all-filter (λ field. not (is_reserved field.0)) fields;
       some = p.some;

@@ -3,6 +3,7 @@ use Rattle.std.specs.Prelude.{ℕ, ℤ, Bool, ◌-◌, ◌^◌, min, not, List, 
 use Rattle.std.specs.List.{list_any}
 use Rattle.log_model.specs.Field.{Field, is_reserved, weight}
 use Rattle.log_model.specs.Row.{Row, batch_weight}
+use Rattle.vl_row.specs.Names.{is_among}
 use Rattle.vl_row.specs.declared.row.RowFault.{RowFault}
 use Rattle.vl_row.specs.declared.row.RowFault.TheVariants.{TimeRange, NameLong, ManyFields, RowLarge, Empty}
 use Rattle.vl_row.specs.declared.batch.BatchFault.{BatchFault}
@@ -11,6 +12,10 @@ use Rattle.vl_row.specs.declared.batch.BatchFault.TheVariants.{NoRows, Large}
 -- the fields that a row keeps: those whose names are not reserved
 abbrev pub stored : List Field → List Field
 stored fields = filter (λ field. not (is_reserved field.0)) fields
+
+-- the labels of a row of these fields: those that it keeps and whose names are listed
+abbrev pub labels_of : List (List ℕ) → List Field → List Field
+labels_of names fields = filter (λ field. is_among names field.0) (stored fields)
 
 abbrev pub is_long_named : Field → Bool
 is_long_named field = nat_lt 128 (length field.0)

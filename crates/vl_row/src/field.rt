@@ -1,6 +1,7 @@
-ghost use Rattle.std.specs.Prelude.{◌≡◌, ◌≤◌, insert, vec_len, ◌<◌, ◌+◌, ◌-◌, ◌^◌, min, [], length, slice_get, IfOk, IfErr, IsTrue, OnOk, OnErr, Some, ◌↔◌};
+ghost use Rattle.std.specs.Prelude.{◌≡◌, ◌≤◌, ◌&&◌, not, insert, vec_len, ◌<◌, ◌+◌, ◌-◌, ◌^◌, min, [], length, slice_get, IfOk, IfErr, IsTrue, OnOk, OnErr, Some, ◌↔◌};
 ghost use Rattle.std.specs.BTreeMap.{insert_entry};
 ghost use Rattle.log_model.specs.Field.{IsFieldList, bytes_cmp, field_value, is_reserved, set_field, without};
+ghost use Rattle.vl_row.specs.Names.{is_among};
 ghost use Rattle.vl_row.specs.Place.{IsAt, IsGapAt, IsInOrder};
 
 use crate::inline::ROOM;
@@ -37,6 +38,13 @@ impl Field {
         ensures { result.now ≡ self.now.1 }
     {
         self.value.as_str()
+    }
+
+    /// Whether name and value are those of the other field.
+    pub fn is_same(&self, other: &Field) -> bool
+        ensures { IsTrue result ↔ (self.now ≡ other.now) }
+    {
+        self.name() == other.name() && self.value() == other.value()
     }
 
     /// The bytes of the name and the value together, or the largest `u64` where they are more.
@@ -116,7 +124,7 @@ impl Model for FieldList {
 }
 
 impl FieldList {
-    ghost use Rattle.vl_row.specs.Faults.{stored};
+    ghost use Rattle.vl_row.specs.Faults.{labels_of, stored};
 
     /// No fields. This allocates nothing.
     pub fn new(alloc: Global) -> FieldList
@@ -232,6 +240,19 @@ impl FieldList {
         self.fields.retain(|field| !is_reserved(field.name()));
     }
 
+    /// Copies of the fields that a row keeps and whose names are listed.
+    pub(crate) fn labels(&self, alloc: Global, names: &[Text]) -> Result<FieldList, AllocError>
+        ensures { IfOk result (λ list. list ≡ labels_of names.now self.now) }
+    {
+        let mut labels = Vec::new(alloc);
+        for field in &self.fields {
+            if is_label(names, field.name()) {
+                labels.push(field.try_copy(alloc)?)?;
+            }
+        }
+        Ok(FieldList { fields: labels })
+    }
+
     /// Equal fields, in memory of their own, with no room to spare.
     pub fn try_copy(&self, alloc: Global) -> Result<FieldList, AllocError>
         ensures { IfOk result (λ list. list ≡ self.now) }
@@ -284,6 +305,20 @@ pub(crate) fn is_reserved(name: &str) -> bool
     ensures { result ≡ is_reserved name.now }
 {
     name == "_time" || name == "_stream" || name == "_stream_id"
+}
+
+/// Whether a field of this name is a label, where these names are listed.
+fn is_label(names: &[Text], name: &str) -> bool
+    ensures { result ≡ (is_among names.now name.now && not (is_reserved name.now)) }
+{
+    is_among(names, name) && !is_reserved(name)
+}
+
+/// Whether a name is one of these.
+fn is_among(names: &[Text], name: &str) -> bool
+    ensures { result ≡ is_among names.now name.now }
+{
+    names.iter().any(|listed| listed.as_str() == name)
 }
 
 /// Inserts a field. Short texts are written in place, which is faster than moving them there.

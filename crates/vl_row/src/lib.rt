@@ -6,13 +6,17 @@ mod batch;
 mod field;
 mod held;
 mod inline;
+mod items;
 mod row;
 mod row_list;
+mod stream;
 mod text;
 
 pub use batch::{Batch, BatchFault};
 pub use field::{Field, FieldList};
 pub use held::Held;
+pub use items::Items;
 pub use row::{Row, RowFault};
 pub use row_list::RowList;
+pub use stream::Stream;
 pub use text::Text;

@@ -3,6 +3,8 @@ ghost use Rattle.log_model.specs.Field.{field_value, weight};
 ghost use Rattle.log_model.specs.Row.{IsRow};
 
 use crate::field::{Field, FieldList, is_reserved};
+use crate::stream::Stream;
+use crate::text::Text;
 use std::alloc::{AllocError, Global};
 use std::marker::Model;
 
@@ -28,12 +30,15 @@ pub enum RowFault {
     RowLarge,
     /// There is no field.
     Empty,
+    /// There is no memory for the labels.
+    Memory,
 }
 
-/// An event: when it was, and its fields, of which there is at least one.
+/// An event: when it was, its stream, and its fields, of which there is at least one.
 #[derive(Drop)]
 pub struct Row {
     moment: u64,
+    stream: Stream,
     fields: FieldList,
     weight: u64,
 }
@@ -45,19 +50,30 @@ impl Model for Row {
 
     ghost Value = { Event };
 
-    ghost view = { λ r. record { moment = r.moment; fields = r.fields } };
+    ghost view = { λ r. record { moment = r.moment; labels = r.stream; fields = r.fields } };
 
-    ghost invariant = { λ r. IsRow (record { moment = r.moment; fields = r.fields }) × (r.weight ≡ weight_of r.fields) };
+    ghost invariant = { λ r. IsRow (record { moment = r.moment; labels = r.stream; fields = r.fields }) × (r.weight ≡ weight_of r.fields) };
 }
 
 impl Row {
-    ghost use Rattle.vl_row.specs.Faults.{row_fault, stored};
+    ghost use Rattle.std.specs.Prelude.{[], ◌≢◌, unwrap_or};
+    ghost use Rattle.vl_row.specs.Faults.{labels_of, row_fault, stored};
 
     /// A row of this time, in nanoseconds since 1970. Fields named `_time`, `_stream` and `_stream_id` are left out
-    /// first. A refusal gives the fields back as they were, with the first fault of `RowFault` that applies.
-    pub fn try_new(time: i64, mut fields: FieldList) -> Result<Row, (RowFault, FieldList)>
-        ensures ok { IfOk result (λ row. (row_fault time fields ≡ None) × (row ≡ record { moment = unsigned_abs time; fields = stored fields })) }
-        ensures err { IfErr result (λ refused. (row_fault time fields ≡ Some refused.0) × (refused.1 ≡ fields)) }
+    /// first. The labels of its stream are those of the other fields whose names are listed; they stay fields too. A
+    /// refusal gives the fields back as they were, with the first fault of `RowFault` that applies.
+    pub fn try_new(
+        alloc: Global,
+        time: i64,
+        stream_names: &[Text],
+        mut fields: FieldList,
+    ) -> Result<Row, (RowFault, FieldList)>
+        ensures ok { IfOk result (λ row. (row_fault time fields ≡ None)
+            × (row ≡ record { moment = unsigned_abs time; labels = labels_of stream_names.now fields; fields = stored fields })) }
+        // `Memory` only where there is no other fault
+        ensures err { IfErr result (λ refused. (refused.0 ≡ unwrap_or (row_fault time fields) RowFault.Memory) × (refused.1 ≡ fields)) }
+        // without names no memory is taken
+        ensures free { stream_names.now ≡ [] → IfErr result (λ refused. refused.0 ≢ RowFault.Memory) }
         ensures rules { IfOk result IsRow }
     {
         if time < 0 {
@@ -67,11 +83,15 @@ impl Row {
         if let Some(fault) = size.fault() {
             return Err((fault, fields));
         }
+        let Ok(stream) = Stream::of(alloc, stream_names, &fields) else {
+            return Err((RowFault::Memory, fields));
+        };
         if size.fields < fields.len() {
             fields.leave_out_reserved();
         }
         Ok(Row {
             moment: time as u64,
+            stream,
             fields,
             weight: size.weight,
         })
@@ -83,6 +103,13 @@ impl Row {
         ensures range { self.now.moment < 2 ^ 63 }
     {
         self.moment as i64
+    }
+
+    /// The stream that the row belongs to: its labels, which are fields too.
+    pub fn stream(&self) -> &Stream
+        ensures { result.now ≡ self.now.labels }
+    {
+        &self.stream
     }
 
     /// The fields, of which none has a reserved name.
@@ -111,9 +138,11 @@ impl Row {
     pub fn try_copy(&self, alloc: Global) -> Result<Row, AllocError>
         ensures { IfOk result (λ row. row ≡ self.now) }
     {
+        let stream = self.stream.try_copy(alloc)?;
         let fields = self.fields.try_copy(alloc)?;
         Ok(Row {
             moment: self.moment,
+            stream,
             fields,
             weight: self.weight,
         })

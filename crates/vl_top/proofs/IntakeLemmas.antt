@@ -1,5 +1,5 @@
 -- The rows that a line gives.
-use Rattle.std.proofs.Common.{◌≡◌, ℕ, ℤ, pos, ◌<◌, ◌≤◌, Bool, true, false, cond, not, ◌&&◌, ◌||◌, List, [], ◌∷◌, length, refl, ap, sym, subst, ◌∙◌, arith, nat_lt, nat_le, ltb, Option, Some, None, unsigned_abs, negsuc, ◌≤ℤ◌, filter, bytes_eq}
+use Rattle.std.proofs.Common.{◌≡◌, ℕ, ℤ, pos, ◌<◌, ◌≤◌, Bool, true, false, cond, not, ◌&&◌, ◌||◌, List, [], ◌∷◌, length, refl, ap, sym, subst, ◌∙◌, arith, nat_lt, nat_le, ltb, Option, Some, None, unwrap_or, unsigned_abs, negsuc, ◌≤ℤ◌, filter, bytes_eq}
 use Rattle.std.proofs.lemmas.Bool.Decides.{nat_tests}
 use Rattle.std.proofs.lemmas.Int.{ints}
 use Rattle.std.specs.Prelude.{int_lt}
@@ -12,8 +12,9 @@ use Rattle.log_model.specs.Line.{is_blank, is_free, IsLine}
 use Rattle.log_model.specs.Intake.{Gives}
 use Rattle.log_model.specs.Row.{IsRow}
 use Rattle.vl_row.specs.declared.row.RowFault.{RowFault}
-use Rattle.vl_row.specs.declared.row.RowFault.TheVariants.{TimeRange}
-use Rattle.vl_row.specs.Faults.{fields_fault, is_long_named, row_fault, size_fault, stored}
+use Rattle.vl_row.specs.declared.row.RowFault.TheVariants.{TimeRange, Memory}
+use Rattle.vl_row.specs.Faults.{fields_fault, is_long_named, labels_of, row_fault, size_fault, stored}
+use Rattle.vl_row.specs.Names.{is_among}
 use Rattle.vl_top.specs.declared.intake.Outcome.{Outcome}
 use Rattle.vl_top.specs.declared.intake.Outcome.TheVariants.{PassedOver, Read, Refused}
 use Rattle.vl_top.specs.Intake.{outcome_of, IsMade}
@@ -98,21 +99,29 @@ no_fault long count size short few light some =
     let empty : nat_lt count 1 ≡ false = grind (arith, nat_tests) in
     rw (short, many, large, empty) refl
 
-second : (b : Bool) (x y z : Option RowFault) → b ≡ false → cond b x y ≡ z → y ≡ z
+second : (b : Bool) (x y z : Option RowFault) → b ≡ false → y ≡ z → cond b x y ≡ z
 second true x y z p e = absurd (cc)
 second false x y z p e = e
 
 not_below : (n : ℕ) → ltb n 0 ≡ false
 not_below n = grind (arith, nat_tests)
 
--- a refusal comes only where the fields make no row
-pub not_made : (time : ℤ) (fields : List Field) (fault : RowFault) → pos 0 ≤ℤ time → row_fault time fields ≡ Some fault
-    → IsRow (record { moment = unsigned_abs time; fields = stored fields }) → ⊥
-not_made (pos n) fields fault low e row =
+-- a refusal that is not for want of memory comes only where the fields make no row
+pub not_made : (time : ℤ) (fields : List Field) (fault : RowFault) → pos 0 ≤ℤ time → fault ≡ unwrap_or (row_fault time fields) Memory → (fault ≡ Memory → ⊥)
+    → IsRow (record { moment = unsigned_abs time; labels = []; fields = stored fields }) → ⊥
+not_made (pos n) fields fault low e other row =
     let none : fields_fault (stored fields) ≡ None = no_fault _ _ _ (none_long (stored fields) row.short) row.few row.light row.some in
-    let some = second (int_lt (pos n) (pos 0)) (Some TimeRange) (fields_fault (stored fields)) (Some fault) (not_below n) e in
-    absurd (cc (none, some))
-not_made (negsuc n) fields fault low e row = absurd (omega (arith, ints))
+    let whole : row_fault (pos n) fields ≡ None = second (int_lt (pos n) (pos 0)) (Some TimeRange) (fields_fault (stored fields)) None (not_below n) none in
+    other (e ∙ ap (λ found. unwrap_or found Memory) whole)
+not_made (negsuc n) fields fault low e other row = absurd (omega (arith, ints))
+
+-- no name is listed, so there are no labels
+pub no_labels : (fields : List Field) → labels_of [] fields ≡ []
+no_labels fields = none (stored fields)
+  where
+    none : (kept : List Field) → filter (λ field. is_among [] field.0) kept ≡ []
+    none [] = refl
+    none (f ∷ fs) = none fs
 
 stored_same : (fields members : List Field) → fields ≡ set_all [] members → list_all (λ member. is_free member.0) members ≡ true → stored fields ≡ set_all [] members
 stored_same fields members e free = rw e (stored_all (set_all [] members) (set_all_unreserved members free))
@@ -128,13 +137,13 @@ gives_made now line fields members (Read row) text short is_line same only made 
     short = short;
     members = members;
     is_line = is_line;
-    is_read = made.0 ∙ ap (λ fs. record { moment = now; fields = fs }) (stored_same fields members same is_line.free);
+    is_read = made.0 ∙ ap (λ fs. record { moment = now; labels = []; fields = fs }) (stored_same fields members same is_line.free);
     is_row = made.1;
   },
 )
 gives_made now line fields members Refused text short is_line same only made = (
   text,
   λ row is_read. made (subst IsRow
-      (is_read.is_read ∙ ap (λ fs. record { moment = now; fields = fs }) (sym (stored_same fields is_read.members (only is_read.members is_read.is_line) is_read.is_line.free)))
+      (is_read.is_read ∙ ap (λ fs. record { moment = now; labels = []; fields = fs }) (sym (stored_same fields is_read.members (only is_read.members is_read.is_line) is_read.is_line.free)))
       is_read.is_row),
 )

@@ -1,5 +1,5 @@
 -- What becomes of lines, as the program keeps it.
-use Rattle.std.specs.Prelude.{◌≡◌, ◌+◌, ◌++◌, ℕ, List, string_bytes}
+use Rattle.std.specs.Prelude.{◌≡◌, ◌+◌, ◌++◌, ℕ, List, [], string_bytes}
 use Rattle.log_model.specs.Field.{Field}
 use Rattle.log_model.specs.Row.{IsRow}
 use Rattle.log_model.specs.Intake as model
@@ -16,8 +16,8 @@ outcome_of Refused = model.refused
 -- the row of these fields, or none where they make no row
 abbrev pub IsMade : ℕ → List Field → Outcome → Type 0
 IsMade now fields PassedOver = ⊥
-IsMade now fields (Read row) = (row ≡ record { moment = now; fields = stored fields }) × IsRow row
-IsMade now fields Refused = IsRow (record { moment = now; fields = stored fields }) → ⊥
+IsMade now fields (Read row) = (row ≡ record { moment = now; labels = []; fields = stored fields }) × IsRow row
+IsMade now fields Refused = IsRow (record { moment = now; labels = []; fields = stored fields }) → ⊥
 
 -- Each line of the body has its outcome. These are the rows, and the text that names the refused lines, where so many
 -- lines came before.

@@ -7,7 +7,7 @@ ghost use Rattle.vl_top.specs.Query.{meaning};
 
 use crate::query::Query;
 use log_core::Snapshot;
-use lq_pipes::write_row;
+use lq_pipes::Printer;
 use std::alloc::{AllocError, Global};
 use vl_row::{Row, RowList};
 
@@ -20,9 +20,11 @@ pub fn snapshot_lines(
     ensures { IfOk result (λ text. text.items
         ≡ lines_text (evaluation (meaning query.now) (flat_map rows_in (parts_of snapshot.now)))) }
 {
+    let mut printer = Printer::new(alloc)?;
     let mut text = Vec::new(alloc);
     for i in 0..snapshot.len() {
-        push_lines(alloc, query, snapshot.part(i).as_slice(), &mut text)?;
+        let rows = snapshot.part(i).as_slice();
+        push_lines(alloc, query, rows, &mut printer, &mut text)?;
     }
     Ok(text)
 }
@@ -32,13 +34,14 @@ fn push_lines(
     alloc: Global,
     query: &Query,
     rows: &[Row],
+    printer: &mut Printer,
     text: &mut Vec<u8>,
 ) -> Result<(), AllocError>
     ensures { OnOk result (text.new.items ≡ text.old.items ++ lines_text (evaluation (meaning query.now) rows.now)) }
 {
     for row in rows {
         if query.holds(row) {
-            write_row(alloc, row, text)?;
+            printer.write_row(alloc, row, text)?;
         }
     }
     Ok(())

@@ -18,12 +18,12 @@ pub enum Outcome {
     Refused,
 }
 
-/// The row of these fields at the moment `now`.
-fn row_of(now: i64, fields: FieldList) -> Outcome
+/// The row of these fields at the moment `now`. It has no labels, so it takes no memory.
+fn row_of(alloc: Global, now: i64, fields: FieldList) -> Outcome
     requires { pos 0 ≤ℤ now }
     ensures { IsMade (unsigned_abs now) fields result }
 {
-    match Row::try_new(now, fields) {
+    match Row::try_new(alloc, now, &[], fields) {
         Ok(row) => Outcome::Read(row),
         Err(_) => Outcome::Refused,
     }
@@ -42,7 +42,7 @@ fn read_line(alloc: Global, now: i64, line: &[u8], room: usize) -> Result<Outcom
     }
     let mut fields = FieldList::with_room(alloc, room)?;
     match fields_of(alloc, line, &mut fields) {
-        Ok(()) => Ok(row_of(now, fields)),
+        Ok(()) => Ok(row_of(alloc, now, fields)),
         Err(JsonFault::NotBuilt { .. }) => Ok(Outcome::Refused),
         Err(JsonFault::Memory) => Err(AllocError),
     }

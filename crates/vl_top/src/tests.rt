@@ -3,10 +3,12 @@
 //! The expected texts are worked by hand from the rules in `docs/`.
 mod lines;
 mod moments;
+mod objects;
 mod outside;
 mod records;
 mod rows;
 mod shelf;
+mod streams;
 mod words;
 
 use crate::run::run;

@@ -5,7 +5,7 @@ use std::test::Fail;
 use vl_row::FieldList;
 
 // The fields in their order, each as `name=value;`.
-fn shown(alloc: Global, fields: &FieldList) -> Result<String, AllocError> {
+pub(super) fn shown(alloc: Global, fields: &FieldList) -> Result<String, AllocError> {
     let mut text = String::new(alloc);
     for field in fields.as_slice() {
         text.push_str(field.name())?;

@@ -1,5 +1,5 @@
 //! Printed records (`lq_pipes`).
-use lq_pipes::{plain, write_row};
+use lq_pipes::{Printer, plain};
 use std::alloc::Global;
 use std::process::Abort;
 use std::test::Fail;
@@ -12,7 +12,11 @@ fn row_of(alloc: Global, time: i64, fields: &[(&str, &str)]) -> Result<Row, Fail
             list.set(alloc, name, value)?;
         }
     }
-    Ok(Row::try_new(time, list).ok().ok_or("a fault of the row")?)
+    Ok(
+        Row::try_new(alloc, time, &[], list)
+            .ok()
+            .ok_or("a fault of the row")?,
+    )
 }
 
 /// Both bodies append this line to an output that holds something already.
@@ -25,7 +29,7 @@ fn check(
 ) -> Result<(), Fail> {
     let row = row_of(alloc, time, fields)?;
     let mut out = Vec::from_slice(alloc, b"before\n")?;
-    write_row(alloc, &row, &mut out)?;
+    Printer::new(alloc)?.write_row(alloc, &row, &mut out)?;
     plain::write_row(alloc, &row, &mut out)?;
     let expected = format!(in alloc; "before\n{line}\n{line}\n")?;
     assert!(rt; out.as_slice() == expected.as_bytes(), "{line}");

@@ -115,7 +115,7 @@ struct Made {
 fn is_answered(alloc: Global, made: Made, fault: Option<RowFault>) -> Result<bool, AllocError> {
     let list = fields_like(alloc, made.fields, made.name_len, made.value_len)?;
     let len = list.len();
-    match Row::try_new(made.time, list) {
+    match Row::try_new(alloc, made.time, &[], list) {
         Ok(row) => { Ok(fault.is_none() && row.time() == made.time && row.fields().len() == len) }
         Err((found, list)) => Ok(fault == Some(found) && list.len() == len),
     }
@@ -161,7 +161,7 @@ fn leaves_out(alloc: Global) -> Result<bool, AllocError> {
     let mut list = list_of(alloc, &RESERVED)?;
     list.set(alloc, "_times", "k")?;
     list.set(alloc, "a", "1")?;
-    let Ok(row) = Row::try_new(7, list) else {
+    let Ok(row) = Row::try_new(alloc, 7, &[], list) else {
         return Ok(false);
     };
     let row = row.try_copy(alloc)?;
@@ -175,7 +175,7 @@ fn leaves_out(alloc: Global) -> Result<bool, AllocError> {
 
 /// Whether a row of reserved names alone is refused, and gives them back.
 fn gives_back(alloc: Global) -> Result<bool, AllocError> {
-    let Err((fault, list)) = Row::try_new(7, list_of(alloc, &RESERVED)?) else {
+    let Err((fault, list)) = Row::try_new(alloc, 7, &[], list_of(alloc, &RESERVED)?) else {
         return Ok(false);
     };
     Ok(
@@ -194,7 +194,7 @@ fn rows_leave_out_reserved_names(rt: HostRuntime) -> Result<(), Fail> {
 fn is_batch(alloc: Global, count: usize, fault: Option<BatchFault>) -> Result<bool, AllocError> {
     let mut list = FieldList::new(alloc);
     list.set(alloc, "a", repeated(alloc, 262_143)?.as_str())?;
-    let Ok(heavy) = Row::try_new(0, list) else {
+    let Ok(heavy) = Row::try_new(alloc, 0, &[], list) else {
         return Ok(false);
     };
     let mut rows = Vec::new(alloc);

@@ -9,7 +9,7 @@ use vl_row::{Batch, FieldList, Held, Row, RowList};
 fn batch_of(alloc: Global, message: &str) -> Result<Option<Batch>, AllocError> {
     let mut fields = FieldList::new(alloc);
     fields.set(alloc, "_msg", message)?;
-    let Ok(row) = Row::try_new(0, fields) else {
+    let Ok(row) = Row::try_new(alloc, 0, &[], fields) else {
         return Ok(None);
     };
     let mut rows = Vec::new(alloc);

@@ -1,5 +1,6 @@
 use Rattle.std.proofs.lemmas.Result.{on_ok_weaker}
-use Rattle.std.proofs.Common.{◌∙◌}
+use Rattle.std.proofs.Common.{ap, ◌∙◌}
+use Rattle.log_model.specs.Stream.{label_text, stream_id}
 use Rattle.lq_pipes.proofs.Merged.{tokens-record_of}
 use Rattle.lq_pipes.proofs.record.write_record.Goals as goal
 
@@ -9,6 +10,7 @@ returns-clause-ok c =
     let id = c.in_ok-fields-2.ensures in
     let time = c.in_ok-fields-3.ensures in
     on_ok_weaker c.write_members.result
-    (λ written. written ∙ tokens-record_of c.args.row.now c.fields.ensures.rules _ _ _ _ _ _ _ _ _
-    (c.as_slice-fields.ensures.value ∙ c.fields.ensures.value) c.requires stream.ok stream.rest id.ok id.rest time.ok time.rest)
+    (λ written. written ∙ tokens-record_of c.args.row.now c.fields.ensures.rules _ _ _ _ _ _ _ _ _ _ _
+    (c.as_slice-fields.ensures.value ∙ c.fields.ensures.value) (c.text.ensures ∙ ap label_text c.requires.stream)
+    (c.id.ensures ∙ ap stream_id c.requires.stream) c.requires.time stream.ok stream.rest id.ok id.rest time.ok time.rest)
     c.write_members.ensures.ok

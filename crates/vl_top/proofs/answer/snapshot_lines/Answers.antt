@@ -7,5 +7,5 @@ use Rattle.vl_top.proofs.answer.snapshot_lines.Goals as goal
 
 pub loop-i-preserved : goal.loop-i-preserved
 loop-i-preserved c =
-    lines-written (meaning c.args.query.now) (parts_of c.args.snapshot.now) c.loop-i.i _ c.as_slice.result.now c.loop-i.text.items c.push_lines.new.text.items
-    c.part.ensures (c.as_slice.ensures ∙ ap rows_in c.deref.ensures) c.loop-i.invariant c.in_ok-push_lines.ensures
+    lines-written (meaning c.args.query.now) (parts_of c.args.snapshot.now) c.loop-i.i _ c.as_slice-rows.result.now c.loop-i.text.items c.push_lines.new.text.items
+    c.part.ensures (c.as_slice-rows.ensures ∙ ap rows_in c.deref.ensures) c.loop-i.invariant c.in_ok-push_lines.ensures

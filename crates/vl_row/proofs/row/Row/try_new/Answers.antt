@@ -31,9 +31,9 @@ late c = rw (same_time c) at c.if-time-lt0.false
 below : (time : ℤ) → FitsSigned w64 time → int_lt time (pos 0) ≡ false → unsigned_abs time < 2 ^ 63
 below time fits late = omega (arith, ints)
 
-rules_kept : (c : Joined-size-len) → IsRow (record { moment = unsigned_abs (to_z w64 (of_z w64 c.args.time)); fields = c.if-size-len.fields })
+rules_kept : (c : Joined-size-len) → IsRow (record { moment = unsigned_abs (to_z w64 (of_z w64 c.args.time)); labels = c.in-Ok.stream; fields = c.if-size-len.fields })
 rules_kept c =
-    rw (same_time c, kept c) (IsRow-stored (unsigned_abs c.args.time) c.args.fields (below c.args.time c.ranges.time (late c)) c.as_slice.ensures.rules (faultless c))
+    rw (same_time c, c.in-Ok.ensures.ok, kept c) (IsRow-stored (unsigned_abs c.args.time) c.args.stream_names.now c.args.fields (below c.args.time c.ranges.time (late c)) c.as_slice.ensures.rules (faultless c))
 
 pub invariant_of-result : goal.invariant_of-result
 invariant_of-result c =
@@ -41,7 +41,7 @@ invariant_of-result c =
     (rules_kept c, weight-exact c.args.fields c.of-size.result.weight h.weight (faultless c) ∙ ap weight (sym (kept c)))
 
 pub returns-clause-ok : goal.returns-clause-ok
-returns-clause-ok c = (rw (late c) (faultless c), rw (same_time c, kept c) refl)
+returns-clause-ok c = (rw (late c) (faultless c), rw (same_time c, c.in-Ok.ensures.ok, kept c) refl)
 
 pub returns-clause-rules : goal.returns-clause-rules
 returns-clause-rules c = rules_kept c

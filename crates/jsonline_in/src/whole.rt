@@ -1,0 +1,13 @@
+//! Lines of JSON as fields: each line one object, of any values (RFC 8259).
+
+mod bare;
+mod copy;
+mod escape;
+mod fault;
+mod scan;
+mod set;
+mod stop;
+mod text;
+
+pub use fault::JsonFault;
+pub use set::fields_of;

@@ -1,0 +1,64 @@
+// Single bytes, and runs of digits. Each scanner gives the text behind what it read.
+ghost use Rattle.std.specs.Prelude.{◌≡◌, ℕ, ◌<◌, ◌++◌, List, length};
+ghost use Rattle.std.specs.List.{prefix_len};
+ghost use Rattle.std.specs.Char.{is_ascii_digit, is_ascii_hexdigit};
+ghost use Rattle.jsonline_in.specs.ObjectReading.{expect, one_of, digits_end, front_of};
+ghost use Rattle.jsonline_in.specs.ObjectClauses.{Gives};
+
+use crate::scan::past;
+use crate::whole::stop::Stop;
+
+#[tactic(auto, unfolding(crate::specs::ObjectReading::expect))]
+#[inline]
+pub(crate) fn expect(text: &str, byte: u8) -> Result<&str, Stop>
+    requires { byte < 128 }
+    ensures { Gives (λ rest. (tt, rest.now)) result (expect byte text.now) }
+{
+    match past(text, byte) {
+        Some(rest) => Ok(rest),
+        None => Err(Stop::Stuck { left: text.len() }),
+    }
+}
+
+/// What stands before the rest of a text.
+#[inline]
+pub(crate) fn front<'a>(text: &'a str, rest: &str) -> &'a str
+    requires { (taken : List ℕ) × (text.now ≡ taken ++ rest.now) }
+    ensures { result.now ≡ front_of text.now rest.now }
+{
+    &text[..text.len() - rest.len()]
+}
+
+#[inline]
+fn digits_len(bytes: &[u8]) -> usize
+    ensures { result ≡ prefix_len is_ascii_digit bytes.now }
+{
+    bytes
+        .iter()
+        .take_while(|byte| byte.is_ascii_digit())
+        .count()
+}
+
+/// One decimal digit or more.
+#[tactic(auto, using(crate::proofs::ObjectCuts::digits_cut), unfolding(crate::specs::ObjectReading::digits_end))]
+#[inline]
+pub(crate) fn digits(text: &str) -> Result<&str, Stop>
+    ensures { Gives (λ rest. (tt, rest.now)) result (digits_end text.now) }
+{
+    let len = digits_len(text.as_bytes());
+    if len == 0 {
+        return Err(Stop::Stuck { left: text.len() });
+    }
+    Ok(&text[len..])
+}
+
+/// One hexadecimal digit.
+#[tactic(auto, using(crate::proofs::ObjectCuts::hex_cut), unfolding(crate::specs::ObjectReading::one_of))]
+pub(crate) fn hex(text: &str) -> Result<(u8, &str), Stop>
+    ensures { Gives (λ x. (x.0, x.1.now)) result (one_of is_ascii_hexdigit text.now) }
+{
+    match text.as_bytes() {
+        [first, ..] if first.is_ascii_hexdigit() => Ok((*first, &text[1..])),
+        _ => Err(Stop::Stuck { left: text.len() }),
+    }
+}

@@ -1,0 +1,23 @@
+// Where reading stops, before the line that is read is known.
+ghost use Rattle.std.specs.Prelude.{◌≡◌};
+ghost use Rattle.jsonline_in.specs.declared.whole.stop.Stop.TheVariants.{Memory};
+
+use std::alloc::AllocError;
+
+/// Why the fields were not all set.
+#[derive(Clone, Copy)]
+pub(crate) enum Stop {
+    /// The 65th bracket would be open.
+    TooDeep,
+    /// No object goes on so. The bytes from there on are left.
+    Stuck { left: usize },
+    Memory,
+}
+
+impl From<AllocError> for Stop {
+    ghost from_gives = { λ _ e. e ≡ Memory };
+
+    fn from(_e: AllocError) -> Stop {
+        Stop::Memory
+    }
+}

@@ -1,0 +1,72 @@
+// Strings: where they end, and their text.
+ghost use Rattle.std.specs.Prelude.{◌≡◌, ◌++◌, List, [], map, take, drop, IfOk, IfSome, string_bytes};
+ghost use Rattle.std.specs.Option.{option_map};
+ghost use Rattle.std.specs.List.{prefix_len};
+ghost use Rattle.log_model.specs.Json.{is_plain};
+ghost use Rattle.log_model.specs.Token.{Character, plain, string_text, text_behind};
+ghost use Rattle.jsonline_in.specs.ObjectReading.{characters_at};
+ghost use Rattle.jsonline_in.specs.ObjectClauses.{Gives, mapped, or_empty};
+
+use crate::run::plain_len;
+use crate::scan::past;
+use crate::whole::escape::{escaped, push_alone, push_escape};
+use crate::whole::scan::expect;
+use crate::whole::stop::Stop;
+use std::alloc::AllocError;
+
+/// Appends the unescaped characters at the front, which come right behind a code unit, or behind none, which is 0.
+/// Gives what follows them, and the code unit that it comes behind.
+#[tactic(auto, using(crate::proofs::Cuts::plain_cut))]
+fn push_run<'a>(out: &mut String, before: u32, text: &'a str) -> Result<(&'a str, u32), AllocError>
+    ensures rest { IfOk result (λ x. x.0.now ≡ drop (prefix_len is_plain text.now) text.now) }
+    ensures text { IfOk result (λ x. (more : List Character) →
+        string_bytes out.old ++ text_behind before (map plain (take (prefix_len is_plain text.now) text.now) ++ more)
+        ≡ string_bytes out.new ++ text_behind x.1 more) }
+{
+    let (run, rest) = text.split_at(plain_len(text.as_bytes()));
+    if run.is_empty() {
+        return Ok((rest, before));
+    }
+    push_alone(out, before)?;
+    out.push_str(run)?;
+    Ok((rest, 0))
+}
+
+/// Appends the text of the string behind its opening quotation mark, and gives what follows the closing one.
+#[inline(never)]
+fn decode<'a>(text: &'a str, out: &mut String) -> Result<&'a str, Stop>
+    ensures { Gives (λ rest. (string_bytes out.new, rest.now)) result
+        (mapped (λ characters. string_bytes out.old ++ string_text characters) (characters_at text.now)) }
+{
+    let mut rest = text;
+    let mut before = 0;
+    'characters: loop {
+        let (after, unit) = push_run(out, before, rest)?;
+        if let Some(end) = past(after, b'"') {
+            push_alone(out, unit)?;
+            return Ok(end);
+        }
+        let (escape, next) = escaped(expect(after, b'\\')?)?;
+        before = push_escape(out, unit, escape)?;
+        rest = next;
+    }
+}
+
+/// The text of the string behind its opening quotation mark, and what follows the closing one. Where a character is
+/// escaped, the text is appended to `out` instead.
+#[tactic(auto, using(crate::proofs::Cuts::plain_cut))]
+#[inline(always)]
+pub(crate) fn string<'a>(
+    text: &'a str,
+    out: &mut String,
+) -> Result<(Option<&'a str>, &'a str), Stop>
+    ensures read { Gives (λ x. (string_bytes out.new ++ or_empty (option_map (λ t. t.now) x.0), x.1.now)) result
+        (mapped (λ characters. string_bytes out.old ++ string_text characters) (characters_at text.now)) }
+    ensures kept { IfOk result (λ x. IfSome x.0 (λ _. string_bytes out.new ≡ string_bytes out.old)) }
+{
+    let (content, rest) = text.split_at(plain_len(text.as_bytes()));
+    match past(rest, b'"') {
+        Some(rest) => Ok((Some(content), rest)),
+        None => Ok((None, decode(text, out)?)),
+    }
+}

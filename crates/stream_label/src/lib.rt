@@ -1,0 +1,67 @@
+//! The text of a stream's labels, and the id of the stream.
+#![tactic(auto)]
+
+ghost use Rattle.std.specs.Prelude.{◌≡◌, [], ◌∷◌, ◌++◌, cond, IfOk, OnOk, OnErr, string_bytes};
+ghost use Rattle.json.specs.Print.{quoted};
+ghost use Rattle.log_model.specs.Stream.{label_text, labelled, stream_id};
+
+use serde_json::Value;
+use sha2::{Digest, Sha256};
+use std::alloc::{AllocError, Global};
+use vl_row::{Field, Stream, Text};
+
+/// How many bytes of the digest are the id.
+const ID_BYTES: usize = 16;
+
+/// Appends the text of the stream's labels, as `{a="x",b="y"}`.
+pub fn label_text(alloc: Global, s: &Stream, out: &mut Text) -> Result<(), AllocError>
+    ensures ok { OnOk result (out.new ≡ out.old ++ label_text s.now) }
+    ensures err { OnErr result (out.new ≡ out.old) }
+{
+    let text = text_of(alloc, s.as_slice())?;
+    out.push_str(alloc, text.as_str())
+}
+
+/// Appends the stream's id: the first half of the SHA-256 of its labels' text, in hexadecimal digits.
+#[tactic(auto, unfolding(log_model::specs::Stream::stream_id))]
+pub fn stream_id(alloc: Global, s: &Stream, out: &mut Text) -> Result<(), AllocError>
+    ensures ok { OnOk result (out.new ≡ out.old ++ stream_id s.now) }
+    ensures err { OnErr result (out.new ≡ out.old) }
+{
+    let text = text_of(alloc, s.as_slice())?;
+    let id = hex::encode(alloc, &Sha256::digest(text.as_bytes())[..ID_BYTES])?;
+    out.push_str(alloc, id.as_str())
+}
+
+fn text_of(alloc: Global, labels: &[Field]) -> Result<String, AllocError>
+    ensures { IfOk result (λ text. string_bytes text ≡ label_text labels.now) }
+{
+    let mut text = String::from_str(alloc, "{")?;
+    for (place, label) in labels.iter().enumerate() {
+        push_label(alloc, place > 0, label, &mut text)?;
+    }
+    text.push('}')?;
+    Ok(text)
+}
+
+/// Appends a label, with a comma before it if it comes later than another.
+fn push_label(alloc: Global, later: bool, label: &Field, out: &mut String) -> Result<(), AllocError>
+    ensures { OnOk result (string_bytes out.new
+        ≡ string_bytes out.old ++ (cond later (44 ∷ []) [] ++ labelled label.now)) }
+{
+    if later {
+        out.push(',')?;
+    }
+    out.push_str(label.name())?;
+    out.push('=')?;
+    push_quoted(alloc, label.value(), out)
+}
+
+/// Appends a text as a JSON text.
+fn push_quoted(alloc: Global, text: &str, out: &mut String) -> Result<(), AllocError>
+    ensures { OnOk result (string_bytes out.new ≡ string_bytes out.old ++ quoted text.now) }
+{
+    let value = Value::String(String::from_str(alloc, text)?);
+    let printed = value.to_string(alloc)?;
+    out.push_str(printed.as_str())
+}
