@@ -32,6 +32,7 @@ impl<P> Snapshot<P> {
     pub fn settled(&self) -> u64
         ensures { result ≡ self.now.settled }
     {
+        // What a snapshot holds is known where one of its fields is named.
         let _ = &self.parts;
         0
     }

@@ -1,5 +1,5 @@
 //! The record of a row: its fields, and the fields that are computed from it.
-ghost use Rattle.std.specs.Prelude.{◌≡◌, ◌++◌, OnOk, OnErr, IfOk};
+ghost use Rattle.std.specs.Prelude.{◌≡◌, [], ◌++◌, OnOk, OnErr, IfOk};
 ghost use Rattle.log_model.specs.Moment.{moment_text};
 ghost use Rattle.log_model.specs.Print.{line_text};
 ghost use Rattle.log_model.specs.Row.{record_of};
@@ -23,7 +23,9 @@ pub struct Printer {
 
 impl Printer {
     /// A printer that has printed no row yet.
-    pub fn new(alloc: Global) -> Result<Printer, AllocError> {
+    pub fn new(alloc: Global) -> Result<Printer, AllocError>
+        ensures { IfOk result (λ printer. printer.stream ≡ []) }
+    {
         let stream = PrintedStream::of(alloc, Stream::new(alloc))?;
         Ok(Printer { stream })
     }

@@ -1,15 +1,15 @@
 //! The program over objects in memory. Below it, the crates that it stands on: a crate with tests is proved twice, so theirs are here.
 //!
 //! The expected texts are worked by hand from the rules in `docs/`.
-mod lines;
-mod moments;
-mod objects;
-mod outside;
-mod records;
-mod rows;
-mod shelf;
-mod streams;
-mod words;
+mod line_tests;
+mod moment_tests;
+mod object_tests;
+mod outside_tests;
+mod record_tests;
+mod row_tests;
+mod shelf_tests;
+mod stream_tests;
+mod word_tests;
 
 use crate::run::run;
 use std::alloc::AllocError;

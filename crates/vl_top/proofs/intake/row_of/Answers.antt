@@ -1,4 +1,4 @@
-use Rattle.std.proofs.Common.{[], ap, ◌∙◌, refl, unsigned_abs, FitsSigned, w64}
+use Rattle.std.proofs.Common.{ap, ◌∙◌, refl, unsigned_abs, FitsSigned, w64}
 use Rattle.std.proofs.lemmas.Int.{to_z-of_z}
 use Rattle.vl_row.specs.Faults.{stored}
 use Rattle.vl_top.proofs.IntakeLemmas.{no_labels, not_made}

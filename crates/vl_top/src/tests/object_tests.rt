@@ -1,5 +1,5 @@
 //! Lines of JSON of any values (`jsonline_in::whole`).
-use super::lines::shown;
+use super::line_tests::shown;
 use jsonline_in::whole::{JsonFault, fields_of};
 use std::alloc::{AllocError, Global};
 use std::test::Fail;
