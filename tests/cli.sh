@@ -58,7 +58,7 @@ status=$?; without_time "$work/out"; wants "$first" ""
 judge "from a slow pipe, with no line feed at the end" $status 0
 
 printf '{"_msg":"an error: x"}\nx\n' | "$program" pipe error > "$work/out" 2> "$work/err"
-status=$?; without_time "$work/out"; wants "$first" $'line 2: NotBuilt\n'
+status=$?; without_time "$work/out"; wants "$first" $'line 2: NotObject\n'
 judge "a refused line is named" $status 0
 
 "$program" pipe '*' < /dev/null > "$work/out" 2> "$work/err"
@@ -68,8 +68,20 @@ judge "an empty input" $status 0
 "$program" pipe error < "$top/examples/access.jsonl" > "$work/out" 2> "$work/err"
 status=$?
 grep -o '"_msg":"[^"]*"' "$work/out" > "$work/messages"; mv "$work/messages" "$work/out"
-wants $'"_msg":"upstream error: connection reset by peer while reading response header"\n"_msg":"TLS handshake error: no shared cipher"\n"_msg":"请求失败 error 504"\n"_msg":"error"\n' $'line 24: NotBuilt\n'
+wants $'"_msg":"upstream error: connection reset by peer while reading response header"\n"_msg":"TLS handshake error: no shared cipher"\n"_msg":"请求失败 error 504"\n"_msg":"error"\n' $'line 24: NotJson\n'
 judge "the example in the repository" $status 0
+
+# real logs: an nginx access log as JSON, cut in its last line, and the nested log of an application
+fields() { sed 's/"_stream":.*"_time"/"_time"/' "$work/out" > "$work/fields"; mv "$work/fields" "$work/out"; }
+"$program" pipe orders < "$top/examples/nginx.jsonl" > "$work/out" 2> "$work/err"
+status=$?; fields
+wants $'{"_msg":"GET /api/v1/orders/81 HTTP/1.1","_time":"2026-11-27T08:14:03Z","body_bytes_sent":"157","http_user_agent":"Go-http-client/1.1","remote_addr":"203.0.113.19","request_time":"3.001","status":"502","upstream_response_time":"3.000, 0.001"}\n' $'line 6: NotJson\n'
+judge "an access log of nginx" $status 0
+
+"$program" pipe error < "$top/examples/orders.jsonl" > "$work/out" 2> "$work/err"
+status=$?; fields
+wants $'{"_msg":"payment error: card declined","_time":"2026-11-27T08:14:03.002Z","error.code":"card_declined","error.retryable":"false","level":"error","order.customer.id":"c-1042","order.customer.tier":"gold","order.id":"81","order.total":"49.90","trace.id":"4bf92f3577b34da6a3ce929d0e0e4736","trace.sampled":"true"}\n' $'line 5: BadTime\n'
+judge "the nested log of an application" $status 0
 
 "$program" pipe 'a b' < "$work/three" > "$work/out" 2> "$work/err"
 status=$?; wants "" $'query: NotBuilt\n'
@@ -107,7 +119,7 @@ fi
 judge "a closed pipe as output" "$(cat "$work/status")" 4
 
 # lines at the limits of a line and of a row, between two that are read: a line of 1,048,576 bytes, and one more; a name of
-# 128 bytes; 1,000 fields; a weight of 262,144 bytes
+# 128 bytes; 1,000 fields; a weight of 262,144 bytes; and, behind a blank line that is longer than a line may be, 64 open brackets
 many() { head -c "$2" /dev/zero | tr '\0' "$1"; }
 numbered() { seq -f ',"%g":"x"' 2 "$1" | tr -d '\n'; }
 limits() { # END OF THE NAME: what the sizes are raised by
@@ -116,6 +128,7 @@ limits() { # END OF THE NAME: what the sizes are raised by
   printf '{"1":"x"%s}\n' "$(numbered $((1000 + $1)))"
   printf '{"a":"%s"}\n' "$(many v $((262143 + $1)))"
   printf '%s\n' "$(many ' ' 1048577)"
+  printf '{"a":%.0s' $(seq $((64 + $1))); printf '"b"'; printf '}%.0s' $(seq $((64 + $1))); echo
 }
 
 limits 0 | "$program" pipe zebra > "$work/out" 2> "$work/err"
@@ -123,7 +136,7 @@ status=$?; wants "" ""
 judge "lines at their limits" $status 0
 
 limits 1 | "$program" pipe zebra > "$work/out" 2> "$work/err"
-status=$?; wants "" $'line 1: NotBuilt\nline 2: NotBuilt\nline 3: NotBuilt\nline 4: NotBuilt\n'
+status=$?; wants "" $'line 1: LineLong\nline 2: NameLong\nline 3: ManyFields\nline 4: RowLarge\nline 6: TooDeep\n'
 judge "lines above their limits" $status 0
 
 # 2,500 lines are three groups
@@ -137,7 +150,7 @@ judge "2,500 lines in their order" $status 0
 { echo x; seq -f '{"n":"%g"}' 999; seq -f '{"n":"%g"}' 999; echo y; echo z
   value=$(many v 262143); for _ in $(seq 257); do printf '{"a":"%s"}\n' "$value"; done; } > "$work/heavy"
 "$program" pipe error < "$work/heavy" > "$work/out" 2> "$work/err"
-status=$?; wants "" $'line 1: NotBuilt\nline 2000: NotBuilt\nlarge 67371008\n'
+status=$?; wants "" $'line 1: NotObject\nline 2000: NotObject\nlarge 67371008\n'
 judge "a group above the weight of a batch" $status 8
 
 # 4,096 groups with a row, and groups without any between them

@@ -6,11 +6,9 @@ use Rattle.std.specs.Char.{is_ascii_digit, is_ascii_hexdigit}
 use Rattle.std.proofs.lemmas.Bool.{and_parts, and_cases, or_cases, leb-true, eqb-true, cond-false, false_from_ne_true}
 use Rattle.std.proofs.lemmas.List.{drop_at}
 use Rattle.log_model.specs.Token.{Character, plain, short, unicode, is_short, is_character, are_characters, source, are_digits, is_whole, is_fraction, is_sign, is_signed, is_e, is_exponent, IsNumber, Scalar, number, literal, Literal, truth, falsehood, null, scalar_source}
-use Rattle.jsonline_in.specs.Reading.{past}
-use Rattle.jsonline_in.specs.ObjectReading.{Fault, ◌>>=◌, gives, fails, chosen, chosen_by, expect, unicode_at, short_at, escape_at, character_at, characters_at, digits_end, whole_end, fraction_end, signed_end, exponent_end, unsigned_end, number_end, number_at, word_end, literal_of, made_by, bare_at}
-use Rattle.jsonline_in.proofs.Items.{run_again}
+use Rattle.jsonline_in.specs.Reading.{past, Fault, ◌>>=◌, gives, fails, chosen, chosen_by, expect, unicode_at, short_at, escape_at, character_at, characters_at, digits_end, whole_end, fraction_end, signed_end, exponent_end, unsigned_end, number_end, number_at, word_end, literal_of, made_by, bare_at}
 use Rattle.jsonline_in.proofs.Good.{past_again}
-use Rattle.jsonline_in.proofs.Steps.{one_again, digits_or}
+use Rattle.jsonline_in.proofs.Steps.{run_again, one_again, digits_or}
 use Rattle.jsonline_in.proofs.Numbers.{front_is}
 use Rattle.jsonline_in.proofs.Decoding.{done, one_plain, turned, goes_on}
 

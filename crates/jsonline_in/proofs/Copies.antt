@@ -5,9 +5,8 @@ use Rattle.std.specs.List.{prefix_len}
 use Rattle.std.proofs.lemmas.List.{append-nil}
 use Rattle.log_model.specs.Json.{is_plain}
 use Rattle.log_model.specs.Token.{Character, plain, source, string_source, string_text}
-use Rattle.jsonline_in.specs.Reading.{past}
-use Rattle.jsonline_in.specs.ObjectReading.{Fault, characters_at, front_of}
-use Rattle.jsonline_in.specs.ObjectClauses.{mapped}
+use Rattle.jsonline_in.specs.Reading.{past, Fault, characters_at, front_of}
+use Rattle.jsonline_in.specs.Clauses.{mapped}
 use Rattle.jsonline_in.proofs.Good.{reads_of}
 use Rattle.jsonline_in.proofs.Numbers.{front_is}
 use Rattle.jsonline_in.proofs.Texts.{IsTail, good_characters}
@@ -36,15 +35,12 @@ text_of_plain : (run : List ℕ) → string_text (map plain run) ≡ run
 text_of_plain [] = refl
 text_of_plain (byte ∷ run) = ap (λ (t : List ℕ). byte ∷ t) (text_of_plain run)
 
-pub plain_string : (old bytes same after end content : List ℕ) (n : ℕ) → n ≡ prefix_len is_plain same → same ≡ bytes → content ≡ take n bytes → after ≡ drop n bytes → past 34 after ≡ Some end
+pub plain_string : (old bytes content after end : List ℕ) → content ≡ take (prefix_len is_plain bytes) bytes → after ≡ drop (prefix_len is_plain bytes) bytes → past 34 after ≡ Some end
     → mapped (λ characters. old ++ string_text characters) (characters_at bytes) ≡ Ok (old ++ content, end)
-plain_string old bytes same after end content n e f g h k =
-    let m : n ≡ prefix_len is_plain bytes = e ∙ ap (prefix_len is_plain) f in
-    let is : after ≡ drop (prefix_len is_plain bytes) bytes = h ∙ ap (λ (i : ℕ). drop i bytes) m in
-    let all : content ≡ take (prefix_len is_plain bytes) bytes = g ∙ ap (λ (i : ℕ). take i bytes) m in
-    ap (mapped (λ (characters : List Character). old ++ string_text characters)) (run_and_end bytes after is end k)
-    ∙ ap (λ (t : List Character). Ok (old ++ string_text t, end)) (append-nil (run bytes after is))
-    ∙ ap (λ (t : List ℕ). Ok (old ++ t, end)) (text_of_plain (take (prefix_len is_plain bytes) bytes) ∙ sym all)
+plain_string old bytes content after end e f g =
+    ap (mapped (λ (characters : List Character). old ++ string_text characters)) (run_and_end bytes after f end g)
+    ∙ ap (λ (t : List Character). Ok (old ++ string_text t, end)) (append-nil (run bytes after f))
+    ∙ ap (λ (t : List ℕ). Ok (old ++ t, end)) (text_of_plain (take (prefix_len is_plain bytes) bytes) ∙ sym e)
 
 -- ---- sources
 

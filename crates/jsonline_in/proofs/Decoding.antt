@@ -2,16 +2,15 @@
 use Rattle.std.proofs.Common.{◌≡◌, ℕ, suc, ◌+◌, ◌<◌, Bool, true, false, not, ◌||◌, cond, eqb, List, [], ◌∷◌, ◌++◌, length, map, take, drop, Option, Some, None, Result, Ok, Err, refl, sym, ap, subst, ◌∙◌, append_assoc, arith}
 use Rattle.std.specs.Prelude.{nat_le}
 use Rattle.std.specs.List.{prefix_len}
-use Rattle.std.proofs.lemmas.Bool.{and_parts}
+use Rattle.std.proofs.lemmas.Bool.{and_parts, eqb-true}
 use Rattle.std.proofs.lemmas.List.{length-append, length-drop}
 use Rattle.log_model.specs.Json.{is_plain}
 use Rattle.log_model.specs.Token.{Character, plain, alone, text_behind, string_text}
-use Rattle.jsonline_in.specs.Reading.{past}
-use Rattle.jsonline_in.specs.ObjectReading.{Fault, deep, stuck, ◌>>=◌, gives, fails, chosen_by, expect, one_of, escape_at, plain_at, some_of, character_at, put_character, characters_at, turn}
+use Rattle.jsonline_in.specs.Reading.{past, Fault, deep, stuck, ◌>>=◌, gives, fails, chosen_by, expect, one_of, escape_at, plain_at, some_of, character_at, put_character, characters_at, turn}
 use Rattle.std.specs.Result.{IsErrAnd}
-use Rattle.jsonline_in.specs.ObjectClauses.{Fails, Gives, mapped}
-use Rattle.jsonline_in.specs.declared.whole.stop.Stop.{Stop}
-use Rattle.jsonline_in.specs.declared.whole.stop.Stop.TheVariants.{TooDeep, Stuck, Memory}
+use Rattle.jsonline_in.specs.Clauses.{Fails, Gives, mapped}
+use Rattle.jsonline_in.specs.declared.stop.Stop.{Stop}
+use Rattle.jsonline_in.specs.declared.stop.Stop.TheVariants.{TooDeep, Stuck, Memory}
 use Rattle.jsonline_in.proofs.Good.{reads_of, past_takes}
 use Rattle.jsonline_in.proofs.Steps.{one_again, one_stops, none_behind}
 use Rattle.jsonline_in.proofs.Texts.{IsBehind, good_escape, character_shrinks}
@@ -32,15 +31,21 @@ run_set old new now before run more h e f =
     ap (λ (t : List ℕ). old ++ t) (run_behind before run more h) ∙ sym (append_assoc old (alone before) (run ++ text_behind 0 more)) ∙ ap (λ (t : List ℕ). t ++ (run ++ text_behind 0 more)) (sym e)
     ∙ sym (append_assoc now run (text_behind 0 more)) ∙ ap (λ (t : List ℕ). t ++ text_behind 0 more) (sym f)
 
-pub run_taken : (old new now bytes text run : List ℕ) (before n : ℕ) → run ≡ take n text → n ≡ prefix_len is_plain bytes → bytes ≡ text → eqb (length run) 0 ≡ false → now ≡ old ++ alone before → new ≡ now ++ run
-    → (more : List Character) → old ++ text_behind before (map plain (take (prefix_len is_plain text) text) ++ more) ≡ new ++ text_behind 0 more
-run_taken old new now bytes text run before n e f g some h k more =
-    let same : take (prefix_len is_plain text) text ≡ run = ap (λ (t : List ℕ). take (prefix_len is_plain t) text) (sym g) ∙ ap (λ (m : ℕ). take m text) (sym f) ∙ sym e in
-    ap (λ (t : List ℕ). old ++ text_behind before (map plain t ++ more)) same ∙ run_set old new now before run more (long run some) h k
+pub run_taken : (old new now run : List ℕ) (before : ℕ) → eqb (length run) 0 ≡ false → now ≡ old ++ alone before → new ≡ now ++ run
+    → (more : List Character) → old ++ text_behind before (map plain run ++ more) ≡ new ++ text_behind 0 more
+run_taken old new now run before some e f more = run_set old new now before run more (long run some) e f
   where
     long : (run : List ℕ) → eqb (length run) 0 ≡ false → 0 < length run
     long [] e = absurd cc
     long (x ∷ xs) e = omega arith
+
+pub no_run : (old run : List ℕ) (before : ℕ) → eqb (length run) 0 ≡ true → (more : List Character) → old ++ text_behind before (map plain run ++ more) ≡ old ++ text_behind before more
+no_run old [] before none more = refl
+no_run old (byte ∷ run) before none more = absurd (let empty = eqb-true (length (byte ∷ run)) 0 none in omega arith)
+
+pub run_step : (bytes run old new : List ℕ) (before unit : ℕ) → run ≡ take (prefix_len is_plain bytes) bytes → ((more : List Character) → old ++ text_behind before (map plain run ++ more) ≡ new ++ text_behind unit more)
+    → (more : List Character) → old ++ text_behind before (map plain (take (prefix_len is_plain bytes) bytes) ++ more) ≡ new ++ text_behind unit more
+run_step bytes run old new before unit is step more = ap (λ (t : List ℕ). old ++ text_behind before (map plain t ++ more)) (sym is) ∙ step more
 
 -- ---- what is read in one turn
 
@@ -222,13 +227,6 @@ pub record Decoded (old now : List ℕ) (before : ℕ) (rest : List ℕ) (total 
   pub front : List Character
   pub text : (more : List Character) → old ++ string_text (front ++ more) ≡ now ++ text_behind before more
   pub reached : total ≡ (characters_at rest >>= put_front front)
-
-pub none_decoded : (old text : List ℕ) → Decoded old old 0 text (characters_at text)
-none_decoded old text = record { front = []; text = λ more. refl; reached = same (characters_at text) }
-  where
-    same : (r : Result (List Character × List ℕ) Fault) → r ≡ (r >>= put_front [])
-    same (Ok x) = refl
-    same (Err fault) = refl
 
 module _ (old now : List ℕ) (before : ℕ) (rest : List ℕ) (total : Result (List Character × List ℕ) Fault) (d : Decoded old now before rest total) where
   pub more_decoded : (new : List ℕ) (unit : ℕ) (next : List ℕ) (read : List Character) → ((more : List Character) → now ++ text_behind before (read ++ more) ≡ new ++ text_behind unit more) → characters_at rest ≡ (characters_at next >>= put_front read) → Decoded old new unit next total

@@ -4,8 +4,7 @@ use Rattle.std.proofs.Common.{◌≡◌, ℕ, ◌<◌, Bool, true, false, cond, 
 use Rattle.std.proofs.lemmas.List.{length-append}
 use Rattle.std.proofs.lemmas.Bool.{eqb-true, eq-eqb}
 use Rattle.std.proofs.lemmas.Option.{cond_some}
-use Rattle.jsonline_in.specs.Reading.{past}
-use Rattle.jsonline_in.specs.ObjectReading.{Fault, deep, stuck, Reader, ◌>>=◌, gives, fails, chosen_by, chosen, behind}
+use Rattle.jsonline_in.specs.Reading.{past, Fault, deep, stuck, Reader, ◌>>=◌, gives, fails, chosen_by, chosen, behind}
 
 -- the first bytes are the same, or both are at their end
 abbrev pub SameHead : List ℕ → List ℕ → Type 0

@@ -2,9 +2,8 @@
 use Rattle.std.proofs.Common.{◌≡◌, ℕ, List, [], ◌∷◌, ◌++◌, Ok, Err, refl, sym, ap, ◌∙◌, append_assoc}
 use Rattle.log_model.specs.Token.{Character, string_source, Scalar, scalar_source}
 use Rattle.log_model.specs.Value.{Label, named, label_tokens}
-use Rattle.jsonline_in.specs.Reading.{after_space}
-use Rattle.jsonline_in.specs.ObjectReading.{Fault, expect, characters_at, name_at, bare_at, front_of}
-use Rattle.jsonline_in.specs.ObjectClauses.{mapped, compact}
+use Rattle.jsonline_in.specs.Reading.{after_space, Fault, expect, characters_at, name_at, bare_at, front_of}
+use Rattle.jsonline_in.specs.Clauses.{mapped, compact}
 use Rattle.jsonline_in.proofs.Good.{reads_of}
 use Rattle.jsonline_in.proofs.Numbers.{front_is}
 use Rattle.jsonline_in.proofs.Decoding.{done}

@@ -1,13 +1,6 @@
 pub mod Runs
 pub mod Cuts
-pub mod Items
-pub mod Members
-pub mod Lines
-pub mod Places
-pub mod Loop
-pub mod Clauses
 pub mod Good
-pub mod ObjectCuts
 pub mod Turns
 pub mod Steps
 pub mod Numbers

@@ -2,9 +2,8 @@
 use Rattle.std.proofs.Common.{◌≡◌, ℕ, ◌<◌, List, [], ◌∷◌, ◌++◌, length, Option, Some, None, Result, Ok, Err, refl, sym, ap, ◌∙◌, arith}
 use Rattle.std.proofs.lemmas.List.{length-append}
 use Rattle.log_model.specs.Value.{Kind, closing, Label, Value, Items, nothing}
-use Rattle.jsonline_in.specs.Reading.{after_space, past}
-use Rattle.jsonline_in.specs.ObjectReading.{Fault, stuck, Reader, ◌>>=◌, gives, fails, chosen_by, behind, expect, some_of, item_at, other_at, put_item, others_at, first_at, items_at, nested_at, turn}
-use Rattle.jsonline_in.specs.ObjectClauses.{mapped}
+use Rattle.jsonline_in.specs.Reading.{after_space, past, Fault, stuck, Reader, ◌>>=◌, gives, fails, chosen_by, behind, expect, some_of, item_at, other_at, put_item, others_at, first_at, items_at, nested_at, turn}
+use Rattle.jsonline_in.specs.Clauses.{mapped}
 use Rattle.jsonline_in.proofs.Good.{reads_of, past_takes}
 use Rattle.jsonline_in.proofs.Steps.{good_space}
 use Rattle.jsonline_in.proofs.Decoding.{done, expect_past, expect_none}

@@ -5,8 +5,7 @@ use Rattle.std.specs.List.{list_all}
 use Rattle.std.proofs.lemmas.Bool.{and_parts, and_cases, or_cases, leb-true, eqb-true, cond-false, false_from_ne_true}
 use Rattle.std.proofs.lemmas.List.{length-append, take_at}
 use Rattle.log_model.specs.Token.{are_digits, is_whole, is_fraction, is_sign, is_signed, is_exponent, IsNumber}
-use Rattle.jsonline_in.specs.Reading.{past}
-use Rattle.jsonline_in.specs.ObjectReading.{Fault, deep, stuck, ◌>>=◌, gives, chosen, behind, front_of, digits_end, whole_end, fraction_end, signed_end, exponent_end, unsigned_end, number_end, number_at}
+use Rattle.jsonline_in.specs.Reading.{past, Fault, deep, stuck, ◌>>=◌, gives, chosen, behind, front_of, digits_end, whole_end, fraction_end, signed_end, exponent_end, unsigned_end, number_end, number_at}
 use Rattle.jsonline_in.proofs.Good.{Reach, GoodAt, Good, good_both, good_gives, good_behind, good_chosen, good_wider}
 use Rattle.jsonline_in.proofs.Steps.{good_digits_at, good_digits}
 

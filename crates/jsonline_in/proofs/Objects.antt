@@ -3,16 +3,16 @@ use Rattle.std.proofs.Common.{◌≡◌, ℕ, suc, ◌+◌, ◌-◌, ◌<◌, �
 use Rattle.std.specs.Prelude.{IsUtf8}
 use Rattle.std.proofs.lemmas.Bool.{cases_lt}
 use Rattle.std.proofs.lemmas.List.{length-append, append-nil, take_at, take-append-drop, take-append-le}
-use Rattle.log_model.specs.Field.{Field}
+use Rattle.log_model.specs.Field.{Field, set_all}
 use Rattle.log_model.specs.Json.{IsSpace}
 use Rattle.log_model.specs.Value.{object, Items, nothing, item, AreItems, all_within, series, IsSpelled, IsObjectText, member_fields}
 use Rattle.log_model.specs.ObjectLine.{is_shallow, IsObjectLine, OpensObject, BeginsObject, IsTooDeep, IsLongestFront}
-use Rattle.jsonline_in.specs.Reading.{after_space, past}
-use Rattle.jsonline_in.specs.ObjectReading.{Fault, deep, stuck, Reader, ◌>>=◌, fails, chosen_by, behind, items_at, nested_at, end_at, text_at}
-use Rattle.jsonline_in.specs.ObjectFaults.{SaysNothing}
-use Rattle.jsonline_in.proofs.Items.{space_again, space_ends}
+use Rattle.jsonline_in.specs.Reading.{after_space, past, Fault, deep, stuck, Reader, ◌>>=◌, fails, chosen_by, behind, items_at, nested_at, end_at, text_at}
+use Rattle.jsonline_in.specs.Clauses.{mapped, Opens}
+use Rattle.jsonline_in.specs.Faults.{SaysNothing}
+use Rattle.jsonline_in.proofs.Copies.{mapped_ok}
 use Rattle.jsonline_in.proofs.Good.{SameHead, Reach, shallow, any, Sticks, GoodAt, Good, good_both, good_made, good_behind, past_takes, past_again}
-use Rattle.jsonline_in.proofs.Steps.{space_at, good_space}
+use Rattle.jsonline_in.proofs.Steps.{space_again, space_ends, space_at, good_space}
 use Rattle.jsonline_in.proofs.Values.{AllNest, AreItemsText, good_items, good_nested}
 use Rattle.jsonline_in.proofs.ValuesAgain.{fits, here, value_again, others_again, first_again, empty_again}
 
@@ -250,6 +250,18 @@ module _ (line inside : List ℕ) (opens : past 123 (after_space line) ≡ Some 
           | inl longer ↦ none_longer (length d.front) (omega (arith, at)) (omega (arith, ap length d.parts, length-append d.front d.rest)) (subst BeginsObject (front_is d.front d.rest line d.parts) d.begins)
           | inr shorter ↦ too_short g.text g.stop g.more g.x g.parts g.inside d (omega arith)
         ]
+
+-- the fields with those of its members over them
+module _ (line inside : List ℕ) (opens : Opens line inside) (old new : List Field) (set : mapped (λ members. set_all old (member_fields [] members)) (text_at inside) ≡ Ok (new, [])) where
+  pub line_set : (fields : List Field) × IsObjectLine line fields × (new ≡ set_all old fields)
+  line_set =
+      let m = mapped_ok (λ (members : Items). set_all old (member_fields [] members)) (text_at inside) new [] set in
+      (member_fields [] m.0, line_read line inside opens.brace m.0 m.1 opens.utf8, m.2)
+
+  pub line_set_only : (fields : List Field) → IsObjectLine line fields → new ≡ set_all old fields
+  line_set_only fields is =
+      let m = mapped_ok (λ (members : Items). set_all old (member_fields [] members)) (text_at inside) new [] set in
+      m.2 ∙ ap (set_all old) (sym (line_only line inside opens.brace m.0 [] fields m.1 is))
 
 -- ---- a line that opens no object
 

@@ -1,18 +1,17 @@
 -- What becomes of the fields, of the names and of the texts that are put together.
-use Rattle.std.proofs.Common.{◌≡◌, ℕ, zero, suc, ◌≤◌, List, [], ◌∷◌, ◌++◌, length, take, drop, Option, Some, None, Result, Ok, Err, refl, sym, ap, subst, ◌∙◌, arith}
+use Rattle.std.proofs.Common.{◌≡◌, ℕ, zero, suc, ◌≤◌, List, [], ◌∷◌, ◌++◌, length, take, drop, Option, Some, None, Result, Ok, Err, refl, sym, ap, subst, ◌∙◌, append_assoc, arith}
 use Rattle.std.specs.Prelude.{OnOk, IfOk, IfSome, option_map, unwrap_or}
 use Rattle.std.specs.Str.{IsUtf8}
-use Rattle.std.proofs.lemmas.List.{append-nil, length-append, take-append-drop, take-take, take_at}
+use Rattle.std.proofs.lemmas.List.{append-nil, length-append, take-append-drop, take-take, take_at, take_all}
 use Rattle.std.proofs.lemmas.Str.{IsCharBoundary-from_take}
 use Rattle.log_model.specs.Field.{Field, set_field, set_all}
-use Rattle.log_model.specs.Token.{Character, string_text, Scalar, scalar_text}
-use Rattle.log_model.specs.Value.{Kind, array, object, Label, Value, scalar, nested, Items, tokens, label_text, field_name, value_fields, member_fields}
-use Rattle.jsonline_in.specs.declared.whole.stop.Stop.{Stop}
-use Rattle.jsonline_in.specs.Reading.{after_space, past}
-use Rattle.jsonline_in.specs.ObjectReading.{Fault, ◌>>=◌, expect, flat_at, label_at, items_at, value_at, nested_at, put_item}
+use Rattle.log_model.specs.Token.{Character, string, string_text, Scalar, scalar_text}
+use Rattle.log_model.specs.Value.{Kind, array, object, Label, Value, scalar, nested, Items, nothing, tokens, label_text, field_name, value_fields, member_fields}
+use Rattle.jsonline_in.specs.declared.stop.Stop.{Stop}
+use Rattle.jsonline_in.specs.Reading.{after_space, past, Fault, ◌>>=◌, expect, flat_at, label_at, items_at, value_at, nested_at, put_item}
 use Rattle.std.specs.String.Boundary.{IsSplitPoint}
 use Rattle.jsonline_in.proofs.ValueSteps.{value_flat, flat_square, quoted_mapped, bare_mapped}
-use Rattle.jsonline_in.specs.ObjectClauses.{Fails, Gives, mapped, compact, flat_text, value_set, or_empty, or_kept}
+use Rattle.jsonline_in.specs.Clauses.{Fails, Gives, mapped, compact, flat_text, value_set, or_empty, or_kept}
 use Rattle.jsonline_in.proofs.Copies.{mapped_ok}
 use Rattle.jsonline_in.proofs.Decoding.{fails_too}
 use Rattle.jsonline_in.proofs.Loops.{Continued, closed, not_closed}
@@ -50,44 +49,53 @@ nested_flat (suc depth) kind bytes = by_case (items_at (nested_at depth) kind by
 pub array_flat : (depth : ℕ) (bytes old : List ℕ) → old ≡ [] → mapped flat_text (nested_at depth array bytes) ≡ mapped (λ value. old ++ compact (tokens value)) (nested_at depth array bytes)
 array_flat depth bytes old e = nested_flat depth array bytes ∙ ap (λ (t : List ℕ). mapped (λ (value : Value). t ++ compact (tokens value)) (nested_at depth array bytes)) (sym e)
 
--- what is no object sets one field
-module _ (old : List Field) (name : List ℕ) where
-  abbrev one_set : Value → List Field
-  one_set value = set_field old (field_name name) (flat_text value)
+-- what becomes of a value that is no object, where its text says all
+module _ {X : Type 0} (whole : Value → X) (one : List ℕ → X) (of_scalar : (token : Scalar) → whole (scalar token) ≡ one (scalar_text token))
+    (of_array : (items : Items) → whole (nested array items) ≡ one (compact (tokens (nested array items)))) where
+  abbrev one_of_text : Value → X
+  one_of_text value = one (flat_text value)
 
-  nested_one : (depth : ℕ) (bytes : List ℕ) → mapped (value_set old name) (nested_at depth array bytes) ≡ mapped one_set (nested_at depth array bytes)
+  nested_one : (depth : ℕ) (bytes : List ℕ) → mapped whole (nested_at depth array bytes) ≡ mapped one_of_text (nested_at depth array bytes)
   unfolding nested_at
   nested_one zero bytes = refl
   nested_one (suc depth) bytes = by_case (items_at (nested_at depth) array bytes)
     where
-      by_case : (r : Result (Items × List ℕ) Fault) → mapped (value_set old name) (r >>= λ x. Ok (nested array x.0, x.1)) ≡ mapped one_set (r >>= λ x. Ok (nested array x.0, x.1))
-      by_case (Ok x) = refl
+      by_case : (r : Result (Items × List ℕ) Fault) → mapped whole (r >>= λ x. Ok (nested array x.0, x.1)) ≡ mapped one_of_text (r >>= λ x. Ok (nested array x.0, x.1))
+      by_case (Ok x) = ap (λ (y : X). Ok (y, x.1)) (of_array x.0)
       by_case (Err fault) = refl
 
-  flat_set : (depth : ℕ) (text : List ℕ) (o p : Option (List ℕ)) → past 34 text ≡ o → past 91 text ≡ p → mapped (value_set old name) (flat_at (nested_at depth) text) ≡ mapped one_set (flat_at (nested_at depth) text)
-  flat_set depth text (Some inside) p e f =
-      let by_text : List Character → List Field = λ characters. set_field old (field_name name) (string_text characters) in
-      quoted_mapped (nested_at depth) text (value_set old name) inside by_text e (λ characters. refl) ∙ sym (quoted_mapped (nested_at depth) text one_set inside by_text e (λ characters. refl))
-  flat_set depth text None (Some inside) e f =
+  flat_one : (depth : ℕ) (text : List ℕ) (o p : Option (List ℕ)) → past 34 text ≡ o → past 91 text ≡ p → mapped whole (flat_at (nested_at depth) text) ≡ mapped one_of_text (flat_at (nested_at depth) text)
+  flat_one depth text (Some inside) p e f =
+      let by_text : List Character → X = λ characters. one (string_text characters) in
+      quoted_mapped (nested_at depth) text whole inside by_text e (λ characters. of_scalar (string characters)) ∙ sym (quoted_mapped (nested_at depth) text one_of_text inside by_text e (λ characters. refl))
+  flat_one depth text None (Some inside) e f =
       let here = flat_square (nested_at depth) text inside e f in
-      ap (mapped (value_set old name)) here ∙ nested_one depth inside ∙ ap (mapped one_set) (sym here)
-  flat_set depth text None None e f =
-      let by_text : Scalar → List Field = λ token. set_field old (field_name name) (scalar_text token) in
-      bare_mapped (nested_at depth) text (value_set old name) by_text e f (λ token. literal_set token) ∙ sym (bare_mapped (nested_at depth) text one_set by_text e f (λ token. refl))
-    where
-      literal_set : (token : Scalar) → value_set old name (scalar token) ≡ set_field old (field_name name) (scalar_text token)
-      literal_set token = refl
+      ap (mapped whole) here ∙ nested_one depth inside ∙ ap (mapped one_of_text) (sym here)
+  flat_one depth text None None e f =
+      let by_text : Scalar → X = λ token. one (scalar_text token) in
+      bare_mapped (nested_at depth) text whole by_text e f of_scalar ∙ sym (bare_mapped (nested_at depth) text one_of_text by_text e f (λ token. refl))
 
-  mapped_twice : {B : Type 0} (f : Value → B) (g : B → List Field) (r : Result (Value × List ℕ) Fault) (y : B) (rest : List ℕ) → mapped f r ≡ Ok (y, rest) → mapped (λ value. g (f value)) r ≡ Ok (g y, rest)
-  mapped_twice f g (Ok x) y rest e = ap (mapped g) e
-  mapped_twice f g (Err fault) y rest e = absurd cc
+  mapped_twice : (r : Result (Value × List ℕ) Fault) (text rest : List ℕ) → mapped flat_text r ≡ Ok (text, rest) → mapped one_of_text r ≡ Ok (one text, rest)
+  mapped_twice (Ok x) text rest e = ap (mapped one) e
+  mapped_twice (Err fault) text rest e = absurd cc
 
-  -- the field of this text is set
-  pub value_is_set : (depth : ℕ) (text rest value kept : List ℕ) (new : List Field) → past 123 text ≡ None → mapped flat_text (flat_at (nested_at depth) text) ≡ Ok (value, rest) → kept ≡ value → new ≡ set_field old (field_name name) kept
-      → mapped (value_set old name) (value_at (nested_at depth) text) ≡ Ok (new, rest)
-  value_is_set depth text rest value kept new none e f g =
-      ap (mapped (value_set old name)) (value_flat (nested_at depth) text none) ∙ flat_set depth text (past 34 text) (past 91 text) refl refl
-      ∙ mapped_twice flat_text (λ t. set_field old (field_name name) t) (flat_at (nested_at depth) text) value rest e ∙ ap (λ (fields : List Field). Ok (fields, rest)) (ap (set_field old (field_name name)) (sym f) ∙ sym g)
+  pub flat_made : (depth : ℕ) (text rest value : List ℕ) → past 123 text ≡ None → mapped flat_text (flat_at (nested_at depth) text) ≡ Ok (value, rest) → mapped whole (value_at (nested_at depth) text) ≡ Ok (one value, rest)
+  flat_made depth text rest value none e =
+      ap (mapped whole) (value_flat (nested_at depth) text none) ∙ flat_one depth text (past 34 text) (past 91 text) refl refl ∙ mapped_twice (flat_at (nested_at depth) text) value rest e
+
+-- the field of this text is set
+pub value_is_set : (old : List Field) (name : List ℕ) (depth : ℕ) (text rest value kept : List ℕ) (new : List Field) → past 123 text ≡ None → mapped flat_text (flat_at (nested_at depth) text) ≡ Ok (value, rest) → kept ≡ value
+    → new ≡ set_field old (field_name name) kept → mapped (value_set old name) (value_at (nested_at depth) text) ≡ Ok (new, rest)
+value_is_set old name depth text rest value kept new none e f g =
+    flat_made (value_set old name) (set_field old (field_name name)) (λ token. refl) (λ items. refl) depth text rest value none e
+    ∙ ap (λ (fields : List Field). Ok (fields, rest)) (ap (set_field old (field_name name)) (sym f) ∙ sym g)
+
+-- the field of this text is listed
+pub value_is_listed : (old : List Field) (name : List ℕ) (depth : ℕ) (text rest value : List ℕ) (new : List Field) → past 123 text ≡ None → mapped flat_text (flat_at (nested_at depth) text) ≡ Ok (value, rest)
+    → new ≡ old ++ (field_name name, value) ∷ [] → mapped (λ value. old ++ value_fields name value) (value_at (nested_at depth) text) ≡ Ok (new, rest)
+value_is_listed old name depth text rest value new none e f =
+    flat_made (λ value. old ++ value_fields name value) (λ text. old ++ (field_name name, text) ∷ []) (λ token. refl) (λ items. refl) depth text rest value none e
+    ∙ ap (λ (fields : List Field). Ok (fields, rest)) (sym f)
 
 -- ---- names
 
@@ -122,17 +130,34 @@ all_of_two old (x ∷ a) b = all_of_two (set_field old x.0 x.1) a b
 pub member_set : (old now : List Field) (names : List ℕ) (x : Label × Value) (more : Items) → now ≡ set_all old (value_fields (names ++ label_text x.0) x.1) → set_all old (member_fields names (put_item x more)) ≡ set_all now (member_fields names more)
 member_set old now names x more e = all_of_two old (value_fields (names ++ label_text x.0) x.1) (member_fields names more) ∙ ap (λ (fields : List Field). set_all fields (member_fields names more)) (sym e)
 
+pub member_listed : (old now : List Field) (before : List ℕ) (x : Label × Value) (more : Items) → now ≡ old ++ value_fields (before ++ label_text x.0) x.1 → old ++ member_fields before (put_item x more) ≡ now ++ member_fields before more
+member_listed old now before x more e = sym (append_assoc old (value_fields (before ++ label_text x.0) x.1) (member_fields before more)) ∙ ap (λ (fields : List Field). fields ++ member_fields before more) (sym e)
+
+-- all fields that were listed are set
+pub listed_set : (r : Result (Items × List ℕ) Fault) (old now listed items : List Field) (rest : List ℕ) (i : ℕ) → mapped (member_fields []) r ≡ Ok (listed, rest) → items ≡ listed → length items ≤ i → now ≡ set_all old (take i items)
+    → mapped (λ members. set_all old (member_fields [] members)) r ≡ Ok (now, rest)
+listed_set (Ok x) old now listed items rest i e f end g =
+    let all : set_all old (member_fields [] x.0) ≡ now = ap (set_all old) (ap (fields_or []) e ∙ sym f ∙ sym (take_all i items end)) ∙ sym g in
+    let left : x.1 ≡ rest = ap (rest_or []) e in
+    ap (λ (fields : List Field). Ok (fields, x.1)) all ∙ ap (λ (t : List ℕ). Ok (now, t)) left
+  where
+    fields_or : List Field → Result (List Field × List ℕ) Fault → List Field
+    fields_or other (Ok y) = y.0
+    fields_or other (Err fault) = other
+
+    rest_or : List ℕ → Result (List Field × List ℕ) Fault → List ℕ
+    rest_or other (Ok y) = y.1
+    rest_or other (Err fault) = other
+listed_set (Err fault) old now listed items rest i e f end g = absurd cc
+
 -- ---- the end of an object
 
 pub on_ok : {A E : Type 0} (r : Result A E) (P : Type 0) → P → OnOk r P
 on_ok (Ok x) P p = p
 on_ok (Err e) P p = tt
 
-pub closed_by : {S : Type 0} (left : S → List ℕ) (r : Result S Stop) (depth : ℕ) (old now : List Field) (names : List ℕ) (rest : List ℕ) (total : Result (Items × List ℕ) Fault)
-    → Continued depth object (λ members. set_all old (member_fields names members)) (λ members. set_all now (member_fields names members)) rest total
-    → (here : List ℕ) → here ≡ after_space rest → past 44 here ≡ None → Gives (λ x. (tt, left x)) r (expect 125 here) → Gives (λ x. (now, left x)) r (mapped (λ members. set_all old (member_fields names members)) total)
-closed_by left (Ok x) depth old now names rest total c here space none g =
-    closed depth object (λ members. set_all old (member_fields names members)) (λ members. set_all now (member_fields names members)) rest total c here space (left x) now none g refl
-closed_by left (Err stop) depth old now names rest total c here space none g =
-    fails_too (expect 125 here) (mapped (λ members. set_all old (member_fields names members)) total) stop
-    (λ fault h. ap (mapped (λ (members : Items). set_all old (member_fields names members))) (not_closed depth object (λ members. set_all old (member_fields names members)) (λ members. set_all now (member_fields names members)) rest total c here space fault none h)) g
+pub closed_by : {S : Type 0} (view : S → List ℕ) (r : Result S Stop) (depth : ℕ) (whole left : Items → List Field) (rest : List ℕ) (total : Result (Items × List ℕ) Fault) → Continued depth object whole left rest total
+    → (here : List ℕ) (now : List Field) → here ≡ after_space rest → past 44 here ≡ None → now ≡ left nothing → Gives (λ x. (tt, view x)) r (expect 125 here) → Gives (λ x. (now, view x)) r (mapped whole total)
+closed_by view (Ok x) depth whole left rest total c here now space none last g = closed depth object whole left rest total c here space (view x) now none g last
+closed_by view (Err stop) depth whole left rest total c here now space none last g =
+    fails_too (expect 125 here) (mapped whole total) stop (λ fault h. ap (mapped whole) (not_closed depth object whole left rest total c here space fault none h)) g

@@ -1,15 +1,14 @@
 -- The smallest readers.
-use Rattle.std.proofs.Common.{◌≡◌, ℕ, suc, ◌+◌, Bool, true, false, cond, eqb, List, [], ◌∷◌, ◌++◌, length, take, drop, Result, Ok, Err, refl, sym, ap, ◌∙◌, arith}
+use Rattle.std.proofs.Common.{◌≡◌, ℕ, suc, ◌+◌, Bool, true, false, cond, eqb, List, [], ◌∷◌, ◌++◌, length, take, drop, Result, Ok, Err, refl, sym, ap, ◌∙◌, arith, inl, inr}
 use Rattle.std.specs.List.{prefix_len, list_all}
 use Rattle.std.specs.Char.{is_ascii_digit}
-use Rattle.std.proofs.lemmas.Bool.{cond-false, eqb-true, eq-eqb, false_from_ne_true}
+use Rattle.std.proofs.lemmas.Bool.{eqb-true, eq-eqb, and_parts, and_from, cond-true, cond-false, cases_Bool, false_from_ne_true}
 use Rattle.std.proofs.lemmas.List.{take-append-drop, drop_at}
 use Rattle.std.proofs.lemmas.List.Folds.{length-prefix_len}
+use Rattle.std.proofs.Math.Seq.{drop-append-add}
 use Rattle.log_model.specs.Json.{is_space, IsSpace}
 use Rattle.log_model.specs.Token.{are_digits}
-use Rattle.jsonline_in.specs.Reading.{after_space}
-use Rattle.jsonline_in.specs.ObjectReading.{Fault, stuck, Reader, gives, expect, one_of, digits_end, word_end}
-use Rattle.jsonline_in.proofs.Items.{run_passes, run_again}
+use Rattle.jsonline_in.specs.Reading.{after_space, Fault, stuck, Reader, gives, expect, one_of, digits_end, word_end}
 use Rattle.jsonline_in.proofs.Good.{SameHead, GoodAt, Good, good_both, good_gives, good_behind}
 
 -- ---- one byte
@@ -52,6 +51,24 @@ module _ (test : ℕ → Bool) where
 -- ---- runs
 
 module _ (test : ℕ → Bool) where
+  pub run_passes : (bytes : List ℕ) → list_all test (take (prefix_len test bytes) bytes) ≡ true
+  run_passes [] = refl
+  run_passes (x ∷ xs) =
+      elim (cases_Bool (test x)) [
+        | inl passes ↦
+            let more : cond (test x) (1 + prefix_len test xs) 0 ≡ suc (prefix_len test xs) = cond-true (test x) _ _ passes ∙ omega arith in
+            rw more (and_from _ _ passes (run_passes xs))
+        | inr fails ↦
+            let none : cond (test x) (1 + prefix_len test xs) 0 ≡ 0 = cond-false (test x) _ _ fails in
+            rw none refl
+      ]
+
+  pub run_again : (run rest : List ℕ) → list_all test run ≡ true → prefix_len test (run ++ rest) ≡ length run + prefix_len test rest
+  run_again [] rest e = omega arith
+  run_again (x ∷ xs) rest e =
+      let parts = and_parts (test x) (list_all test xs) e in
+      cond-true (test x) _ _ parts.0 ∙ omega (arith, run_again xs rest parts.1)
+
   pub none_here : (a b : List ℕ) → SameHead a b → prefix_len test a ≡ 0 → prefix_len test b ≡ 0
   none_here [] [] s e = refl
   none_here [] (y ∷ b) s e = absurd s
@@ -74,10 +91,21 @@ module _ (test : ℕ → Bool) where
   pub same_run : (bytes other : List ℕ) → SameHead (drop (prefix_len test bytes) bytes) other → prefix_len test (take (prefix_len test bytes) bytes ++ other) ≡ length (take (prefix_len test bytes) bytes)
   same_run bytes other s =
       let n = prefix_len test bytes in
-      omega (arith, run_again test (take n bytes) other (run_passes test bytes), none_here (drop n bytes) other s (none_behind bytes))
+      omega (arith, run_again (take n bytes) other (run_passes bytes), none_here (drop n bytes) other s (none_behind bytes))
 
   pub after_run : (bytes other : List ℕ) → SameHead (drop (prefix_len test bytes) bytes) other → drop (prefix_len test (take (prefix_len test bytes) bytes ++ other)) (take (prefix_len test bytes) bytes ++ other) ≡ other
   after_run bytes other s = drop_at (take (prefix_len test bytes) bytes) other (prefix_len test (take (prefix_len test bytes) bytes ++ other)) (sym (same_run bytes other s))
+
+-- ---- white space
+
+pub space_again : (space rest : List ℕ) → IsSpace space → after_space (space ++ rest) ≡ after_space rest
+unfolding after_space
+space_again space rest passes = rw (run_again is_space space rest passes) (drop-append-add space rest (prefix_len is_space rest))
+
+-- a byte that is none stays
+pub space_ends : (byte : ℕ) (rest : List ℕ) → is_space byte ≡ false → after_space (byte ∷ rest) ≡ byte ∷ rest
+unfolding after_space
+space_ends byte rest other = ap (λ (n : ℕ). drop n (byte ∷ rest)) (cond-false (is_space byte) (1 + prefix_len is_space rest) 0 other)
 
 -- white space, as a reader
 abbrev pub space_at : Reader (Unit {0})

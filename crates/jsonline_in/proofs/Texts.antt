@@ -6,7 +6,7 @@ use Rattle.std.proofs.lemmas.Bool.{and_from}
 use Rattle.std.proofs.lemmas.List.{length-append}
 use Rattle.log_model.specs.Json.{is_plain}
 use Rattle.log_model.specs.Token.{Character, plain, short, unicode, is_short, is_character, are_characters, source}
-use Rattle.jsonline_in.specs.ObjectReading.{Reader, ◌>>=◌, gives, chosen, one_of, unicode_at, short_at, escape_at, plain_at, some_of, character_at, put_character, characters_at}
+use Rattle.jsonline_in.specs.Reading.{Reader, ◌>>=◌, gives, chosen, one_of, unicode_at, short_at, escape_at, plain_at, some_of, character_at, put_character, characters_at}
 use Rattle.jsonline_in.proofs.Good.{Reach, shallow, any, Good, good_both, good_gives, good_made, good_behind, good_chosen, reads_of}
 use Rattle.jsonline_in.proofs.Steps.{IsOne, good_one_of}
 use Rattle.jsonline_in.proofs.Turns.{Shrinks, good_turns}

@@ -1,7 +1,7 @@
 -- Reading one after another, as long as there is one more.
 use Rattle.std.proofs.Common.{◌≡◌, ℕ, zero, suc, ◌<◌, List, [], ◌++◌, length, Option, Some, None, Result, Ok, Err, refl, sym, ap, subst, arith}
 use Rattle.std.proofs.lemmas.List.{append-nil}
-use Rattle.jsonline_in.specs.ObjectReading.{Fault, Reader, ◌>>=◌, turn, turns}
+use Rattle.jsonline_in.specs.Reading.{Fault, Reader, ◌>>=◌, turn, turns}
 use Rattle.jsonline_in.proofs.Good.{Reach, shallow, any, GoodAt, Good, good_same, Joins, good_both_at, good_gives, good_made_at}
 
 module _ {A B : Type 0} (put : A → B → B) (end : B) (one : Reader (Option A)) where

@@ -3,10 +3,9 @@ use Rattle.std.proofs.Common.{◌≡◌, ℕ, zero, suc, ◌-◌, List, [], ◌�
 use Rattle.std.proofs.lemmas.List.{append-nil}
 use Rattle.log_model.specs.Token.{Character, string, Scalar}
 use Rattle.log_model.specs.Value.{Kind, array, object, opening, closing, Label, Value, scalar, nested, Items, tokens, series, label_tokens}
-use Rattle.jsonline_in.specs.declared.whole.stop.Stop.{Stop}
-use Rattle.jsonline_in.specs.Reading.{past}
-use Rattle.jsonline_in.specs.ObjectReading.{Fault, deep, Reader, ◌>>=◌, chosen_by, made_by, bare_at, characters_at, value_of_string, flat_at, value_at, label_at, item_at, items_at, nested_at}
-use Rattle.jsonline_in.specs.ObjectClauses.{Gives, mapped, compact}
+use Rattle.jsonline_in.specs.declared.stop.Stop.{Stop}
+use Rattle.jsonline_in.specs.Reading.{past, Fault, deep, Reader, ◌>>=◌, chosen_by, made_by, bare_at, characters_at, value_of_string, flat_at, value_at, label_at, item_at, items_at, nested_at}
+use Rattle.jsonline_in.specs.Clauses.{Gives, mapped, compact}
 
 pub gives_same : {X Y : Type 0} (view : X → Y) (r : Result X Stop) (a b : Result Y Fault) → a ≡ b → Gives view r b → Gives view r a
 gives_same view r a b e g = subst (Gives view r) (sym e) g

@@ -2,12 +2,10 @@
 use Rattle.std.proofs.Common.{◌≡◌, ℕ, zero, suc, ◌<◌, true, List, [], ◌∷◌, ◌++◌, length, Option, Some, None, Ok, refl, sym, ap, subst, ◌∙◌, append_assoc, arith}
 use Rattle.std.proofs.lemmas.Bool.{and_from}
 use Rattle.std.proofs.lemmas.List.{length-append, append-nil}
-use Rattle.std.proofs.lemmas.List.Folds.{list_all-append}
-use Rattle.log_model.specs.Json.{is_space, IsSpace}
+use Rattle.log_model.specs.Json.{IsSpace}
 use Rattle.log_model.specs.Token.{Character, are_characters, string_source, Scalar, string, number, Literal, literal, truth, falsehood, null, IsScalar, scalar_source, literal_source}
 use Rattle.log_model.specs.Value.{Kind, array, object, Label, unnamed, named, Value, scalar, nested, Items, nothing, item, suits, IsValue, AreItems, nests_within, all_within, opening, closing, label_tokens, tokens, series, IsSpelled}
-use Rattle.jsonline_in.specs.Reading.{after_space, past}
-use Rattle.jsonline_in.specs.ObjectReading.{Reader, ◌>>=◌, gives, fails, chosen, chosen_by, behind, expect, word_end, number_at, literal_of, made_by, bare_at, characters_at, value_of_string, flat_at, value_at, name_at, label_at, item_at, some_of, other_at, put_item, others_at, first_at, items_at, nested_at}
+use Rattle.jsonline_in.specs.Reading.{after_space, past, Reader, ◌>>=◌, gives, fails, chosen, chosen_by, behind, expect, word_end, number_at, literal_of, made_by, bare_at, characters_at, value_of_string, flat_at, value_at, name_at, label_at, item_at, some_of, other_at, put_item, others_at, first_at, items_at, nested_at}
 use Rattle.jsonline_in.proofs.Good.{Reach, shallow, any, GoodAt, Good, reads_of, good_both, good_gives, good_made, good_behind, good_chosen, past_takes, past_again, past_none}
 use Rattle.jsonline_in.proofs.Steps.{good_expect, space_at, good_space, good_word}
 use Rattle.jsonline_in.proofs.Numbers.{IsNumberToken, good_number}
@@ -55,9 +53,6 @@ spaced_token token more text rest e p space is = (space, rest, is, ap (λ (t : L
 
 pub spaced_join : (a b : List (List ℕ)) (x y : List ℕ) → Spaced a x → IsSpelled b y → Spaced (a ++ b) (x ++ y)
 spaced_join a b x y p q space is = subst (IsSpelled (a ++ b)) (append_assoc space x y) (spelled_join a b (space ++ x) y (p space is) q)
-
-pub space_join : (a b : List ℕ) → IsSpace a → IsSpace b → IsSpace (a ++ b)
-space_join a b p q = list_all-append is_space a b ∙ and_from _ _ p q
 
 -- ---- how deep values nest
 
@@ -180,9 +175,6 @@ good_label object = good_name
 
 abbrev pub Solid : ℕ → (Kind → Reader Value) → Type 0
 Solid depth inner = (kind : Kind) → Good (IsValueText depth) (behind (opening kind) (inner kind))
-
-widen_value : (depth : ℕ) (value : Value) (text : List ℕ) → IsValueText depth shallow value text → IsValueText depth any value text
-widen_value depth value text p = record { is = p.is; nests = tt; spelled = p.spelled }
 
 nests_scalar : (depth : ℕ) (reach : Reach) (token : Scalar) → Nests depth reach (scalar token)
 nests_scalar depth shallow token = refl

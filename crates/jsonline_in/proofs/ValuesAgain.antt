@@ -5,9 +5,8 @@ use Rattle.std.proofs.lemmas.Bool.{and_cases, or_cases, leb-true, eqb-true, fals
 use Rattle.log_model.specs.Json.{is_space, IsSpace}
 use Rattle.log_model.specs.Token.{Character, are_characters, source, Scalar, string, number, literal, Literal, truth, falsehood, null, IsScalar, scalar_source}
 use Rattle.log_model.specs.Value.{Kind, array, object, Label, unnamed, named, Value, scalar, nested, Items, nothing, item, suits, IsValue, AreItems, nests_within, all_within, opening, closing, label_tokens, tokens, series, IsSpelled}
-use Rattle.jsonline_in.specs.Reading.{after_space, past}
-use Rattle.jsonline_in.specs.ObjectReading.{Fault, deep, Reader, ◌>>=◌, expect, bare_at, value_of_string, flat_at, value_at, name_at, item_at, put_item, others_at, first_at, items_at, nested_at}
-use Rattle.jsonline_in.proofs.Items.{space_again, space_ends}
+use Rattle.jsonline_in.specs.Reading.{after_space, past, Fault, deep, Reader, ◌>>=◌, expect, bare_at, value_of_string, flat_at, value_at, name_at, item_at, put_item, others_at, first_at, items_at, nested_at}
+use Rattle.jsonline_in.proofs.Steps.{space_again, space_ends}
 use Rattle.jsonline_in.proofs.Good.{past_again}
 use Rattle.jsonline_in.proofs.Decoding.{done}
 use Rattle.jsonline_in.proofs.ValueSteps.{value_flat, flat_bare}

@@ -1,5 +1,3 @@
 pub mod Reading
+pub mod Clauses
 pub mod Faults
-pub mod ObjectReading
-pub mod ObjectClauses
-pub mod ObjectFaults

@@ -1,62 +1,25 @@
--- Reading a line from left to right. A reader gives a value and the bytes after it, or how many bytes were left where no line of the form can go on.
-use Rattle.std.specs.Prelude.{ℕ, zero, suc, Bool, not, ◌-◌, List, [], ◌∷◌, length, take, drop, map, Option, Some, None, Result, Ok, Err, ◌==◌, if◌then◌else◌, ◌≡◌}
+-- Reading an object of JSON from left to right. A reader gives a value and the bytes after it, or it stops.
+use Rattle.std.specs.Prelude.{ℕ, zero, suc, Bool, not, List, [], ◌∷◌, length, take, drop, Option, Some, None, Result, Ok, Err, ◌==◌, ◌-◌, if◌then◌else◌}
 use Rattle.std.specs.List.{prefix_len}
-use Rattle.std.specs.Option.{ok_or}
-use Rattle.std.specs.Str.{is_utf8}
-use Rattle.std.specs.Str.Lossy.{utf8_valid_len}
-use Rattle.log_model.specs.Field.{Field, set_all}
+use Rattle.std.specs.Char.{is_ascii_digit, is_ascii_hexdigit}
 use Rattle.log_model.specs.Json.{is_space, is_plain}
-use Rattle.log_model.specs.Line.{is_free}
-use Rattle.jsonline_in.specs.declared.fault.JsonFault.{JsonFault}
-use Rattle.jsonline_in.specs.declared.fault.JsonFault.TheVariants as faults
-use Rattle.jsonline_in.specs.declared.scan.Member.{Member}
-use Rattle.jsonline_in.specs.declared.stop.Left.{Left}
-use Rattle.jsonline_in.specs.declared.stop.Stop.{Stop}
-use Rattle.jsonline_in.specs.declared.stop.Stop.TheVariants as stops
+use Rattle.log_model.specs.Token.{Character, plain, short, unicode, is_short, Scalar, string, number, Literal, literal, truth, falsehood, null}
+use Rattle.log_model.specs.Value.{Kind, array, object, closing, Label, unnamed, named, Value, scalar, nested, Items, nothing, item}
+
+-- The 65th bracket would be open, or no object goes on so: then so many bytes are left.
+pub data Fault : Type 0 where
+  deep : Fault
+  stuck : ℕ → Fault
+
+abbrev pub Reader : Type 0 → Type 0
+Reader A = List ℕ → Result (A × List ℕ) Fault
 
 infixl 10 ◌>>=◌
-abbrev pub ◌>>=◌ : {A B : Type 0} → Result A ℕ → (A → Result B ℕ) → Result B ℕ
+abbrev pub ◌>>=◌ : {A B : Type 0} → Result A Fault → (A → Result B Fault) → Result B Fault
 (Ok x) >>= f = f x
-(Err left) >>= f = Err left
+(Err fault) >>= f = Err fault
 
--- What a scanner returned, seen by view, is what reading gives.
-abbrev pub Gives : {X Y : Type 0} → (X → Y) → Result X Left → Result Y ℕ → Type 0
-Gives view (Ok x) read = read ≡ Ok (view x)
-Gives view (Err e) read = read ≡ Err e.0
-
--- the same of a reader that needs memory
-abbrev pub Collects : {X Y : Type 0} → (X → Y) → Result X Stop → Result Y ℕ → Type 0
-Collects view (Ok x) read = read ≡ Ok (view x)
-Collects view (Err (stops.At e)) read = read ≡ Err e.0
-Collects view (Err stops.Memory) read = Unit {0}
-
--- the same of a line, whose faults have their place from the front
-abbrev pub Lists : {X Y : Type 0} → (X → Y) → Result X JsonFault → Result Y ℕ → Type 0
-Lists view (Ok x) read = read ≡ Ok (view x)
-Lists view (Err (faults.NotBuilt at)) read = read ≡ Err at
-Lists view (Err faults.Memory) read = Unit {0}
-
--- What was set over old is what reading gives, one member after another, and so is what is left, unless memory ran out.
-abbrev pub Sets : {X : Type 0} → (X → List ℕ) → Result X Stop → List Field → List Field → Result (List Field × List ℕ) ℕ → Type 0
-Sets view (Ok x) old new read = (members : List Field) × (read ≡ Ok (members, view x)) × (new ≡ set_all old members)
-Sets view (Err (stops.At e)) old new read = read ≡ Err e.0
-Sets view (Err stops.Memory) old new read = Unit {0}
-
--- the same of a reader that leaves nothing
-abbrev pub SetsAll : Result (Unit {0}) Stop → List Field → List Field → Result (List Field) ℕ → Type 0
-SetsAll (Ok _) old new read = (members : List Field) × (read ≡ Ok members) × (new ≡ set_all old members)
-SetsAll (Err (stops.At e)) old new read = read ≡ Err e.0
-SetsAll (Err stops.Memory) old new read = Unit {0}
-
--- the same of a line, whose faults have their place from the front
-abbrev pub Answers : Result (Unit {0}) JsonFault → List Field → List Field → Result (List Field) ℕ → Type 0
-Answers (Ok _) old new read = (members : List Field) × (read ≡ Ok members) × (new ≡ set_all old members)
-Answers (Err (faults.NotBuilt at)) old new read = read ≡ Err at
-Answers (Err faults.Memory) old new read = Unit {0}
-
--- members as they stand in a line, and their fields
-abbrev pub fields_in : List Member → List Field
-fields_in members = map (λ member. (member.name.now, member.value.now)) members
+-- ---- bytes
 
 -- a byte that ends a run of plain ones
 abbrev pub is_stop : ℕ → Bool
@@ -70,80 +33,198 @@ abbrev pub past : ℕ → List ℕ → Option (List ℕ)
 past byte [] = None
 past byte (first ∷ rest) = if first == byte then Some rest else None
 
-unfoldable pub byte_at : ℕ → List ℕ → Result (List ℕ) ℕ
-byte_at byte bytes = ok_or (past byte bytes) (length bytes)
+-- ---- choices
 
--- a structural character and the white space round it
-unfoldable pub mark_at : ℕ → List ℕ → Result (List ℕ) ℕ
-mark_at mark bytes = do
-  rest ← byte_at mark (after_space bytes)
-  Ok (after_space rest)
+abbrev pub gives : {A : Type 0} → A → Reader A
+gives x bytes = Ok (x, bytes)
 
--- the plain bytes, up to the closing quotation mark
-unfoldable pub content_at : List ℕ → Result (List ℕ × List ℕ) ℕ
-content_at bytes = do
-  rest ← byte_at 34 (drop (prefix_len is_plain bytes) bytes)
-  Ok (take (prefix_len is_plain bytes) bytes, rest)
+abbrev pub fails : {A : Type 0} → Reader A
+fails bytes = Err (stuck (length bytes))
 
-unfoldable pub string_at : List ℕ → Result (List ℕ × List ℕ) ℕ
-string_at bytes = do
-  content ← byte_at 34 bytes
-  content_at content
+-- the first where its byte stands here, and then behind it; else the second
+abbrev pub chosen_by : {A : Type 0} → Reader A → Reader A → List ℕ → Option (List ℕ) → Result (A × List ℕ) Fault
+chosen_by some none bytes (Some rest) = some rest
+chosen_by some none bytes None = none bytes
 
--- A name that no field may have stops at its opening quotation mark.
-unfoldable pub name_at : List ℕ → Result (List ℕ × List ℕ) ℕ
+abbrev pub chosen : {A : Type 0} → ℕ → Reader A → Reader A → Reader A
+chosen byte some none bytes = chosen_by some none bytes (past byte bytes)
+
+abbrev pub behind : {A : Type 0} → ℕ → Reader A → Reader A
+behind byte some = chosen byte some fails
+
+-- the byte itself
+unfoldable pub expect : ℕ → Reader (Unit {0})
+expect byte = behind byte (gives tt)
+
+-- one byte that passes the test
+unfoldable pub one_of : (ℕ → Bool) → Reader ℕ
+one_of test [] = Err (stuck 0)
+one_of test (byte ∷ rest) = if test byte then Ok (byte, rest) else Err (stuck (length (byte ∷ rest)))
+
+-- ---- turns
+
+abbrev pub turn : {A B : Type 0} → (A → B → B) → B → Reader B → Option A × List ℕ → Result (B × List ℕ) Fault
+turn put end more (None, rest) = Ok (end, rest)
+turn put end more (Some x, rest) = more rest >>= λ xs. Ok (put x xs.0, xs.1)
+
+-- as long as there is one more. The number bounds the turns; one above the count of the bytes is always enough.
+unfoldable pub turns : {A B : Type 0} → (A → B → B) → B → Reader (Option A) → ℕ → Reader B
+turns put end one zero bytes = Err (stuck (length bytes))
+turns put end one (suc fuel) bytes = one bytes >>= turn put end (turns put end one fuel)
+
+-- ---- strings
+
+unfoldable pub unicode_at : Reader Character
+unicode_at bytes = do
+  a ← one_of is_ascii_hexdigit bytes
+  b ← one_of is_ascii_hexdigit a.1
+  c ← one_of is_ascii_hexdigit b.1
+  d ← one_of is_ascii_hexdigit c.1
+  Ok (unicode a.0 b.0 c.0 d.0, d.1)
+
+unfoldable pub short_at : Reader Character
+short_at bytes = do
+  byte ← one_of is_short bytes
+  Ok (short byte.0, byte.1)
+
+-- behind a backslash
+unfoldable pub escape_at : Reader Character
+escape_at = chosen 117 unicode_at short_at
+
+unfoldable pub plain_at : Reader Character
+plain_at bytes = do
+  byte ← one_of is_plain bytes
+  Ok (plain byte.0, byte.1)
+
+abbrev pub some_of : {A : Type 0} → Reader A → Reader (Option A)
+some_of one bytes = one bytes >>= λ x. Ok (Some x.0, x.1)
+
+-- the next character, or none where the string ends
+unfoldable pub character_at : Reader (Option Character)
+character_at = chosen 34 (gives None) (some_of (chosen 92 escape_at plain_at))
+
+abbrev pub put_character : Character → List Character → List Character
+put_character character characters = character ∷ characters
+
+-- behind the opening quotation mark
+unfoldable pub characters_at : Reader (List Character)
+characters_at bytes = turns put_character [] character_at (suc (length bytes)) bytes
+
+-- ---- numbers and literals
+
+unfoldable pub digits_end : Reader (Unit {0})
+digits_end bytes = if prefix_len is_ascii_digit bytes == 0 then Err (stuck (length bytes)) else Ok (tt, drop (prefix_len is_ascii_digit bytes) bytes)
+
+unfoldable pub whole_end : Reader (Unit {0})
+whole_end = chosen 48 (gives tt) digits_end
+
+unfoldable pub fraction_end : Reader (Unit {0})
+fraction_end = chosen 46 digits_end (gives tt)
+
+unfoldable pub signed_end : Reader (Unit {0})
+signed_end = chosen 43 digits_end (chosen 45 digits_end digits_end)
+
+unfoldable pub exponent_end : Reader (Unit {0})
+exponent_end = chosen 101 signed_end (chosen 69 signed_end (gives tt))
+
+unfoldable pub unsigned_end : Reader (Unit {0})
+unsigned_end bytes = do
+  whole ← whole_end bytes
+  fraction ← fraction_end whole.1
+  exponent_end fraction.1
+
+unfoldable pub number_end : Reader (Unit {0})
+number_end = chosen 45 unsigned_end unsigned_end
+
+abbrev pub front_of : List ℕ → List ℕ → List ℕ
+front_of bytes rest = take (length bytes - length rest) bytes
+
+unfoldable pub number_at : Reader (List ℕ)
+number_at bytes = do
+  end ← number_end bytes
+  Ok (front_of bytes end.1, end.1)
+
+abbrev pub word_end : List ℕ → Reader (Unit {0})
+word_end [] bytes = Ok (tt, bytes)
+word_end (letter ∷ word) bytes = expect letter bytes >>= λ x. word_end word x.1
+
+abbrev pub made_by : {A B : Type 0} → (A → B) → Reader A → Reader B
+made_by made one bytes = one bytes >>= λ x. Ok (made x.0, x.1)
+
+abbrev pub literal_of : Literal → Reader (Unit {0}) → Reader Scalar
+literal_of word end bytes = end bytes >>= λ x. Ok (literal word, x.1)
+
+-- ---- values
+
+unfoldable pub bare_at : Reader Scalar
+bare_at =
+    chosen 116 (literal_of truth (word_end (114 ∷ 117 ∷ 101 ∷ [])))
+    (chosen 102 (literal_of falsehood (word_end (97 ∷ 108 ∷ 115 ∷ 101 ∷ [])))
+    (chosen 110 (literal_of null (word_end (117 ∷ 108 ∷ 108 ∷ [])))
+    (made_by number number_at)))
+
+abbrev pub value_of_string : List Character → Value
+value_of_string characters = scalar (string characters)
+
+-- the value that begins here and is no object, where inner reads on behind an opening bracket
+unfoldable pub flat_at : (Kind → Reader Value) → Reader Value
+flat_at inner = chosen 34 (made_by value_of_string characters_at) (chosen 91 (inner array) (made_by scalar bare_at))
+
+unfoldable pub value_at : (Kind → Reader Value) → Reader Value
+value_at inner = chosen 123 (inner object) (flat_at inner)
+
+-- the name of a member, up to its value
+unfoldable pub name_at : Reader Label
 name_at bytes = do
-  name ← string_at bytes
-  if is_free name.0 then Ok name else Err (length bytes)
+  quote ← expect 34 bytes
+  name ← characters_at quote.1
+  colon ← expect 58 (after_space name.1)
+  Ok (named name.0, after_space colon.1)
 
-unfoldable pub member_at : List ℕ → Result (Field × List ℕ) ℕ
-member_at bytes = do
-  name ← name_at bytes
-  after ← mark_at 58 name.1
-  value ← string_at after
-  Ok ((name.0, value.0), value.1)
+abbrev pub label_at : Kind → Reader Label
+label_at array = gives unnamed
+label_at object = name_at
 
-abbrev pub put_first : Field → List Field × List ℕ → Result (List Field × List ℕ) ℕ
-put_first member x = Ok (member ∷ x.0, x.1)
+unfoldable pub item_at : (Kind → Reader Value) → Kind → Reader (Label × Value)
+item_at inner kind bytes = do
+  label ← label_at kind bytes
+  value ← value_at inner label.1
+  Ok ((label.0, value.0), value.1)
 
--- the end of the object with these members
-unfoldable pub close_at : List Field → List ℕ → Result (List Field × List ℕ) ℕ
-close_at members bytes = do
-  rest ← byte_at 125 bytes
-  Ok (members, after_space rest)
+-- behind an item: one more behind a comma, or none where the bracket closes
+unfoldable pub other_at : (Kind → Reader Value) → Kind → Reader (Option (Label × Value))
+other_at inner kind bytes = chosen 44 (λ rest. some_of (item_at inner kind) (after_space rest)) (behind (closing kind) (gives None)) (after_space bytes)
 
--- Behind a member: what read gives where a comma leads on, and else the end of the object.
-unfoldable pub others_at : (List ℕ → Result (List Field × List ℕ) ℕ) → Field → List ℕ → Option (List ℕ) → Result (List Field × List ℕ) ℕ
-others_at read member bytes None = close_at (member ∷ []) bytes
-others_at read member bytes (Some next) = read (after_space next) >>= put_first member
+abbrev pub put_item : Label × Value → Items → Items
+put_item x more = item x.0 x.1 more
 
--- the members, one or more, and the end of the object
-unfoldable pub members_at : ℕ → List ℕ → Result (List Field × List ℕ) ℕ
-members_at zero bytes = Err (length bytes)
-members_at (suc fuel) bytes = do
-  member ← member_at bytes
-  others_at (members_at fuel) member.0 (after_space member.1) (past 44 (after_space member.1))
+unfoldable pub others_at : (Kind → Reader Value) → Kind → Reader Items
+others_at inner kind bytes = turns put_item nothing (other_at inner kind) (suc (length bytes)) bytes
 
-unfoldable pub inside_at : List ℕ → Option (List ℕ) → Result (List Field × List ℕ) ℕ
-inside_at bytes None = members_at (length bytes) bytes
-inside_at bytes (Some rest) = Ok ([], after_space rest)
+unfoldable pub first_at : (Kind → Reader Value) → Kind → Reader Items
+first_at inner kind bytes = do
+  x ← item_at inner kind bytes
+  more ← others_at inner kind x.1
+  Ok (put_item x.0 more.0, more.1)
 
-unfoldable pub object_at : List ℕ → Result (List Field × List ℕ) ℕ
-object_at bytes = do
-  inner ← mark_at 123 bytes
-  inside_at inner (past 125 inner)
+-- behind an opening bracket
+unfoldable pub items_at : (Kind → Reader Value) → Kind → Reader Items
+items_at inner kind bytes = chosen (closing kind) (gives nothing) (first_at inner kind) (after_space bytes)
 
--- the members of the object that is all of the text
-unfoldable pub text_at : List ℕ → Result (List Field) ℕ
-text_at text = do
-  object ← object_at text
-  if length object.1 == 0 then Ok object.0 else Err (length object.1)
+-- behind an opening bracket, where so many may be open
+unfoldable pub nested_at : ℕ → Kind → Reader Value
+nested_at zero kind bytes = Err deep
+nested_at (suc depth) kind bytes = items_at (nested_at depth) kind bytes >>= λ x. Ok (nested kind x.0, x.1)
 
--- the place from the front, of one that is given from the end
-abbrev pub located : ℕ → Result (List Field) ℕ → Result (List Field) ℕ
-located len (Ok members) = Ok members
-located len (Err left) = Err (len - left)
+-- ---- a text
 
--- the members of a line, or the place where it is none
-unfoldable pub line_at : List ℕ → Result (List Field) ℕ
-line_at line = if is_utf8 line then located (length line) (text_at line) else Err (utf8_valid_len line)
+unfoldable pub end_at : Reader (Unit {0})
+end_at [] = Ok (tt, [])
+end_at (byte ∷ rest) = Err (stuck (length (byte ∷ rest)))
+
+-- the members of the object that is all of the text, behind white space and its opening brace
+unfoldable pub text_at : Reader Items
+text_at bytes = do
+  members ← items_at (nested_at 63) object bytes
+  end ← end_at (after_space members.1)
+  Ok (members.0, end.1)

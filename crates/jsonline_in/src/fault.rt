@@ -6,16 +6,17 @@ use std::alloc::AllocError;
 use std::error::Error;
 use std::fmt;
 
-/// Why a line was not read.
+/// Why a line was not read: the first of these that holds of it.
 #[derive(Clone, Copy, Debug, PartialEq, Eq)]
 pub enum JsonFault {
-    /// The line is not of the form that is built.
-    NotBuilt {
-        /// Where reading stopped, in bytes from 0: behind the longest front that is UTF-8 where the line
-        /// is none, at the name that no member may have, or else at the first byte that no line of the
-        /// form has there (the length, where the line is cut).
-        at: usize,
-    },
+    /// The line is not UTF-8 behind this many bytes.
+    NotUtf8 { at: usize },
+    /// The first byte that is no white space is no `{`, or there is none.
+    NotObject,
+    /// More than 64 arrays and objects are open at one place.
+    TooDeep,
+    /// No object begins with more than this many bytes of the line, or the line is cut.
+    NotJson { at: usize },
     /// Memory ran out.
     Memory,
 }
@@ -28,7 +29,10 @@ impl fmt::Display for JsonFault {
 
     fn fmt<W: fmt::Write>(&self, f: &mut fmt::Formatter<W>) -> fmt::Result {
         match self {
-            JsonFault::NotBuilt { at } => write!(f, "NotBuilt at {at}"),
+            JsonFault::NotUtf8 { at } => write!(f, "NotUtf8 at {at}"),
+            JsonFault::NotObject => write!(f, "NotObject"),
+            JsonFault::TooDeep => write!(f, "TooDeep"),
+            JsonFault::NotJson { at } => write!(f, "NotJson at {at}"),
             JsonFault::Memory => write!(f, "no memory"),
         }
     }

@@ -1,13 +1,17 @@
-//! Lines of JSON as fields: each line one object, whose members are strings without escapes (RFC 8259).
+//! Lines of JSON as fields: each line one object, of any values (RFC 8259).
 #![tactic(auto)]
 
+mod bare;
+mod copy;
+mod escape;
 mod fault;
+mod line;
 pub mod plain;
-mod read;
 pub mod run;
 mod scan;
+mod set;
 mod stop;
-pub mod whole;
+mod text;
 
 pub use fault::JsonFault;
-pub use read::fields_of;
+pub use set::fields_of;

@@ -1,105 +1,128 @@
-//! The same reading in its plainest form, which lists all members before it sets them, to compare the other with.
-ghost use Rattle.std.specs.Prelude.{◌≡◌, List, length, IfErr, OnOk};
-ghost use Rattle.std.specs.List.{prefix_len};
+//! The same reading in its plainest form, which lists all fields before it sets them, to compare the other with.
+ghost use Rattle.std.specs.Prelude.{◌≡◌, ◌<◌, ◌++◌, ◌∷◌, [], List, length, string_bytes, IfErr, OnOk};
 ghost use Rattle.log_model.specs.Field.{Field, set_all};
-ghost use Rattle.log_model.specs.Json.{is_plain};
-ghost use Rattle.log_model.specs.Line.{IsLine};
-ghost use Rattle.jsonline_in.specs.Faults.{Refuses};
-ghost use Rattle.jsonline_in.specs.Reading.{Gives, Collects, Lists, fields_in, string_at, member_at, members_at, text_at, line_at};
+ghost use Rattle.log_model.specs.ObjectLine.{IsObjectLine};
+ghost use Rattle.log_model.specs.Value.{object, field_name, label_text, value_fields, member_fields};
+ghost use Rattle.jsonline_in.specs.Clauses.{Gives, mapped};
+ghost use Rattle.jsonline_in.specs.Faults.{Refuses, IsFault};
+ghost use Rattle.jsonline_in.specs.Reading.{nested_at, value_at, item_at, items_at, text_at};
+
+mod text;
 
 use crate::fault::JsonFault;
-use crate::scan::{Member, after_space, byte_at, is_free, mark_at, past};
-use crate::stop::{Left, Stop};
-use std::alloc::Global;
+use crate::line::{fault_of, opened};
+use crate::scan::{after_space, expect, past};
+use crate::stop::Stop;
+use std::alloc::{AllocError, Global};
+use std::marker::Model;
 use vl_row::FieldList;
 
-fn plain_len(text: &str) -> usize
-    ensures { result ≡ prefix_len is_plain text.now }
-{
-    text.bytes()
-        .take_while(|byte| *byte >= 0x20 && *byte != b'"' && *byte != b'\\')
-        .count()
+/// A field, whose name is not empty.
+#[derive(Drop)]
+struct Pair {
+    name: String,
+    value: String,
 }
 
-#[tactic(auto, using(crate::proofs::Cuts::plain_cut), unfolding(crate::specs::Reading::string_at, crate::specs::Reading::content_at))]
-fn string(text: &str) -> Result<(&str, &str), Left>
-    ensures { Gives (λ x. (x.0.now, x.1.now)) result (string_at text.now) }
-{
-    let text = byte_at(text, b'"')?;
-    let (content, rest) = text.split_at(plain_len(text));
-    Ok((content, byte_at(rest, b'"')?))
+impl Model for Pair {
+    ghost Value = { Field };
+
+    ghost view = { λ p. (string_bytes p.name, string_bytes p.value) };
+
+    ghost invariant = { λ p. 0 < length (string_bytes p.name) };
 }
 
-#[tactic(auto, unfolding(crate::specs::Reading::member_at, crate::specs::Reading::name_at))]
-fn member(text: &str) -> Result<(Member<'_>, &str), Left>
-    ensures { Gives (λ x. ((x.0.name.now, x.0.value.now), x.1.now)) result (member_at text.now) }
-{
-    let (name, rest) = string(text)?;
-    if !is_free(name) {
-        return Err(Left(text.len()));
+/// The fields so far.
+#[derive(Drop)]
+struct Listing {
+    alloc: Global,
+    pairs: Vec<Pair>,
+}
+
+impl Listing {
+    /// Lists a field. An empty name is that of the message.
+    fn push(&mut self, name: &str, value: String) -> Result<(), AllocError>
+        ensures { OnOk result (self.new.pairs.items ≡ self.old.pairs.items ++ (field_name name.now, string_bytes value) ∷ []) }
+    {
+        let name = if name.is_empty() { "_msg" } else { name };
+        let name = String::from_str(self.alloc, name)?;
+        Ok(self.pairs.push(Pair { name, value })?)
     }
-    let (value, rest) = string(mark_at(rest, b':')?)?;
-    Ok((Member { name, value }, rest))
-}
 
-/// The members from here on, of which there is one at least, and what follows their object.
-fn members<'a>(alloc: Global, text: &'a str) -> Result<(Vec<Member<'a>>, &'a str), Stop>
-    ensures { Collects (λ x. (fields_in x.0.items, x.1.now)) result (members_at (length text.now) text.now) }
-{
-    let mut list = Vec::new(alloc);
-    let mut rest = text;
-    'members: loop {
-        let (next, after) = member(rest)?;
-        list.push(next)?;
-        let after = after_space(after);
-        let Some(more) = past(after, b',') else {
-            return Ok((list, after_space(byte_at(after, b'}')?)));
-        };
-        rest = after_space(more);
+    /// Lists the fields of the value at the front, which has this name, and gives what follows it.
+    #[cycle(list)]
+    fn value<'a>(&mut self, name: &str, text: &'a str, depth: u32) -> Result<&'a str, Stop>
+        ensures { Gives (λ rest. (self.new.pairs.items, rest.now)) result
+            (mapped (λ value. self.old.pairs.items ++ value_fields name.now value) (value_at (nested_at depth) text.now)) }
+    {
+        if let Some(inside) = past(text, b'{') {
+            if depth == 0 {
+                return Err(Stop::TooDeep);
+            }
+            let before = format!(in self.alloc; "{name}.")?;
+            return self.members(before.as_str(), inside, depth - 1);
+        }
+        let (value, rest) = text::flat(self.alloc, text, depth)?;
+        self.push(name, value)?;
+        Ok(rest)
+    }
+
+    #[cycle(list)]
+    fn member<'a>(&mut self, before: &str, text: &'a str, depth: u32) -> Result<&'a str, Stop>
+        ensures { Gives (λ rest. (self.new.pairs.items, rest.now)) result
+            (mapped (λ x. self.old.pairs.items ++ value_fields (before.now ++ label_text x.0) x.1) (item_at (nested_at depth) object text.now)) }
+    {
+        let (own, rest) = text::name(self.alloc, text)?;
+        let name = format!(in self.alloc; "{before}{own}")?;
+        self.value(name.as_str(), rest, depth)
+    }
+
+    /// Lists the fields of the members behind an opening brace, whose names have this text before them.
+    #[cycle(list)]
+    fn members<'a>(&mut self, before: &str, text: &'a str, depth: u32) -> Result<&'a str, Stop>
+        ensures { Gives (λ rest. (self.new.pairs.items, rest.now)) result
+            (mapped (λ members. self.old.pairs.items ++ member_fields before.now members) (items_at (nested_at depth) object text.now)) }
+    {
+        let start = after_space(text);
+        if let Some(end) = past(start, b'}') {
+            return Ok(end);
+        }
+        let mut rest = self.member(before, start, depth)?;
+        'members: while let Some(next) = past(after_space(rest), b',') {
+            rest = self.member(before, after_space(next), depth)?;
+        }
+        expect(after_space(rest), b'}')
     }
 }
 
-/// The members of the object that is all of the text.
-#[tactic(auto, unfolding(crate::specs::Reading::text_at, crate::specs::Reading::object_at, crate::specs::Reading::inside_at))]
-fn members_of<'a>(alloc: Global, text: &'a str) -> Result<Vec<Member<'a>>, Stop>
-    ensures { Collects (λ x. fields_in x.items) result (text_at text.now) }
+/// The fields of the object that is all of the text, behind its opening brace.
+#[tactic(auto, unfolding(crate::specs::Reading::text_at, crate::specs::Reading::end_at))]
+fn listed(alloc: Global, inside: &str) -> Result<Vec<Pair>, Stop>
+    ensures { Gives (λ list. (list.items, [])) result (mapped (member_fields []) (text_at inside.now)) }
 {
-    let inside = mark_at(text, b'{')?;
-    let (list, rest) = match past(inside, b'}') {
-        Some(rest) => (Vec::new(alloc), after_space(rest)),
-        None => members(alloc, inside)?,
-    };
-    match rest.len() {
-        0 => Ok(list),
-        left => Err(Stop::At(Left(left))),
+    let pairs = Vec::new(alloc);
+    let mut listing = Listing { alloc, pairs };
+    let rest = after_space(listing.members("", inside, 63)?);
+    if !rest.is_empty() {
+        return Err(Stop::Stuck { left: rest.len() });
     }
-}
-
-fn members_of_line<'a>(alloc: Global, line: &'a [u8]) -> Result<Vec<Member<'a>>, JsonFault>
-    ensures { Lists (λ x. fields_in x.items) result (line_at line.now) }
-{
-    match std::str::from_utf8(line) {
-        Ok(text) => match members_of(alloc, text) {
-            Ok(list) => Ok(list),
-            Err(Stop::At(Left(left))) => Err(JsonFault::NotBuilt {
-                at: line.len() - left,
-            }),
-            Err(Stop::Memory) => Err(JsonFault::Memory),
-        },
-        Err(fault) => Err(JsonFault::NotBuilt {
-            at: fault.valid_up_to(),
-        }),
-    }
+    Ok(listing.pairs)
 }
 
 /// Does what `fields_of` of the crate does.
 pub fn fields_of(alloc: Global, line: &[u8], out: &mut FieldList) -> Result<(), JsonFault>
-    ensures read { OnOk result ((members : List Field) × IsLine line.now members × (out.new ≡ set_all out.old members)) }
+    ensures read { OnOk result ((fields : List Field) × IsObjectLine line.now fields × (out.new ≡ set_all out.old fields)) }
+    ensures only { OnOk result ((fields : List Field) → IsObjectLine line.now fields → out.new ≡ set_all out.old fields) }
     ensures refused { IfErr result (λ fault. Refuses fault line.now) }
+    ensures fault { IfErr result (λ fault. IsFault fault line.now) }
 {
-    let list = members_of_line(alloc, line)?;
-    for member in &list {
-        out.set(alloc, member.name, member.value)?;
+    let inside = opened(line)?;
+    let list = match listed(alloc, inside) {
+        Ok(list) => list,
+        Err(stop) => return Err(fault_of(line, stop)),
+    };
+    for pair in &list {
+        out.set(alloc, pair.name.as_str(), pair.value.as_str())?;
     }
     Ok(())
 }

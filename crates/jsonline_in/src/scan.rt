@@ -1,20 +1,13 @@
-// The items of a line. Each scanner gives what it read and the text after it.
-ghost use Rattle.std.specs.Prelude.{◌≡◌, ◌<◌, length};
+// White space, single bytes and runs of digits. Each scanner gives the text behind what it read.
+ghost use Rattle.std.specs.Prelude.{◌≡◌, ℕ, ◌<◌, ◌++◌, List, length};
 ghost use Rattle.std.specs.Option.{option_map};
 ghost use Rattle.std.specs.List.{prefix_len};
+ghost use Rattle.std.specs.Char.{is_ascii_digit, is_ascii_hexdigit};
 ghost use Rattle.log_model.specs.Json.{is_space};
-ghost use Rattle.log_model.specs.Line.{is_free};
-ghost use Rattle.jsonline_in.specs.Reading.{Gives, after_space, past, byte_at, mark_at, string_at, content_at, name_at, member_at};
+ghost use Rattle.jsonline_in.specs.Reading.{after_space, past, expect, one_of, digits_end, front_of};
+ghost use Rattle.jsonline_in.specs.Clauses.{Gives};
 
-use crate::run::plain_len;
-use crate::stop::Left;
-
-/// A name and its value, as they stand in the line.
-#[derive(Clone, Copy)]
-pub(crate) struct Member<'a> {
-    pub(crate) name: &'a str,
-    pub(crate) value: &'a str,
-}
+use crate::stop::Stop;
 
 #[inline]
 fn is_space(byte: u8) -> bool
@@ -51,70 +44,57 @@ pub(crate) fn past(text: &str, byte: u8) -> Option<&str>
     }
 }
 
-#[tactic(auto, unfolding(crate::specs::Reading::byte_at))]
+#[tactic(auto, unfolding(crate::specs::Reading::expect))]
 #[inline]
-pub(crate) fn byte_at(text: &str, byte: u8) -> Result<&str, Left>
+pub(crate) fn expect(text: &str, byte: u8) -> Result<&str, Stop>
     requires { byte < 128 }
-    ensures { Gives (λ rest. rest.now) result (byte_at byte text.now) }
+    ensures { Gives (λ rest. (tt, rest.now)) result (expect byte text.now) }
 {
-    past(text, byte).ok_or(Left(text.len()))
-}
-
-#[tactic(auto, unfolding(crate::specs::Reading::mark_at))]
-#[inline]
-pub(crate) fn mark_at(text: &str, mark: u8) -> Result<&str, Left>
-    requires { mark < 128 }
-    ensures { Gives (λ rest. rest.now) result (mark_at mark text.now) }
-{
-    Ok(after_space(byte_at(after_space(text), mark)?))
-}
-
-#[tactic(auto, using(crate::proofs::Cuts::plain_cut), unfolding(crate::specs::Reading::content_at))]
-#[inline]
-fn content_at(text: &str) -> Result<(&str, &str), Left>
-    ensures { Gives (λ x. (x.0.now, x.1.now)) result (content_at text.now) }
-{
-    let (content, rest) = text.split_at(plain_len(text.as_bytes()));
-    Ok((content, byte_at(rest, b'"')?))
-}
-
-#[tactic(auto, unfolding(crate::specs::Reading::string_at))]
-#[inline]
-fn string_at(text: &str) -> Result<(&str, &str), Left>
-    ensures { Gives (λ x. (x.0.now, x.1.now)) result (string_at text.now) }
-{
-    content_at(byte_at(text, b'"')?)
-}
-
-#[inline]
-pub(crate) fn is_free(name: &str) -> bool
-    ensures { result ≡ is_free name.now }
-{
-    match name.as_bytes().first() {
-        None => false,
-        Some(b'_') => name != "_time" && name != "_stream" && name != "_stream_id",
-        Some(_) => true,
+    match past(text, byte) {
+        Some(rest) => Ok(rest),
+        None => Err(Stop::Stuck { left: text.len() }),
     }
 }
 
-#[tactic(auto, unfolding(crate::specs::Reading::name_at))]
+/// What stands before the rest of a text.
 #[inline]
-fn name_at(text: &str) -> Result<(&str, &str), Left>
-    ensures { Gives (λ x. (x.0.now, x.1.now)) result (name_at text.now) }
+pub(crate) fn front<'a>(text: &'a str, rest: &str) -> &'a str
+    requires { (taken : List ℕ) × (text.now ≡ taken ++ rest.now) }
+    ensures { result.now ≡ front_of text.now rest.now }
 {
-    let (name, rest) = string_at(text)?;
-    if !is_free(name) {
-        return Err(Left(text.len()));
-    }
-    Ok((name, rest))
+    &text[..text.len() - rest.len()]
 }
 
-#[tactic(auto, unfolding(crate::specs::Reading::member_at))]
 #[inline]
-pub(crate) fn member_at(text: &str) -> Result<(Member<'_>, &str), Left>
-    ensures { Gives (λ x. ((x.0.name.now, x.0.value.now), x.1.now)) result (member_at text.now) }
+fn digits_len(bytes: &[u8]) -> usize
+    ensures { result ≡ prefix_len is_ascii_digit bytes.now }
 {
-    let (name, rest) = name_at(text)?;
-    let (value, rest) = string_at(mark_at(rest, b':')?)?;
-    Ok((Member { name, value }, rest))
+    bytes
+        .iter()
+        .take_while(|byte| byte.is_ascii_digit())
+        .count()
+}
+
+/// One decimal digit or more.
+#[tactic(auto, using(crate::proofs::Cuts::digits_cut), unfolding(crate::specs::Reading::digits_end))]
+#[inline]
+pub(crate) fn digits(text: &str) -> Result<&str, Stop>
+    ensures { Gives (λ rest. (tt, rest.now)) result (digits_end text.now) }
+{
+    let len = digits_len(text.as_bytes());
+    if len == 0 {
+        return Err(Stop::Stuck { left: text.len() });
+    }
+    Ok(&text[len..])
+}
+
+/// One hexadecimal digit.
+#[tactic(auto, using(crate::proofs::Cuts::hex_cut), unfolding(crate::specs::Reading::one_of))]
+pub(crate) fn hex(text: &str) -> Result<(u8, &str), Stop>
+    ensures { Gives (λ x. (x.0, x.1.now)) result (one_of is_ascii_hexdigit text.now) }
+{
+    match text.as_bytes() {
+        [first, ..] if first.is_ascii_hexdigit() => Ok((*first, &text[1..])),
+        _ => Err(Stop::Stuck { left: text.len() }),
+    }
 }

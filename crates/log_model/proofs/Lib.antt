@@ -1,3 +1,4 @@
 pub mod Labels
 pub mod Numbering
 pub mod Standing
+pub mod Lines

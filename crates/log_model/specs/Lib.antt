@@ -7,11 +7,9 @@ pub mod MomentText
 pub mod Stream
 pub mod Json
 pub mod Line
-pub mod Intake
 pub mod Words
 pub mod Query
 pub mod Print
-pub mod Program
 pub mod Token
 pub mod Value
 pub mod ObjectLine

@@ -2,7 +2,8 @@
 use Rattle.std.proofs.Common.{◌≡◌, ◌⊎◌, inl, inr, ℕ, suc, ◌+◌, ◌<◌, ◌≤◌, List, [], ◌∷◌, ◌++◌, length, refl, sym, ap, subst, ◌∙◌, arith, append_assoc}
 use Rattle.std.proofs.lemmas.Grind.{flat_map-append}
 use Rattle.std.specs.List.{AllByRecursion, AllZip}
-use Rattle.log_model.specs.Intake.{AreGroups, BeginsWith, Gives, IsIntake, Outcome, passed_over, read, refused, batch_of, batches_of, outcomes_in, refusals_from, refusal_text, rows_read}
+use Rattle.ingest_row.specs.Intake.{Outcome, passed_over, read, refused, rows_read}
+use Rattle.vl_top.specs.Intake.{AreGroups, BeginsWith, Gives, IsIntake, batch_of, batches_of, outcomes_in, refusals_from, refusal_text}
 use Rattle.log_model.specs.Line.{lines_of}
 use Rattle.vl_top.proofs.LineLemmas.{EndsLine, lines_of-after}
 
@@ -38,9 +39,9 @@ refusals_from-append : (number : ℕ) (os more : List Outcome) → refusals_from
 refusals_from-append number [] more = ap (λ n. refusals_from n more) (omega arith)
 refusals_from-append number (passed_over ∷ os) more = refusals_from-append (suc number) os more ∙ ap (λ n. refusals_from (suc number) os ++ refusals_from n more) (omega arith)
 refusals_from-append number (read row ∷ os) more = refusals_from-append (suc number) os more ∙ ap (λ n. refusals_from (suc number) os ++ refusals_from n more) (omega arith)
-refusals_from-append number (refused ∷ os) more =
-    ap (λ l. refusal_text number ++ l) (refusals_from-append (suc number) os more ∙ ap (λ n. refusals_from (suc number) os ++ refusals_from n more) (omega arith))
-    ∙ sym (append_assoc (refusal_text number) (refusals_from (suc number) os) (refusals_from (number + suc (length os)) more))
+refusals_from-append number (refused kind ∷ os) more =
+    ap (λ l. refusal_text number kind ++ l) (refusals_from-append (suc number) os more ∙ ap (λ n. refusals_from (suc number) os ++ refusals_from n more) (omega arith))
+    ∙ sym (append_assoc (refusal_text number kind) (refusals_from (suc number) os) (refusals_from (number + suc (length os)) more))
 
 -- the names of the refused lines of one group more
 pub refusals-more : (groups : List (List Outcome)) (group : List Outcome) (before : ℕ) → before ≡ length (outcomes_in groups)

@@ -3,7 +3,7 @@ use Rattle.std.proofs.Common.{◌≡◌, ℕ, ◌<◌, List, [], ◌∷◌, ◌+
 use Rattle.std.proofs.lemmas.List.{map-append}
 use Rattle.log_model.specs.Core.{Contents, Goes, Stands, commit}
 use Rattle.log_model.specs.History.{Numbered, made_by, rows_in}
-use Rattle.log_model.specs.Intake.{batch_of}
+use Rattle.vl_top.specs.Intake.{batch_of}
 use Rattle.log_model.specs.Row.{Batch, Row}
 use Rattle.log_model.proofs.Standing.{stands_after}
 use Rattle.vl_top.specs.Load.{IsHeld}

@@ -1,10 +1,9 @@
 pub mod AnswerLemmas
 pub mod GroupLemmas
 pub mod HeldLemmas
-pub mod IntakeLemmas
 pub mod LineLemmas
 pub mod LoadLemmas
 pub mod PipeLemmas
 pub mod ReportLemmas
-pub mod TakingLemmas
+pub mod RefusalLemmas
 pub mod WeightLemmas

@@ -1,46 +1,9 @@
--- Cutting an input at its line feeds.
-use Rattle.std.proofs.Common.{◌≡◌, ◌≢◌, ◌⊎◌, inl, inr, ℕ, zero, suc, ◌+◌, ◌<◌, ◌≤◌, true, false, cond, eqb, List, [], ◌∷◌, ◌++◌, length, get_or, take, drop, refl, ap, sym, subst, ◌∙◌, arith}
+-- Whole lines, and what comes behind them.
+use Rattle.std.proofs.Common.{◌≡◌, ◌⊎◌, inl, inr, ℕ, ◌+◌, ◌<◌, ◌≤◌, true, false, cond, eqb, List, [], ◌∷◌, ◌++◌, length, refl, ap, sym, subst, ◌∙◌, arith}
 use Rattle.std.proofs.lemmas.List.Sums.{sum_by-cons}
 use Rattle.std.specs.Prelude.{count_by}
-use Rattle.std.proofs.lemmas.Bool.Decides.{nat_tests}
 use Rattle.log_model.specs.Line.{lines_of, onto}
 use Rattle.vl_io.specs.Lines.{AreLines, is_feed}
-
-not_equal : (x y : ℕ) → (x ≢ y) → eqb x y ≡ false
-not_equal x y n = grind (arith, nat_tests)
-
-lines_of-feed : (x : ℕ) (xs : List ℕ) → x ≡ 10 → lines_of (x ∷ xs) ≡ [] ∷ lines_of xs
-unfolding lines_of
-lines_of-feed x xs e = rw e refl
-
-lines_of-other : (x : ℕ) (xs : List ℕ) → (x ≢ 10) → lines_of (x ∷ xs) ≡ onto x (lines_of xs)
-unfolding lines_of
-lines_of-other x xs n = rw (not_equal x 10 n) refl
-
--- the first line feed is at i
-pub lines_of-at : (xs : List ℕ) (i : ℕ) → i < length xs → get_or xs i 0 ≡ 10 → ((k : ℕ) → k < i → get_or xs k 0 ≢ 10) → lines_of xs ≡ take i xs ∷ lines_of (drop (suc i) xs)
-lines_of-at [] i within feed before = absurd (omega arith)
-lines_of-at (x ∷ xs) zero within feed before = lines_of-feed x xs feed
-lines_of-at (x ∷ xs) (suc i) within feed before =
-    lines_of-other x xs (before 0 (omega arith))
-    ∙ ap (onto x) (lines_of-at xs i (omega arith) feed (λ k h. before (suc k) (omega arith)))
-
--- there is no line feed
-pub lines_of-whole : (x : ℕ) (xs : List ℕ) → ((k : ℕ) → k < length (x ∷ xs) → get_or (x ∷ xs) k 0 ≢ 10) → lines_of (x ∷ xs) ≡ (x ∷ xs) ∷ []
-unfolding lines_of
-lines_of-whole x [] none = lines_of-other x [] (none 0 (omega arith))
-lines_of-whole x (y ∷ ys) none =
-    lines_of-other x (y ∷ ys) (none 0 (omega arith))
-    ∙ ap (onto x) (lines_of-whole y ys (λ k h. none (suc k) (omega arith)))
-
-pub lines_of-nil : (xs : List ℕ) → length xs ≡ 0 → lines_of xs ≡ []
-unfolding lines_of
-lines_of-nil [] e = refl
-lines_of-nil (x ∷ xs) e = absurd (omega arith)
-
-pub lines_of-rest : (xs : List ℕ) → 0 < length xs → ((k : ℕ) → k < length xs → get_or xs k 0 ≢ 10) → (rest : List ℕ) → length rest ≡ 0 → lines_of xs ≡ xs ∷ lines_of rest
-lines_of-rest [] some none rest empty = absurd (omega arith)
-lines_of-rest (x ∷ xs) some none rest empty = lines_of-whole x xs none ∙ ap (λ ls. (x ∷ xs) ∷ ls) (sym (lines_of-nil rest empty))
 
 -- nothing, or whole lines
 abbrev pub EndsLine : List ℕ → Type 0
@@ -100,10 +63,6 @@ pub length-lines_of : (count : ℕ) (bytes : List ℕ) → AreLines count bytes 
 length-lines_of count bytes are =
     ap (λ bs. length (lines_of bs)) are.ends ∙ length-lines_of-ended are.front ∙ ap (count_by is_feed) (sym are.ends) ∙ are.feeds
 
-length-onto-le : (x : ℕ) (lines : List (List ℕ)) → length (onto x lines) ≤ length lines + 1
-length-onto-le x [] = omega arith
-length-onto-le x (line ∷ lines) = omega arith
-
 onto_few : (x : ℕ) (lines : List (List ℕ)) (n : ℕ) → length lines ≤ n + 1 → length (onto x lines) ≤ n + 1
 onto_few x [] n few = omega arith
 onto_few x (line ∷ lines) n few = few
@@ -122,19 +81,3 @@ lines_few (x ∷ xs) =
 pub lines_some : (bytes : List ℕ) → 0 < length bytes → 0 < length (lines_of bytes)
 lines_some [] some = absurd (omega arith)
 lines_some (x ∷ xs) some = some_lines x xs
-
--- as many lines as bytes, at most
-pub lines_le : (bytes : List ℕ) → length (lines_of bytes) ≤ length bytes
-unfolding lines_of
-lines_le [] = omega arith
-lines_le (x ∷ xs) =
-    let more = lines_le xs in
-    let feed : length ([] ∷ lines_of xs) ≤ length xs + 1 = omega (arith, more) in
-    let other : length (onto x (lines_of xs)) ≤ length xs + 1 = omega (arith, more, length-onto-le x (lines_of xs)) in
-    let both : length (cond (eqb x 10) ([] ∷ lines_of xs) (onto x (lines_of xs))) ≤ length xs + 1 =
-    elim (eqb x 10) as (λ t. length (cond t ([] ∷ lines_of xs) (onto x (lines_of xs))) ≤ length xs + 1) [ true ↦ feed | false ↦ other ] in
-    omega (arith, both)
-
-pub lines_of-none : lines_of [] ≡ []
-unfolding lines_of
-lines_of-none = refl

@@ -10,9 +10,10 @@ use Rattle.vl_io.specs.Lines.{Advances, IsGroup, IsOver, Reading, bytes_read}
 use Rattle.vl_io.proofs.Laws.{Appends-nil, Appends-trans, Consumes-nil, Consumes-trans, Rose-earlier}
 use Rattle.log_model.specs.Core.{Contents, held_limit}
 use Rattle.log_model.specs.History.{Entry, Numbered}
-use Rattle.log_model.specs.Intake.{AreGroups, BeginsWith, Gives, IsIntake, Outcome, batches_of, outcomes_in, refusals_from, rows_read}
+use Rattle.ingest_row.specs.Intake.{Outcome, rows_read}
+use Rattle.vl_top.specs.Intake.{AreGroups, BeginsWith, Gives, IsIntake, batches_of, outcomes_in, refusals_from}
 use Rattle.log_model.specs.Line.{lines_of}
-use Rattle.log_model.specs.Program.{CanBeHeld, IsBeyond, input_limit}
+use Rattle.vl_top.specs.Program.{CanBeHeld, IsBeyond, input_limit}
 use Rattle.log_model.specs.Row.{Batch, batch_limit, batch_weight}
 use Rattle.vl_top.specs.Load.{AppendsFront, IsBegun, IsHeld, IsLoaded, IsStopped, IsTooMuch, StopsGroup, StopsLoad, TakesGroup}
 use Rattle.vl_top.specs.Stop.{limit_of, stop_at}
@@ -23,7 +24,8 @@ use Rattle.vl_top.specs.declared.stop.Limit.TheVariants.{Long, Large, Full}
 use Rattle.vl_top.specs.declared.stop.Stop.{Stop}
 use Rattle.vl_top.specs.declared.stop.Stop.TheVariants.{Unreadable, Unwritable, Beyond, NoMemory}
 use Rattle.vl_top.proofs.GroupLemmas.{append_nil, AllByRecursion-more, AllZip-length, AreGroups-more, AreGroups-weaken, AreWhole, batches-more, begins_whole, intake-more, outcomes-more, refusals-more}
-use Rattle.vl_top.proofs.LineLemmas.{EndsLine, length-lines_of, lines_few, lines_le, lines_of-after, lines_of-none, lines_some}
+use Rattle.log_model.proofs.Lines.{lines_le, lines_of-none}
+use Rattle.vl_top.proofs.LineLemmas.{EndsLine, length-lines_of, lines_few, lines_of-after, lines_some}
 
 -- what is so at the start of each turn
 pub record Loading (now : ℕ) (left_old left_new err_old err_new : Option (List ℕ)) (reader : Reading) (shelf : Contents (List Numbered)) (lines : ℕ) : Type 0 where

@@ -6,9 +6,9 @@ use Rattle.vl_io.specs.Faults.{Rose}
 use Rattle.vl_io.proofs.Laws.{Appends-trans, Rose-earlier}
 use Rattle.log_model.specs.Core.{Contents, HoldsEach, parts_of}
 use Rattle.log_model.specs.History.{Numbered, made_by, rows_in}
-use Rattle.log_model.specs.Intake.{batches_of, outcomes_in, refusals_from}
+use Rattle.vl_top.specs.Intake.{batches_of, outcomes_in, refusals_from}
 use Rattle.log_model.specs.Print.{lines_text}
-use Rattle.log_model.specs.Program as model
+use Rattle.vl_top.specs.Program as model
 use Rattle.log_model.specs.Query.{Query, evaluation}
 use Rattle.log_model.specs.Row.{Batch}
 use Rattle.log_model.proofs.Numbering.{rows_in_numbered}

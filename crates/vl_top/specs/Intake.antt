@@ -1,35 +1,68 @@
--- What becomes of lines, as the program keeps it.
-use Rattle.std.specs.Prelude.{◌≡◌, ◌+◌, ◌++◌, ℕ, List, [], string_bytes}
-use Rattle.log_model.specs.Field.{Field}
-use Rattle.log_model.specs.Row.{IsRow}
-use Rattle.log_model.specs.Intake as model
-use Rattle.vl_row.specs.Faults.{stored}
-use Rattle.vl_top.specs.declared.intake.Intake.{Intake}
-use Rattle.vl_top.specs.declared.intake.Outcome.{Outcome}
-use Rattle.vl_top.specs.declared.intake.Outcome.TheVariants.{PassedOver, Read, Refused}
+-- What an input of the program gives: rows, in batches, and the names of its refused lines.
+use Rattle.std.specs.Prelude.{◌≡◌, ◌⊎◌, ℕ, ◌+◌, suc, pos, ◌<◌, ◌≤◌, List, [], ◌∷◌, ◌++◌, length, flat_map, codes, decimal, string_bytes}
+use Rattle.std.specs.List.{AllZip}
+use Rattle.log_model.specs.Line.{lines_of}
+use Rattle.log_model.specs.Row.{Row, Batch}
+use Rattle.ingest_row.specs.Ingest.{plain}
+use Rattle.ingest_row.specs.Intake as body
+use Rattle.ingest_row.specs.Intake.{Outcome, passed_over, read, refused, rows_read}
+use Rattle.ingest_row.specs.Refusal.{kind_text}
+use Rattle.ingest_row.specs.declared.body.LineFault.{LineFault}
+use Rattle.ingest_row.specs.declared.kind.LineKind.{LineKind}
+use Rattle.vl_top.specs.declared.intake.Group.{Group}
 
-abbrev pub outcome_of : Outcome → model.Outcome
-outcome_of PassedOver = model.passed_over
-outcome_of (Read row) = model.read row
-outcome_of Refused = model.refused
+-- what becomes of a line that comes in at the moment `now`, with nothing else asked for
+abbrev pub Gives : ℕ → List ℕ → Outcome → Type 0
+Gives now line outcome = body.Gives plain (pos now) line outcome
 
--- the row of these fields, or none where they make no row
-abbrev pub IsMade : ℕ → List Field → Outcome → Type 0
-IsMade now fields PassedOver = ⊥
-IsMade now fields (Read row) = (row ≡ record { moment = now; labels = []; fields = stored fields }) × IsRow row
-IsMade now fields Refused = IsRow (record { moment = now; labels = []; fields = stored fields }) → ⊥
+-- each line of the input has its outcome, in order
+abbrev pub IsIntake : ℕ → List ℕ → List Outcome → Type 0
+IsIntake now input outcomes = AllZip (Gives now) (lines_of input) outcomes
 
--- Each line of the body has its outcome. These are the rows, and the text that names the refused lines, where so many
+-- names the line with this number
+abbrev pub refusal_text : ℕ → LineKind → List ℕ
+refusal_text number kind = codes "line " ++ (decimal number ++ (codes ": " ++ (kind_text kind ++ 10 ∷ [])))
+
+-- names each refused line, where the first one has this number
+abbrev pub refusals_from : ℕ → List Outcome → List ℕ
+refusals_from number [] = []
+refusals_from number (passed_over ∷ outcomes) = refusals_from (suc number) outcomes
+refusals_from number (read row ∷ outcomes) = refusals_from (suc number) outcomes
+refusals_from number (refused kind ∷ outcomes) = refusal_text number kind ++ refusals_from (suc number) outcomes
+
+-- Lines go in groups of a thousand. A group with fewer is the last, and after it the input is over.
+abbrev pub AreGroups : List (List Outcome) → Type 0 → Type 0
+AreGroups [] over = Unit {0}
+AreGroups (group ∷ groups) over =
+    (0 < length group) × (length group ≤ 1000) × ((length group ≡ 1000) ⊎ (groups ≡ [] × over)) × AreGroups groups over
+
+abbrev pub outcomes_in : List (List Outcome) → List Outcome
+outcomes_in groups = flat_map (λ group. group) groups
+
+-- rows that came together are one batch, if there are any
+abbrev pub batch_of : List Row → List Batch
+batch_of [] = []
+batch_of (row ∷ rows) = (row ∷ rows) ∷ []
+
+-- each group with a row makes one batch
+abbrev pub batches_of : List (List Outcome) → List Batch
+batches_of groups = flat_map (λ group. batch_of (rows_read group)) groups
+
+-- The first lines of the input have these outcomes, in groups. `ended` says that no more input comes.
+pub record BeginsWith (now : ℕ) (input : List ℕ) (ended : Type 0) (groups : List (List Outcome)) : Type 0 where
+  pub lines : List (List ℕ)
+  pub later : List (List ℕ)
+  pub cut : lines_of input ≡ lines ++ later
+  pub given : AllZip (Gives now) lines (outcomes_in groups)
+  pub grouped : AreGroups groups (later ≡ [] × ended)
+
+-- the names of these lines, where so many came before
+abbrev pub names_after : ℕ → List LineFault → List ℕ
+names_after before faults = flat_map (λ fault. refusal_text (before + fault.line) fault.kind) faults
+
+-- The lines of a group have these outcomes. These are its rows, and the text that names its refused lines, where so many
 -- lines came before.
-pub record IsTaken (now : ℕ) (body : List ℕ) (before : ℕ) (outcomes : List model.Outcome) (intake : Intake) : Type 0 where
-  pub given : model.IsIntake now body outcomes
-  pub rows : intake.rows.items ≡ model.rows_read outcomes
-  pub refusals : string_bytes intake.refusals ≡ model.refusals_from (before + 1) outcomes
-
--- Whatever the lines of the rest give, added to what was taken in, is what all lines give.
-abbrev pub IsTaking : ℕ → List ℕ → ℕ → List ℕ → ℕ → Intake → Type 0
-IsTaking now body before rest number intake =
-    (later : List model.Outcome) → model.IsIntake now rest later
-    → (outcomes : List model.Outcome) × model.IsIntake now body outcomes
-    × (model.rows_read outcomes ≡ intake.rows.items ++ model.rows_read later)
-    × (model.refusals_from (before + 1) outcomes ≡ string_bytes intake.refusals ++ model.refusals_from (number + 1) later)
+pub record IsTaken (now : ℕ) (body : List ℕ) (before : ℕ) (outcomes : List Outcome) (group : Group) : Type 0 where
+  pub given : IsIntake now body outcomes
+  pub rows : group.rows.items ≡ rows_read outcomes
+  pub refusals : string_bytes group.refusals ≡ refusals_from (before + 1) outcomes

@@ -1,5 +1,6 @@
 pub mod Intake
 pub mod Load
+pub mod Program
 pub mod Query
 pub mod Run
 pub mod Status

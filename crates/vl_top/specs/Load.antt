@@ -4,8 +4,9 @@ use Rattle.vl_io.specs.Bytes.{Appends, Consumes, IsAtEnd}
 use Rattle.vl_io.specs.Faults.{Rose}
 use Rattle.log_model.specs.Core.{Contents, Stands, held_limit}
 use Rattle.log_model.specs.History.{Numbered, made_by}
-use Rattle.log_model.specs.Intake.{BeginsWith, IsIntake, Outcome, batch_of, batches_of, outcomes_in, refusals_from, rows_read}
-use Rattle.log_model.specs.Program.{CanBeHeld, IsBeyond, input_limit}
+use Rattle.ingest_row.specs.Intake.{Outcome, rows_read}
+use Rattle.vl_top.specs.Intake.{BeginsWith, IsIntake, batch_of, batches_of, outcomes_in, refusals_from}
+use Rattle.vl_top.specs.Program.{CanBeHeld, IsBeyond, input_limit}
 use Rattle.log_model.specs.Row.{Batch, Row, batch_limit, batch_weight}
 use Rattle.vl_top.specs.declared.stop.Limit.{Limit}
 use Rattle.vl_top.specs.declared.stop.Limit.TheVariants.{Long, Large, Full}

@@ -3,9 +3,10 @@ use Rattle.std.specs.Prelude.{◌≡◌, ◌⊎◌, ℕ, ◌≤◌, List, ◌++�
 use Rattle.vl_io.specs.Bytes.{Appends, Consumes, IsAtEnd}
 use Rattle.vl_io.specs.Faults.{Rose}
 use Rattle.vl_io.specs.Moments.{FirstTold}
-use Rattle.log_model.specs.Intake.{Outcome, outcomes_in, refusals_from}
-use Rattle.log_model.specs.Program.{CanBeHeld, IsAnswer, IsStop, command_of, status_of, stop_text}
-use Rattle.log_model.specs.Program as model
+use Rattle.ingest_row.specs.Intake.{Outcome}
+use Rattle.vl_top.specs.Intake.{outcomes_in, refusals_from}
+use Rattle.vl_top.specs.Program.{CanBeHeld, IsAnswer, IsStop, command_of, status_of, stop_text}
+use Rattle.vl_top.specs.Program as model
 use Rattle.log_model.specs.Query.{Query, query_of}
 use Rattle.vl_top.specs.Load.{AppendsFront, IsBegun, IsStopped}
 use Rattle.vl_top.specs.Stop.{limit_of}

@@ -1,5 +1,5 @@
 -- Why a run ends before all is done, as the program keeps it.
-use Rattle.log_model.specs.Program as model
+use Rattle.vl_top.specs.Program as model
 use Rattle.vl_io.specs.declared.transfer.ReadFault.{ReadFault}
 use Rattle.vl_io.specs.declared.transfer.ReadFault.TheVariants as faults
 use Rattle.vl_top.specs.declared.stop.Limit.{Limit}

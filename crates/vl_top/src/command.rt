@@ -1,8 +1,8 @@
 ghost use Rattle.std.specs.Prelude.{◌≡◌, map, option_map};
-ghost use Rattle.log_model.specs.Program.{command_of};
+ghost use Rattle.vl_top.specs.Program.{command_of};
 
 /// The text of the query, where the words are `pipe` and a query.
-#[tactic(auto, unfolding(log_model::specs::Program::command_of))]
+#[tactic(auto, unfolding(crate::specs::Program::command_of))]
 pub fn query_text<'a>(words: &[&'a str]) -> Option<&'a str>
     ensures { option_map (λ text. text.now) result ≡ command_of (map (λ word. word.now) words.now) }
 {

@@ -1,6 +1,7 @@
 //! The way of an input into the shelf.
 ghost use Rattle.std.specs.Prelude.{◌≡◌, ◌+◌, ◌^◌, ◌≤◌, ◌<◌, ◌≤ℤ◌, List, [], OnOk, IfErr, length, pos, unsigned_abs};
-ghost use Rattle.log_model.specs.Intake.{Outcome, refusals_from};
+ghost use Rattle.ingest_row.specs.Intake.{Outcome};
+ghost use Rattle.vl_top.specs.Intake.{refusals_from};
 ghost use Rattle.log_model.specs.Line.{lines_of};
 ghost use Rattle.log_model.specs.Row.{Batch as Rows, batch_weight};
 ghost use Rattle.vl_io.specs.Bytes.{Appends};

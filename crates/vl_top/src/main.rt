@@ -4,7 +4,6 @@
 mod answer;
 mod command;
 mod intake;
-mod lines;
 mod load;
 mod query;
 mod report;

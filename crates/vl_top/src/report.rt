@@ -1,6 +1,6 @@
 //! What is said on the error stream where a run ends before all is done.
 ghost use Rattle.std.specs.Prelude.{◌≡◌};
-ghost use Rattle.log_model.specs.Program.{refused_text, usage_text};
+ghost use Rattle.vl_top.specs.Program.{refused_text, usage_text};
 ghost use Rattle.vl_top.specs.Run.{IsSaid, ReportsStop};
 
 use crate::status::Status;

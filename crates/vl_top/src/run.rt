@@ -1,7 +1,7 @@
 ghost use Rattle.std.specs.Prelude.{◌≡◌, ◌≢◌, ◌⊎◌, ◌↔◌, ◌≤◌, ◌≤ℤ◌, ℕ, OnOk, IfErr, None, map, pos, unsigned_abs};
 ghost use Rattle.vl_io.specs.Moments.{FirstTold};
 ghost use Rattle.vl_io.specs.Faults.{Rose};
-ghost use Rattle.log_model.specs.Program.{command_of, IsRefused, refused_text, usage_text};
+ghost use Rattle.vl_top.specs.Program.{command_of, IsRefused, refused_text, usage_text};
 ghost use Rattle.log_model.specs.Query.{Query as Asked};
 ghost use Rattle.vl_top.specs.Query.{meaning};
 ghost use Rattle.vl_top.specs.Run.{EndsQuery, ForQuery, IsAnswered, IsCut, IsEnded, IsQuery, IsSaid, StopsPipe};

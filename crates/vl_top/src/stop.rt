@@ -1,5 +1,5 @@
 ghost use Rattle.std.specs.Prelude.{◌≡◌, ◌++◌, ◌∷◌, [], IfOk, string_bytes};
-ghost use Rattle.log_model.specs.Program.{limit_text};
+ghost use Rattle.vl_top.specs.Program.{limit_text};
 
 use std::alloc::{AllocError, Global};
 use vl_io::ReadFault;

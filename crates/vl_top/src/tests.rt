@@ -1,9 +1,10 @@
 //! The program over objects in memory. Below it, the crates that it stands on: a crate with tests is proved twice, so theirs are here.
 //!
 //! The expected texts are worked by hand from the rules in `docs/`.
+mod ingest_tests;
 mod line_tests;
 mod moment_tests;
-mod object_tests;
+mod option_tests;
 mod outside_tests;
 mod record_tests;
 mod row_tests;
@@ -64,16 +65,23 @@ const THREE: &str = "{\"_msg\":\"an error: x\"}\n{\"_msg\":\"all fine\"}\n{\"_ms
 const FIRST: &str =
     "{\"_msg\":\"an error: x\",\"_stream\":\"{}\",\"_stream_id\":\"44136fa355b3678a1146ad16f7e8649e\",\"_time\":\"1970-01-01T00:00:00.000000005Z\"}\n";
 
+const FLATTENED: &str =
+    "{\"host\":{\"os\":\"x\"},\"d\":1.50,\"t\":[1, \"a\"],\"e\":\"\",\"n\":null}\n";
+
+const FLAT: &str =
+    "{\"_stream\":\"{}\",\"_stream_id\":\"44136fa355b3678a1146ad16f7e8649e\",\"_time\":\"1970-01-01T00:00:00.000000005Z\",\"d\":\"1.50\",\"host.os\":\"x\",\"t\":\"[1,\\\"a\\\"]\"}\n";
+
 #[test]
 fn a_word_query_gives_the_lines_that_have_it(rt: HostRuntime) -> Result<(), Fail> {
     for (query, input, out, err) in [
         ("error", THREE, FIRST, ""),
         ("*", "", "", ""),
+        ("*", FLATTENED, FLAT, ""),
         (
             "error",
             "{\"_msg\":\"an error: x\"}\nx\n",
             FIRST,
-            "line 2: NotBuilt\n",
+            "line 2: NotObject\n",
         ),
     ] {
         let wanted = Wanted {
@@ -146,24 +154,22 @@ fn what_is_no_command_is_refused_before_anything_is_read(rt: HostRuntime) -> Res
     Ok(())
 }
 
-const NO_ROWS: [&[u8]; 13] = [
-    b"{",
-    b"}",
-    b"x",
-    b"\0",
-    b"{\"_msg\":\"\xff\"}",
-    b"{\"_msg\":\"a\0b\"}",
-    b"{\"_msg\":\"a\\nb\"}",
-    b"{\"_msg\":1}",
-    b"{}",
-    b"{\"a\":\"\"}",
-    b"{\"\":\"a\"}",
-    b"{\"_time\":\"0\",\"a\":\"b\"}",
-    b"{\"a\":\"b\"} {}",
+const NO_ROWS: [(&[u8], &str); 11] = [
+    (b"{", "line 2: NotJson\n"),
+    (b"}", "line 2: NotObject\n"),
+    (b"x", "line 2: NotObject\n"),
+    (b"\0", "line 2: NotObject\n"),
+    (b"{\"_msg\":\"\xff\"}", "line 2: NotUtf8\n"),
+    (b"{\"_msg\":\"a\0b\"}", "line 2: NotJson\n"),
+    (b"{\"_msg\":01}", "line 2: NotJson\n"),
+    (b"{}", "line 2: Empty\n"),
+    (b"{\"a\":\"\",\"_time\":1}", "line 2: Empty\n"),
+    (b"{\"_time\":\"x\",\"a\":\"b\"}", "line 2: BadTime\n"),
+    (b"{\"a\":\"b\"} {}", "line 2: NotJson\n"),
 ];
 
-/// Whether such a line between two good ones is refused, and nothing else is lost.
-fn is_named(rt: &HostRuntime, line: &[u8]) -> Result<bool, AllocError> {
+/// Whether such a line between two good ones is refused so, and nothing else is lost.
+fn is_named(rt: &HostRuntime, line: &[u8], named: &str) -> Result<bool, AllocError> {
     let good = "{\"_msg\":\"good\"}\n";
     let shown =
         "{\"_msg\":\"good\",\"_stream\":\"{}\",\"_stream_id\":\"44136fa355b3678a1146ad16f7e8649e\",\"_time\":\"1970-01-01T00:00:00.000000005Z\"}\n";
@@ -175,19 +181,19 @@ fn is_named(rt: &HostRuntime, line: &[u8]) -> Result<bool, AllocError> {
     let wanted = Wanted {
         status: 0,
         out: out.as_str(),
-        err: "line 2: NotBuilt\n",
+        err: named,
     };
     ends(rt, &["pipe", "*"], &input, NONE, wanted)
 }
 
 #[test]
 fn a_line_that_is_no_row_is_named_and_nothing_else_is_lost(rt: HostRuntime) -> Result<(), Fail> {
-    for line in NO_ROWS {
-        assert!(rt; is_named(&rt, line)?, "{line:?}");
+    for (line, named) in NO_ROWS {
+        assert!(rt; is_named(&rt, line, named)?, "{line:?}");
     }
-    for bracket in [b'[', b'{'] {
+    for (bracket, named) in [(b'[', "line 2: NotObject\n"), (b'{', "line 2: NotJson\n")] {
         let deep = vec![in rt.alloc(); bracket; 100_000]?;
-        assert!(rt; is_named(&rt, &deep)?, "{bracket}");
+        assert!(rt; is_named(&rt, &deep, named)?, "{bracket}");
     }
     Ok(())
 }
@@ -213,7 +219,7 @@ fn lines_are_cut_at_line_feeds_and_blank_ones_are_passed_over(rt: HostRuntime) -
 #[test]
 fn a_fault_ends_the_run_with_its_status(rt: HostRuntime) -> Result<(), Fail> {
     let input = "x\n{\"_msg\":\"an error: x\"}\n";
-    let named = "line 1: NotBuilt\n";
+    let named = "line 1: NotObject\n";
     for (failing, status, err) in [
         (
             Failing {
@@ -287,7 +293,7 @@ fn what_was_taken_in_before_a_fault_is_named(rt: HostRuntime) -> Result<(), Fail
     let wanted = Wanted {
         status: 3,
         out: "",
-        err: "line 1: NotBuilt\nread fault\n",
+        err: "line 1: NotObject\nread fault\n",
     };
     assert!(rt; ends(&rt, &["pipe", "*"], &input, failing, wanted)?);
     Ok(())

@@ -1,5 +1,5 @@
 use Rattle.std.proofs.Common.{◌<◌, ◌^◌, sym, subst}
-use Rattle.log_model.specs.Intake.{rows_read}
+use Rattle.ingest_row.specs.Intake.{rows_read}
 use Rattle.log_model.specs.Row.{batch_weight}
 use Rattle.vl_top.proofs.WeightLemmas.{rows_fit, rows_light}
 use Rattle.vl_top.proofs.load.take_group.Goals as goal

@@ -1,0 +1,5 @@
+pub mod Times
+pub mod Rows
+pub mod RowsOfLines
+pub mod Taking
+pub mod Asked

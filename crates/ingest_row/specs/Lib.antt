@@ -1,0 +1,4 @@
+pub mod Ingest
+pub mod Refusal
+pub mod Intake
+pub mod Asked

@@ -1,0 +1,16 @@
+//! Lines of JSON as rows: which fields they have, when they were, what their message is, and to which stream they belong.
+#![tactic(auto)]
+
+mod body;
+mod fault;
+mod kind;
+mod line;
+mod lines;
+mod options;
+mod read;
+
+pub use body::{Intake, LineFault, batch_of_body};
+pub use fault::OptionFault;
+pub use kind::LineKind;
+pub use line::row_of_line;
+pub use options::Options;

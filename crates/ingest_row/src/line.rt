@@ -1,0 +1,190 @@
+//! From a line to its row.
+ghost use Rattle.std.specs.Prelude.{◌≡◌, ◌≢◌, ◌≤ℤ◌, ℤ, List, pos, fold, IsTrue, IfOk, IfErr, IfSome, OnOk, None};
+ghost use Rattle.std.specs.List.{list_all};
+ghost use Rattle.log_model.specs.Field.{Field as Pair, field_value, set_all, without};
+ghost use Rattle.log_model.specs.Row.{Row as Event};
+ghost use Rattle.vl_row.specs.Faults.{row_fault};
+ghost use Rattle.ingest_row.specs.Ingest.{IsRowOf, IsRowOfLine, IsTimeOf, Says, completed, is_named, moved, row_at, says_now, with_message};
+ghost use Rattle.ingest_row.specs.Refusal.{IsRefused, IsFieldsFault, IsLineFault, IsRowFault};
+
+use crate::kind::LineKind;
+use crate::options::Options;
+use jsonline_in::{JsonFault, fields_of};
+use std::alloc::{AllocError, Global};
+use time_text::{TimeFault, read_moment};
+use vl_row::{Field, FieldList, Row, RowFault, Text};
+
+/// The longest line that is read, in bytes.
+const LINE_LIMIT: usize = 1_048_576;
+
+/// How many fields are expected of a line.
+pub(crate) const ROOM: usize = 16;
+
+/// The row of a line that came in at the moment `now`, in nanoseconds since 1970. The line is one object of JSON. What is
+/// ignored is left out, then the field of the moment, which says it as text; the message is moved to its name, and
+/// what is to be added is set.
+pub fn row_of_line(alloc: Global, o: &Options, now: i64, line: &[u8]) -> Result<Row, LineKind>
+    requires { pos 0 ≤ℤ now }
+    ensures read { IfOk result (λ row. IsRowOfLine o.now now line.now row) }
+    // A line has one row.
+    ensures only { IfOk result (λ row. (other : Event) → IsRowOfLine o.now now line.now other → other ≡ row) }
+    // What is refused has none, unless memory ran out.
+    ensures none { IfErr result (λ kind. kind ≢ LineKind.Memory
+        → (row : Event) → IsRowOfLine o.now now line.now row → ⊥) }
+    ensures refused { IfErr result (λ kind. IsRefused kind o.now now line.now) }
+{
+    row_with_room(alloc, o, now, line, ROOM)
+}
+
+/// The row of a line of which so many fields are expected.
+pub(crate) fn row_with_room(
+    alloc: Global,
+    o: &Options,
+    now: i64,
+    line: &[u8],
+    room: usize,
+) -> Result<Row, LineKind>
+    requires { pos 0 ≤ℤ now }
+    ensures read { IfOk result (λ row. IsRowOfLine o.now now line.now row) }
+    ensures only { IfOk result (λ row. (other : Event) → IsRowOfLine o.now now line.now other → other ≡ row) }
+    ensures none { IfErr result (λ kind. kind ≢ LineKind.Memory
+        → (row : Event) → IsRowOfLine o.now now line.now row → ⊥) }
+    ensures refused { IfErr result (λ kind. IsRefused kind o.now now line.now) }
+{
+    row_of_fields(alloc, o, now, fields_of_line(alloc, line, room)?)
+}
+
+/// The row of the fields that a line says.
+fn row_of_fields(
+    alloc: Global,
+    o: &Options,
+    now: i64,
+    mut fields: FieldList,
+) -> Result<Row, LineKind>
+    requires { pos 0 ≤ℤ now }
+    ensures read { IfOk result (λ row. IsRowOf o.now now fields row) }
+    ensures only { IfOk result (λ row. (other : Event) → IsRowOf o.now now fields other → other ≡ row) }
+    ensures none { IfErr result (λ kind. kind ≢ LineKind.Memory → (row : Event) → IsRowOf o.now now fields row → ⊥) }
+    ensures fault { IfErr result (λ kind. IsFieldsFault kind o.now now fields) }
+{
+    remove_all(&mut fields, o.ignored_fields());
+    let Some(time) = time_of(fields.get(o.time_field()), now) else {
+        return Err(LineKind::BadTime);
+    };
+    complete(alloc, o, &mut fields)?;
+    row_at(alloc, o, time, fields)
+}
+
+/// Makes the fields of a row out of those that are not ignored: the field of the moment goes, one becomes the message,
+/// and others are added.
+fn complete(alloc: Global, o: &Options, fields: &mut FieldList) -> Result<(), AllocError>
+    ensures { OnOk result (fields.new ≡ completed o.now fields.old) }
+{
+    fields.remove(o.time_field());
+    move_message(alloc, o.message_fields(), fields)?;
+    set_fields(alloc, o.extra_fields(), fields)
+}
+
+/// The row of this moment and these fields.
+fn row_at(alloc: Global, o: &Options, time: i64, fields: FieldList) -> Result<Row, LineKind>
+    requires { pos 0 ≤ℤ time }
+    ensures faultless { IfOk result (λ row. row_fault time fields ≡ None) }
+    ensures row { IfOk result (λ row. row ≡ row_at o.now.stream_fields time fields) }
+    ensures fault { IfErr result (λ kind. IsRowFault kind time fields) }
+{
+    match Row::try_new(alloc, time, o.stream_fields(), fields) {
+        Ok(row) => Ok(row),
+        Err((RowFault::TimeRange, _)) => unreachable!(),
+        Err((RowFault::NameLong, _)) => Err(LineKind::NameLong),
+        Err((RowFault::ManyFields, _)) => Err(LineKind::ManyFields),
+        Err((RowFault::RowLarge, _)) => Err(LineKind::RowLarge),
+        Err((RowFault::Empty, _)) => Err(LineKind::Empty),
+        Err((RowFault::Memory, _)) => Err(LineKind::Memory),
+    }
+}
+
+/// The fields that a line says, of which so many are expected.
+fn fields_of_line(alloc: Global, line: &[u8], room: usize) -> Result<FieldList, LineKind>
+    ensures says { IfOk result (λ fields. Says line.now fields) }
+    ensures only { IfOk result (λ fields. (other : List Pair) → Says line.now other → other ≡ fields) }
+    ensures none { IfErr result (λ kind. kind ≢ LineKind.Memory → (other : List Pair) → Says line.now other → ⊥) }
+    ensures fault { IfErr result (λ kind. IsLineFault kind line.now) }
+{
+    if line.len() > LINE_LIMIT {
+        return Err(LineKind::LineLong);
+    }
+    let mut fields = FieldList::with_room(alloc, room)?;
+    match fields_of(alloc, line, &mut fields) {
+        Ok(()) => Ok(fields),
+        Err(JsonFault::NotUtf8 { .. }) => Err(LineKind::NotUtf8),
+        Err(JsonFault::NotObject) => Err(LineKind::NotObject),
+        Err(JsonFault::TooDeep) => Err(LineKind::TooDeep),
+        Err(JsonFault::NotJson { .. }) => Err(LineKind::NotJson),
+        Err(JsonFault::Memory) => Err(LineKind::Memory),
+    }
+}
+
+/// Removes the fields of these names.
+fn remove_all(fields: &mut FieldList, names: &[Text])
+    ensures { fields.new ≡ fold without fields.old names.now }
+{
+    for name in names {
+        fields.remove(name.as_str());
+    }
+}
+
+/// The moment that a text says, where a text that says none stands for `now`.
+fn time_of(text: &str, now: i64) -> Option<i64>
+    requires { pos 0 ≤ℤ now }
+    ensures some { IfSome result (λ time. IsTimeOf now text.now time × (pos 0 ≤ℤ time)) }
+    ensures only { IfSome result (λ time. (other : ℤ) → IsTimeOf now text.now other → other ≡ time) }
+    ensures none { result ≡ None → (time : ℤ) → IsTimeOf now text.now time → ⊥ }
+{
+    if says_now(text) {
+        return Some(now);
+    }
+    match read_moment(text) {
+        Ok(moment) => Some(moment),
+        Err(TimeFault::NotATime) => None,
+        Err(TimeFault::OutOfRange) => None,
+    }
+}
+
+/// Whether a text says no moment of its own.
+fn says_now(text: &str) -> bool
+    ensures { result ≡ says_now text.now }
+{
+    text.is_empty() || text == "0"
+}
+
+/// The first of these fields that has a value becomes the message.
+fn move_message(alloc: Global, names: &[Text], fields: &mut FieldList) -> Result<(), AllocError>
+    ensures { OnOk result (fields.new ≡ with_message names.now fields.old) }
+{
+    for name in names {
+        if !fields.get(name.as_str()).is_empty() {
+            return rename(alloc, name.as_str(), fields);
+        }
+    }
+    Ok(())
+}
+
+/// The field of this name becomes the message.
+fn rename(alloc: Global, name: &str, fields: &mut FieldList) -> Result<(), AllocError>
+    ensures { OnOk result (fields.new ≡ moved fields.old name.now) }
+{
+    let message = Text::try_of(alloc, fields.get(name))?;
+    fields.remove(name);
+    fields.set(alloc, "_msg", message.as_str())
+}
+
+/// Sets these fields.
+fn set_fields(alloc: Global, added: &[Field], fields: &mut FieldList) -> Result<(), AllocError>
+    requires { IsTrue (list_all is_named added.now) }
+    ensures { OnOk result (fields.new ≡ set_all fields.old added.now) }
+{
+    for field in added {
+        fields.set(alloc, field.name(), field.value())?;
+    }
+    Ok(())
+}

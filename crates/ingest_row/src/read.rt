@@ -1,0 +1,110 @@
+//! From the arguments of a request to what they ask for.
+ghost use Rattle.std.specs.Prelude.{◌≡◌, map, unwrap_or, codes, IfOk, IfErr, Some, None};
+ghost use Rattle.log_model.specs.Field.{field_value};
+ghost use Rattle.ingest_row.specs.Asked.{extra_of, extras_of, options_of, pieces, time_field_of};
+
+use crate::fault::OptionFault;
+use crate::options::Options;
+use std::alloc::{AllocError, Global};
+use vl_row::{Field, Items, Text};
+
+impl Options {
+    /// What the arguments of a request ask for. `_stream_fields`, `_msg_field`, `ignore_fields` and `extra_fields` are
+    /// lists: they are cut at commas, empty pieces are dropped, and nothing is trimmed. `_time_field` is one name, and
+    /// `_time` where it is empty. Of a repeated argument the first counts, and other arguments are passed over.
+    ///
+    /// A piece of `extra_fields` is cut at its first `=` into a name and a value, which may be empty. The fault is
+    /// `BadExtra` where one has no `=` or no name before it.
+    #[tactic(auto, using(crate::proofs::Asked::extras_named))]
+    pub fn read(alloc: Global, pairs: &[Field]) -> Result<Options, OptionFault>
+        ensures read { IfOk result (λ options. options_of pairs.now ≡ Some options) }
+        ensures bad { IfErr result (λ fault. fault ≡ OptionFault.BadExtra → options_of pairs.now ≡ None) }
+    {
+        let stream_fields = names(alloc, argument(pairs, "_stream_fields"))?;
+        let time_field = time_field(alloc, argument(pairs, "_time_field"))?;
+        let message_fields = names(alloc, argument(pairs, "_msg_field"))?;
+        let ignored_fields = names(alloc, argument(pairs, "ignore_fields"))?;
+        let Some(extra_fields) = extras(alloc, argument(pairs, "extra_fields"))? else {
+            return Err(OptionFault::BadExtra);
+        };
+        Ok(Options {
+            stream_fields,
+            time_field,
+            message_fields,
+            ignored_fields,
+            extra_fields,
+        })
+    }
+}
+
+/// The value of the first argument of this name, empty where there is none.
+fn argument<'a>(pairs: &'a [Field], name: &str) -> &'a str
+    ensures { result.now ≡ field_value pairs.now name.now }
+{
+    for pair in pairs {
+        if name == pair.name() {
+            return pair.value();
+        }
+    }
+    ""
+}
+
+/// The pieces of a list that are not empty.
+fn pieces(alloc: Global, list: &str) -> Result<Vec<&str>, AllocError>
+    ensures { IfOk result (λ found. map (λ piece. piece.now) found.items ≡ pieces list.now) }
+{
+    list.split(',')
+        .filter(|piece| !piece.is_empty())
+        .collect(alloc)
+}
+
+/// The names that a list says.
+fn names(alloc: Global, list: &str) -> Result<Items<Text>, AllocError>
+    ensures { IfOk result (λ names. names ≡ pieces list.now) }
+{
+    let mut names = Vec::new(alloc);
+    for piece in &pieces(alloc, list)? {
+        names.push(Text::try_of(alloc, piece)?)?;
+    }
+    Ok(Items::of(names))
+}
+
+/// The name of the moment's field, if one is given.
+fn time_field(alloc: Global, text: &str) -> Result<Option<Text>, AllocError>
+    ensures { IfOk result (λ given. unwrap_or given (codes "_time") ≡ time_field_of text.now) }
+{
+    if text.is_empty() {
+        return Ok(None);
+    }
+    Ok(Some(Text::try_of(alloc, text)?))
+}
+
+/// The fields that a list says, if each of its pieces is one.
+fn extras(alloc: Global, list: &str) -> Result<Option<Items<Field>>, AllocError>
+    ensures { IfOk result (λ fields. fields ≡ extras_of (pieces list.now)) }
+{
+    let mut fields = Vec::new(alloc);
+    for piece in &pieces(alloc, list)? {
+        let Some(field) = extra(alloc, piece)? else {
+            return Ok(None);
+        };
+        fields.push(field)?;
+    }
+    Ok(Some(Items::of(fields)))
+}
+
+/// The field that a piece is, if it is one.
+#[tactic(auto, unfolding(crate::specs::Asked::extra_of))]
+fn extra(alloc: Global, piece: &str) -> Result<Option<Field>, AllocError>
+    ensures { IfOk result (λ field. field ≡ extra_of piece.now) }
+{
+    let Some((name, value)) = piece.split_once('=') else {
+        return Ok(None);
+    };
+    if name.is_empty() {
+        return Ok(None);
+    }
+    let name = Text::try_of(alloc, name)?;
+    let value = Text::try_of(alloc, value)?;
+    Ok(Some(Field { name, value }))
+}
