@@ -10,7 +10,7 @@ use Rattle.ingest_row.specs.declared.kind.LineKind.{LineKind}
 use Rattle.ingest_row.specs.declared.kind.LineKind.TheVariants.{LineLong, NotUtf8, NotObject, TooDeep, NotJson, BadTime, NameLong, ManyFields, RowLarge, Empty, Memory}
 
 -- The fields say this moment and no other, and the row is to be made of these.
-pub record Says (options : Options) (now : ℤ) (fields : List Field) (time : ℤ) (others : List Field) : Type 0 where
+pub record SaysMoment (options : Options) (now : ℤ) (fields : List Field) (time : ℤ) (others : List Field) : Type 0 where
   pub is_time : IsTimeOf now (time_text options fields) time
   pub only : (other : ℤ) → IsTimeOf now (time_text options fields) other → other ≡ time
   pub made : others ≡ row_fields options fields
@@ -18,7 +18,7 @@ pub record Says (options : Options) (now : ℤ) (fields : List Field) (time : �
 -- what the text of the moment says, at the moment `at` that is `now`
 pub says_it : (o : Options) (now at : ℤ) (fields : List Field) (text : List ℕ) (time : ℤ) (made : List Field)
     → at ≡ now → text ≡ time_text o fields → made ≡ row_fields o fields
-    → IsTimeOf at text time → ((other : ℤ) → IsTimeOf at text other → other ≡ time) → Says o now fields time made
+    → IsTimeOf at text time → ((other : ℤ) → IsTimeOf at text other → other ≡ time) → SaysMoment o now fields time made
 says_it o now at fields text time made now_is text_is made_is is only = record {
   is_time = subst (λ n. IsTimeOf n (time_text o fields) time) now_is (subst (λ t. IsTimeOf at t time) text_is is);
   only = λ other other_is.
@@ -27,7 +27,7 @@ says_it o now at fields text time made now_is text_is made_is is only = record {
 }
 
 pub is_row : (o : Options) (now : ℤ) (fields : List Field) (time : ℤ) (made : List Field) (result : Result Row LineKind)
-    → Says o now fields time made → IfOk result (λ row. row_fault time made ≡ None)
+    → SaysMoment o now fields time made → IfOk result (λ row. row_fault time made ≡ None)
     → IfOk result (λ row. row ≡ row_at o.stream_fields time made) → IfOk result (IsRowOf o now fields)
 is_row o now fields time made (Ok row) says faultless row_is = record {
   time = time;
@@ -38,7 +38,7 @@ is_row o now fields time made (Ok row) says faultless row_is = record {
 is_row o now fields time made (Err kind) says faultless row_is = tt
 
 pub only_row : (o : Options) (now : ℤ) (fields : List Field) (time : ℤ) (made : List Field) (result : Result Row LineKind)
-    → Says o now fields time made → IfOk result (λ row. row ≡ row_at o.stream_fields time made)
+    → SaysMoment o now fields time made → IfOk result (λ row. row ≡ row_at o.stream_fields time made)
     → IfOk result (λ row. (other : Row) → IsRowOf o now fields other → other ≡ row)
 only_row o now fields time made (Ok row) says row_is = λ other is.
     is.is_row
@@ -65,7 +65,7 @@ faulty NotJson time made other is = absurd is
 faulty BadTime time made other is = absurd is
 
 pub no_row : (o : Options) (now : ℤ) (fields : List Field) (time : ℤ) (made : List Field) (result : Result Row LineKind)
-    → Says o now fields time made → IfErr result (λ kind. IsRowFault kind time made)
+    → SaysMoment o now fields time made → IfErr result (λ kind. IsRowFault kind time made)
     → IfErr result (λ kind. kind ≢ Memory → (row : Row) → IsRowOf o now fields row → ⊥)
 no_row o now fields time made (Ok row) says fault = tt
 no_row o now fields time made (Err kind) says fault = λ other row is.
@@ -73,7 +73,7 @@ no_row o now fields time made (Err kind) says fault = λ other row is.
     (ap (row_fault time) says.made ∙ ap (λ t. row_fault t (row_fields o fields)) (sym (says.only is.time is.is_time)) ∙ is.faultless)
 
 pub has_fault : (o : Options) (now : ℤ) (fields : List Field) (time : ℤ) (made : List Field) (result : Result Row LineKind)
-    → Says o now fields time made → IfErr result (λ kind. IsRowFault kind time made)
+    → SaysMoment o now fields time made → IfErr result (λ kind. IsRowFault kind time made)
     → IfErr result (λ kind. IsFieldsFault kind o now fields)
 has_fault o now fields time made (Ok row) says fault = tt
 has_fault o now fields time made (Err kind) says fault = inr (record {
@@ -84,7 +84,7 @@ has_fault o now fields time made (Err kind) says fault = inr (record {
 
 -- that memory ran out can be said of any fields with a moment
 pub out_of_memory : (o : Options) (now : ℤ) (fields : List Field) (time : ℤ) (made : List Field) (result : Result Row LineKind)
-    → Says o now fields time made → IsErrAnd result (λ kind. kind ≡ Memory) → IfErr result (λ kind. IsFieldsFault kind o now fields)
+    → SaysMoment o now fields time made → IsErrAnd result (λ kind. kind ≡ Memory) → IfErr result (λ kind. IsFieldsFault kind o now fields)
 out_of_memory o now fields time made (Ok row) says memory = tt
 out_of_memory o now fields time made (Err kind) says memory = inr (record {
   time = time;

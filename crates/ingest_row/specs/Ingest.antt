@@ -1,5 +1,5 @@
 -- How a line of JSON becomes a row (VictoriaLogs, "Data ingestion": HTTP parameters).
-use Rattle.std.specs.Prelude.{◌≡◌, ◌⊎◌, ℕ, ℤ, Bool, ◌≤◌, ◌||◌, List, [], ◌∷◌, length, fold, bytes_eq, codes, unsigned_abs, None, not, IsTrue, IsFalse, if◌then◌else◌}
+use Rattle.std.specs.Prelude.{◌≡◌, ◌⊎◌, ℕ, ℤ, Bool, ◌≤◌, ◌||◌, List, [], ◌∷◌, length, filter, fold, bytes_eq, codes, unsigned_abs, None, not, IsTrue, IsFalse, if◌then◌else◌}
 use Rattle.log_model.specs.Field.{Field, is_empty, field_value, set_field, set_all, without}
 use Rattle.log_model.specs.Row.{Row}
 use Rattle.log_model.specs.MomentText.{SpellsMoment, IsMomentInRange}
@@ -47,11 +47,13 @@ IsTimeOf now text time = (IsTrue (says_now text) × (time ≡ now)) ⊎ (IsFalse
 abbrev pub moved : List Field → List ℕ → List Field
 moved fields name = set_field (without fields name) (codes "_msg") (field_value fields name)
 
--- the first of these fields that has a value becomes the message
-abbrev pub with_message : List (List ℕ) → List Field → List Field
-with_message [] fields = fields
-with_message (name ∷ names) fields =
-    if is_empty (field_value fields name) then with_message names fields else moved fields name
+abbrev pub with_first : List Field → List (List ℕ) → List Field
+with_first fields [] = fields
+with_first fields (name ∷ names) = moved fields name
+
+-- of these fields, the first that has a value becomes the message
+unfoldable pub with_message : List (List ℕ) → List Field → List Field
+with_message names fields = with_first fields (filter (λ name. not (is_empty (field_value fields name))) names)
 
 -- the fields that a row is made of, out of those that are not ignored
 abbrev pub completed : Options → List Field → List Field

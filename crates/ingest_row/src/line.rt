@@ -158,6 +158,7 @@ fn says_now(text: &str) -> bool
 }
 
 /// The first of these fields that has a value becomes the message.
+#[tactic(auto, unfolding(crate::specs::Ingest::with_message))]
 fn move_message(alloc: Global, names: &[Text], fields: &mut FieldList) -> Result<(), AllocError>
     ensures { OnOk result (fields.new ≡ with_message names.now fields.old) }
 {

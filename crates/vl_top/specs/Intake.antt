@@ -1,11 +1,11 @@
 -- What an input of the program gives: rows, in batches, and the names of its refused lines.
-use Rattle.std.specs.Prelude.{◌≡◌, ◌⊎◌, ℕ, ◌+◌, suc, pos, ◌<◌, ◌≤◌, List, [], ◌∷◌, ◌++◌, length, flat_map, codes, decimal, string_bytes}
+use Rattle.std.specs.Prelude.{◌≡◌, ◌⊎◌, ℕ, ◌+◌, pos, ◌<◌, ◌≤◌, List, [], ◌∷◌, ◌++◌, length, flat_map, codes, decimal, string_bytes}
 use Rattle.std.specs.List.{AllZip}
 use Rattle.log_model.specs.Line.{lines_of}
 use Rattle.log_model.specs.Row.{Row, Batch}
 use Rattle.ingest_row.specs.Ingest.{plain}
 use Rattle.ingest_row.specs.Intake as body
-use Rattle.ingest_row.specs.Intake.{Outcome, passed_over, read, refused, rows_read}
+use Rattle.ingest_row.specs.Intake.{Outcome, refused_from, rows_read}
 use Rattle.ingest_row.specs.Refusal.{kind_text}
 use Rattle.ingest_row.specs.declared.body.LineFault.{LineFault}
 use Rattle.ingest_row.specs.declared.kind.LineKind.{LineKind}
@@ -23,12 +23,9 @@ IsIntake now input outcomes = AllZip (Gives now) (lines_of input) outcomes
 abbrev pub refusal_text : ℕ → LineKind → List ℕ
 refusal_text number kind = codes "line " ++ (decimal number ++ (codes ": " ++ (kind_text kind ++ 10 ∷ [])))
 
--- names each refused line, where the first one has this number
+-- names each refused line, where the first line has this number
 abbrev pub refusals_from : ℕ → List Outcome → List ℕ
-refusals_from number [] = []
-refusals_from number (passed_over ∷ outcomes) = refusals_from (suc number) outcomes
-refusals_from number (read row ∷ outcomes) = refusals_from (suc number) outcomes
-refusals_from number (refused kind ∷ outcomes) = refusal_text number kind ++ refusals_from (suc number) outcomes
+refusals_from number outcomes = flat_map (λ fault. refusal_text fault.line fault.kind) (refused_from number outcomes)
 
 -- Lines go in groups of a thousand. A group with fewer is the last, and after it the input is over.
 abbrev pub AreGroups : List (List Outcome) → Type 0 → Type 0

@@ -2,10 +2,10 @@ use Rattle.std.proofs.Common.{◌≡◌, refl, ap, ◌∙◌, fold, arith, FitsS
 use Rattle.std.proofs.lemmas.Int.{ints, to_z-of_z}
 use Rattle.log_model.specs.Field.{without}
 use Rattle.ingest_row.specs.Ingest.{kept, row_fields}
-use Rattle.ingest_row.proofs.Rows.{Says, says_it, is_row, only_row, no_row, has_fault, out_of_memory}
+use Rattle.ingest_row.proofs.Rows.{SaysMoment, says_it, is_row, only_row, no_row, has_fault, out_of_memory}
 use Rattle.ingest_row.proofs.line.row_of_fields.Goals as goal
 
-says : (c : goal.After-row_at) → Says c.args.o.now c.args.now c.args.fields c.in-Some.time c.complete.new.fields
+says : (c : goal.After-row_at) → SaysMoment c.args.o.now c.args.now c.args.fields c.in-Some.time c.complete.new.fields
 says c =
     let fits : FitsSigned w64 c.args.now = c.ranges.now in
     let kept_is : c.remove_all.new.fields ≡ kept c.args.o.now c.args.fields =
