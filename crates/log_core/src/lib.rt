@@ -7,5 +7,5 @@ mod shelf;
 mod snapshot;
 
 pub use fault::CommitFault;
-pub use shelf::Shelf;
+pub use shelf::{Shelf, stands_after_all};
 pub use snapshot::Snapshot;

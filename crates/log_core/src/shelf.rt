@@ -1,7 +1,7 @@
-ghost use Rattle.std.specs.Prelude.{◌≡◌, ℕ, ◌+◌, ◌++◌, ◌^◌, ◌<◌, length, IfNone, None, Option, OnErr, OnOk, IfErr, IfOk, [], ◌∷◌, map};
+ghost use Rattle.std.specs.Prelude.{◌≡◌, ◌+◌, ◌++◌, ◌^◌, ◌<◌, length, IfNone, None, OnErr, OnOk, IfErr, IfOk, [], ◌∷◌, map};
 ghost use Rattle.std.specs.Arc.{arc_value};
-ghost use Rattle.log_model.specs.Core.{Goes, Stands, after, commit, count_of, held_limit, nothing, with_part};
-ghost use Rattle.log_model.specs.History.{AreBatch, History, numbered_in, rows_in};
+ghost use Rattle.log_model.specs.Core.{Goes, Stands, StandsAfterAll, after, commit, count_of, held_limit, look, nothing, with_part};
+ghost use Rattle.log_model.specs.History.{AreBatch, AreRowsOf, Entry, History, entry_rows};
 ghost use Rattle.log_core.specs.Shared.{parts_in};
 ghost use Rattle.log_core.specs.Faults.{IsRefused, commit_fault};
 
@@ -19,6 +19,8 @@ const HELD_LIMIT: usize = 4_096;
 const LAST_BATCH: u64 = i64::MAX as u64;
 
 /// The state that all callers share: the accepted batches, each held as a part.
+///
+/// It stands for the history of these batches. [`stands_after_all`] says so of every list of commits and looks.
 #[derive(Drop)]
 pub struct Shelf<P> {
     parts: Arc<Vec<Arc<P>>>,
@@ -51,12 +53,12 @@ impl<P: Held> Shelf<P> {
     pub fn commit(&mut self, alloc: Global, part: P) -> Result<u64, (CommitFault, Option<P>)>
         requires { AreBatch (P.numbered part) }
         ensures number { IfOk result (λ number. number ≡ count_of self.old + 1) }
-        ensures goes { OnOk result ((maker : Option ℕ)
-            → Goes P.numbered self.old (commit maker (rows_in (P.numbered part))) self.new) }
+        ensures goes { OnOk result ((entry : Entry) → AreRowsOf (P.numbered part) (entry_rows entry)
+            → Goes P.numbered self.old (commit entry) self.new) }
 
-        // So the history gains exactly this batch.
-        ensures stands { OnOk result ((history : History) (maker : Option ℕ) → Stands P.numbered self.old history
-            → Stands P.numbered self.new (after history (commit maker (rows_in (P.numbered part))))) }
+        // So the history gains exactly this batch, whoever made it.
+        ensures stands { OnOk result ((history : History) (entry : Entry) → AreRowsOf (P.numbered part) (entry_rows entry)
+            → Stands P.numbered self.old history → Stands P.numbered self.new (after history (commit entry))) }
 
         // A batch is refused exactly where something stands against it, or for memory.
         ensures accepted { OnOk result (commit_fault self.old ≡ None) }
@@ -74,7 +76,8 @@ impl<P: Held> Shelf<P> {
 
     /// What is held now. It copies one shared pointer.
     pub fn look(&self) -> Result<Snapshot<P>, AllocError>
-        ensures { IfOk result (λ snapshot. snapshot ≡ self.now) }
+        ensures held { IfOk result (λ snapshot. snapshot ≡ self.now) }
+        ensures stays { Goes P.numbered self.now look self.now }
     {
         let parts = Arc::try_clone(&self.parts)?;
         Ok(Snapshot { parts })
@@ -105,13 +108,13 @@ impl<P: Held> Shelf<P> {
     }
 
     /// Appends a batch, under the next number, which it answers.
-    #[tactic(auto, using(log_model::proofs::Numbering::batch_is_one, log_model::proofs::Numbering::batch_with_number))]
+    #[tactic(auto, using(log_model::proofs::Numbering::batch_is_one))]
     fn push(&mut self, alloc: Global, mut part: P) -> Result<u64, AllocError>
         requires batch { AreBatch (P.numbered part) }
         requires room { length self.old.unsettled < held_limit }
         ensures number { IfOk result (λ number. number ≡ count_of self.old + 1) }
-        ensures goes { OnOk result ((maker : Option ℕ)
-            → Goes P.numbered self.old (commit maker (rows_in (P.numbered part))) self.new) }
+        ensures goes { OnOk result ((entry : Entry) → AreRowsOf (P.numbered part) (entry_rows entry)
+            → Goes P.numbered self.old (commit entry) self.new) }
         ensures err { OnErr result (self.new ≡ self.old) }
     {
         let number = self.count() + 1;
@@ -159,3 +162,11 @@ fn copied<P: Drop>(alloc: Global, parts: &[Arc<P>]) -> Result<Vec<Arc<P>>, Alloc
     }
     Ok(copies)
 }
+
+/// Over every list of steps, of any callers, the shelf stands for the history of the batches that were committed. The
+/// steps are those of which `Shelf::commit` and `Shelf::look` say that they happen. This function does nothing: its
+/// contract is the law.
+
+pub fn stands_after_all<P: Held>()
+    ensures { StandsAfterAll P.numbered }
+{}

@@ -1,6 +1,6 @@
 -- Reading a source in groups of lines.
 use Rattle.std.specs.Prelude.{◌≡◌, ◌⊎◌, ℕ, ◌+◌, ◌<◌, ◌≤◌, Bool, true, ◌==◌, List, [], ◌∷◌, ◌++◌, length, take, count_by, Option, MatchOption}
-use Rattle.vl_io.specs.Bytes.{IsAtEnd}
+use Rattle.vl_io.specs.Bytes.{Consumes, IsAtEnd}
 
 abbrev pub is_feed : ℕ → Bool
 is_feed byte = byte == 10
@@ -11,9 +11,20 @@ pub record AreLines (count : ℕ) (bytes : List ℕ) : Type 0 where
   pub front : List ℕ
   pub ends : bytes ≡ front ++ 10 ∷ []
 
--- Where so many lines end. Without an answer there are fewer, and the source has no more.
-abbrev pub IsLinesEnd : ℕ → List ℕ → Option (List ℕ) → Option ℕ → Type 0
-IsLinesEnd lines bytes left place = MatchOption place ((count_by is_feed bytes < lines) × IsAtEnd left) (λ end. (end ≤ length bytes) × AreLines lines (take end bytes))
+-- fewer lines end in the bytes than these
+abbrev pub AreFewer : ℕ → List ℕ → Type 0
+AreFewer lines bytes = count_by is_feed bytes < lines
+
+-- how many bytes one read gives at most
+abbrev pub piece_len : ℕ
+piece_len = 65_536
+
+-- Where so many lines end. Behind that lie no more bytes than these. Without an answer there are fewer lines, and the
+-- source has no more.
+abbrev pub IsLinesEnd : ℕ → ℕ → List ℕ → Option (List ℕ) → Option ℕ → Type 0
+IsLinesEnd lines most bytes left place =
+    MatchOption place (AreFewer lines bytes × IsAtEnd left)
+    (λ end. (end ≤ length bytes) × (length bytes ≤ end + most) × AreLines lines (take end bytes))
 
 -- what a reader of groups has
 pub record Reading : Type 0 where
@@ -45,7 +56,22 @@ pub record Advances (old new : Reading) (piece : List ℕ) : Type 0 where
 abbrev pub IsGroup : Reading → Type 0
 IsGroup reading =
     AreLines reading.lines reading.group
-    ⊎ ((0 < length reading.group) × (count_by is_feed reading.group < reading.lines) × (reading.ahead ≡ []) × (reading.ended ≡ true))
+    ⊎ ((0 < length reading.group) × AreFewer reading.lines reading.group × (reading.ahead ≡ []) × (reading.ended ≡ true))
+
+-- A piece was read behind the group, but not all lines of another one.
+pub record FallsShort (old : Reading) (left_old left_new : Option (List ℕ)) : Type 0 where
+  pub piece : List ℕ
+  pub consumed : Consumes left_old left_new piece
+  pub fewer : AreFewer old.lines (old.ahead ++ piece)
+
+-- All that may be read was read behind the group, but not all lines of another one, and the source gave more.
+pub record IsTooLong (old : Reading) (left_old left_new : Option (List ℕ)) : Type 0 where
+  pub piece : List ℕ
+  pub more : List ℕ
+  pub consumed : Consumes left_old left_new (piece ++ more)
+  pub all : bytes_read old + length piece ≡ old.limit
+  pub some : 0 < length more
+  pub fewer : AreFewer old.lines (old.ahead ++ piece)
 
 -- nothing is left
 pub record IsOver (reading : Reading) : Type 0 where

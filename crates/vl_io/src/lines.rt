@@ -1,15 +1,14 @@
 //! Reading a source in groups of lines.
-ghost use Rattle.std.specs.Prelude.{◌≡◌, ℕ, ◌+◌, ◌-◌, ◌<◌, ◌≤◌, List, [], IfOk, IfErr, OnOk, length, take, true, false, vec_len, count_by};
+ghost use Rattle.std.specs.Prelude.{◌≡◌, ◌≢◌, ℕ, ◌+◌, ◌++◌, ◌-◌, ◌<◌, ◌≤◌, List, [], IfOk, IfErr, OnOk, OnErr, length, take, true, false, vec_len, count_by, max};
 ghost use Rattle.vl_io.specs.Bytes.{AddsPiece, Consumes, IsAtEnd};
 ghost use Rattle.vl_io.specs.Faults.{Rose};
-ghost use Rattle.vl_io.specs.Lines.{Advances, AreLines, IsGroup, IsLinesEnd, IsOver, bytes_read, is_feed};
+ghost use Rattle.vl_io.specs.Lines.{Advances, AreFewer, AreLines, FallsShort, IsGroup, IsLinesEnd, IsOver, IsTooLong, is_feed, piece_len};
 
 use crate::outside::Source;
 use crate::transfer::{ReadFault, piece_buffer, read_piece};
 use memchr::memchr;
 use std::alloc::{AllocError, Global};
 use std::marker::Model;
-use std::mem;
 
 /// Reads a source in groups of so many lines, in large pieces. The last group has what is left.
 #[derive(Drop)]
@@ -17,15 +16,17 @@ pub struct GroupReader {
     lines: usize,
     limit: usize,
     passed: usize,
-    group: Vec<u8>,
-    ahead: Vec<u8>,
+    /// The group, and what was read behind it.
+    bytes: Vec<u8>,
+    /// Where the group ends.
+    end: usize,
     ended: bool,
     piece: Vec<u8>,
 }
 
 impl Model for GroupReader {
-    ghost use Rattle.std.specs.Prelude.{◌≡◌, ◌+◌, ◌<◌, ◌≤◌, [], true, vec_len};
-    ghost use Rattle.vl_io.specs.Lines.{Reading};
+    ghost use Rattle.std.specs.Prelude.{◌≡◌, ◌+◌, ◌<◌, ◌≤◌, take, drop, true, vec_len};
+    ghost use Rattle.vl_io.specs.Lines.{Reading, piece_len};
 
     ghost Value = { Reading };
 
@@ -33,17 +34,17 @@ impl Model for GroupReader {
       lines = r.lines;
       limit = r.limit;
       passed = r.passed;
-      group = r.group.items;
-      ahead = r.ahead.items;
+      group = take r.end r.bytes.items;
+      ahead = drop r.end r.bytes.items;
       ended = r.ended;
     } };
 
-    ghost invariant = { λ r. (0 < r.lines) × (0 < vec_len r.piece)
-        × (r.passed + vec_len r.group + vec_len r.ahead ≤ r.limit) × (r.ended ≡ true → r.ahead.items ≡ []) };
+    ghost invariant = { λ r. (0 < r.lines) × (vec_len r.piece ≡ piece_len) × (r.end ≤ vec_len r.bytes)
+        × (r.passed + vec_len r.bytes ≤ r.limit) × (r.ended ≡ true → r.end ≡ vec_len r.bytes) };
 }
 
 impl GroupReader {
-    /// A reader that has read nothing yet. It gives groups of so many lines, and reads no more than `limit` bytes.
+    /// A reader that has read nothing yet. It gives groups of so many lines, and takes in no more than `limit` bytes.
     pub fn of(alloc: Global, lines: usize, limit: usize) -> Result<GroupReader, AllocError>
         requires { 0 < lines }
         ensures { IfOk result (λ reader. reader ≡ record {
@@ -59,8 +60,8 @@ impl GroupReader {
             lines,
             limit,
             passed: 0,
-            group: Vec::new(alloc),
-            ahead: Vec::new(alloc),
+            bytes: Vec::new(alloc),
+            end: 0,
             ended: false,
             piece: piece_buffer(alloc)?,
         })
@@ -70,7 +71,7 @@ impl GroupReader {
     pub fn group(&self) -> &[u8]
         ensures { result.now ≡ self.now.group }
     {
-        self.group.as_slice()
+        &self.bytes[..self.end]
     }
 
     /// Goes on to the next group, and says whether there is one. After an error no clause says what is in the reader.
@@ -80,24 +81,26 @@ impl GroupReader {
         ensures group { result ≡ Ok true → IsGroup self.new }
         ensures over { result ≡ Ok false → IsOver self.new }
 
+        // No more than one piece was read behind the group.
+        ensures ahead { OnOk result (length self.new.ahead ≤ max (length self.old.ahead) piece_len) }
+
         // The source is at its end, and is not asked again.
         ensures ended { OnOk result (self.old.ended ≡ false → self.new.ended ≡ true
             → IsAtEnd (S.left source.new) × (self.new.ahead ≡ [])) }
         ensures idle { self.old.ended ≡ true → (source.new ≡ source.old) × (result ≡ Ok false) }
 
-        ensures long { result ≡ Err ReadFault.Long → (piece : List ℕ)
-            × Consumes (S.left source.old) (S.left source.new) piece
-            × (self.old.limit < bytes_read self.old + length piece) }
-        ensures failed { result ≡ Err ReadFault.Failed
-            → Rose (S.faults source.old) (S.faults source.new) }
+        // An error comes only where there is no whole group.
+        ensures long { result ≡ Err ReadFault.Long → IsTooLong self.old (S.left source.old) (S.left source.new) }
+        ensures short { OnErr result (result ≢ Err ReadFault.Long
+            → FallsShort self.old (S.left source.old) (S.left source.new)) }
+        ensures failed { result ≡ Err ReadFault.Failed → Rose (S.faults source.old) (S.faults source.new) }
         ensures faults { S.faults source.old ≤ S.faults source.new }
-
-        // Whatever the answer, a front of what was left was taken.
-        ensures taken { (piece : List ℕ) × Consumes (S.left source.old) (S.left source.new) piece }
     {
-        self.passed += self.group.len();
-        mem::swap(&mut self.group, &mut self.ahead);
-        self.ahead.clear();
+        let left = self.bytes.len() - self.end;
+        self.passed += self.end;
+        self.bytes.copy_within(self.end.., 0);
+        self.bytes.truncate(left);
+        self.end = 0;
         if self.ended {
             return Ok(false);
         }
@@ -105,18 +108,18 @@ impl GroupReader {
         let place = read_lines(
             source,
             self.piece.as_mut_slice(),
-            &mut self.group,
+            &mut self.bytes,
             self.lines,
             most,
         )?;
         match place {
-            Some(end) => {
-                self.ahead.extend_from_slice(&self.group[end..])?;
-                self.group.truncate(end);
+            Some(end) => self.end = end,
+            None => {
+                self.ended = true;
+                self.end = self.bytes.len();
             }
-            None => self.ended = true,
         }
-        Ok(!self.group.is_empty())
+        Ok(self.end > 0)
     }
 }
 
@@ -131,17 +134,18 @@ fn read_lines<S: Source>(
     requires some { 0 < lines }
     requires room { 0 < length piece.old }
     requires within { vec_len bytes.old ≤ limit }
-    ensures adds { OnOk result (AddsPiece (S.left source.old) (S.left source.new)
-        bytes.old.items bytes.new.items) }
+    ensures adds { result ≢ Err ReadFault.Long → AddsPiece (S.left source.old) (S.left source.new)
+        bytes.old.items bytes.new.items }
     ensures limited { vec_len bytes.new ≤ limit }
-    ensures place { IfOk result (IsLinesEnd lines bytes.new.items (S.left source.new)) }
-    ensures long { result ≡ Err ReadFault.Long → (piece : List ℕ)
-        × Consumes (S.left source.old) (S.left source.new) piece
-        × (limit < vec_len bytes.old + length piece) }
+    ensures place { IfOk result (λ place. IsLinesEnd lines (max (vec_len bytes.old) (length piece.old))
+        bytes.new.items (S.left source.new) place) }
+    ensures fewer { OnErr result (AreFewer lines bytes.new.items) }
+    ensures long { result ≡ Err ReadFault.Long → (vec_len bytes.new ≡ limit) × (piece : List ℕ) × (more : List ℕ)
+        × Consumes (S.left source.old) (S.left source.new) (piece ++ more)
+        × (bytes.new.items ≡ bytes.old.items ++ piece) × (0 < length more) }
     ensures failed { result ≡ Err ReadFault.Failed
         → Rose (S.faults source.old) (S.faults source.new) }
     ensures faults { S.faults source.old ≤ S.faults source.new }
-    ensures taken { (piece : List ℕ) × Consumes (S.left source.old) (S.left source.new) piece }
 {
     let mut seen = 0;
     let mut missing = lines;

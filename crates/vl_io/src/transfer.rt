@@ -1,17 +1,18 @@
 //! Whole transfers, over single reads and writes.
-ghost use Rattle.std.specs.Prelude.{◌≡◌, ◌+◌, ℕ, ◌<◌, ◌≤◌, List, [], IfOk, OnErr, OnOk, length, take, true, false, vec_len};
+ghost use Rattle.std.specs.Prelude.{◌≡◌, ◌≢◌, ◌+◌, ℕ, ◌<◌, ◌≤◌, List, [], IfOk, OnErr, OnOk, length, take, true, false, vec_len};
 ghost use Rattle.vl_io.specs.Bytes.{AddsPiece, Appends, Consumes, IsAtEnd};
 ghost use Rattle.vl_io.specs.Faults.{HasCause, Rose};
+ghost use Rattle.vl_io.specs.Lines.{piece_len};
 
 use crate::outside::{Failed, Sink, Source};
 use std::alloc::{AllocError, Global};
 use std::error::Error;
 use std::fmt;
 
-/// Writes the whole piece. After `Failed` a front of it was written. An empty piece makes no write.
+/// Writes the whole piece. After `Failed` a proper prefix of it was written. An empty piece makes no write.
 pub fn put_all<K: Sink>(sink: &mut K, piece: &[u8]) -> Result<(), Failed>
     ensures ok { OnOk result (Appends (K.written sink.old) (K.written sink.new) piece.now) }
-    ensures err { OnErr result ((n : ℕ) × (n ≤ length piece.now)
+    ensures err { OnErr result ((n : ℕ) × (n < length piece.now)
         × Appends (K.written sink.old) (K.written sink.new) (take n piece.now)) }
     ensures cause { HasCause (K.faults sink.old) (K.faults sink.new) result }
     ensures idle { piece.now ≡ [] → sink.new ≡ sink.old }
@@ -73,16 +74,17 @@ impl From<AllocError> for ReadFault {
 
 /// How many bytes a read is offered room for: enough that the calls cost little, and few enough that
 /// they stay in the processor's cache.
-const PIECE: usize = 64 * 1024;
+const PIECE_LEN: usize = 65_536;
 
 /// Room for a piece.
 pub(crate) fn piece_buffer(alloc: Global) -> Result<Vec<u8>, AllocError>
-    ensures { IfOk result (λ buffer. 0 < vec_len buffer) }
+    ensures { IfOk result (λ buffer. vec_len buffer ≡ piece_len) }
 {
-    Ok(vec![in alloc; 0; PIECE]?)
+    Ok(vec![in alloc; 0; PIECE_LEN]?)
 }
 
-/// Reads one piece, and says whether there may be more.
+/// Reads one piece, and says whether there may be more. Once as many bytes are there as may be, one more is asked for,
+/// to see whether the source has ended. Where memory runs out, nothing was read.
 pub(crate) fn read_piece<S: Source>(
     source: &mut S,
     buffer: &mut [u8],
@@ -91,26 +93,42 @@ pub(crate) fn read_piece<S: Source>(
 ) -> Result<bool, ReadFault>
     requires room { 0 < length buffer.old }
     requires within { vec_len bytes.old ≤ limit }
-    ensures adds { OnOk result (AddsPiece (S.left source.old) (S.left source.new)
-        bytes.old.items bytes.new.items) }
+    ensures adds { result ≢ Err ReadFault.Long → AddsPiece (S.left source.old) (S.left source.new)
+        bytes.old.items bytes.new.items }
     ensures limited { vec_len bytes.new ≤ limit }
+    ensures few { vec_len bytes.new ≤ vec_len bytes.old + length buffer.old }
     ensures more { result ≡ Ok true → vec_len bytes.old < vec_len bytes.new }
     ensures end { result ≡ Ok false → IsAtEnd (S.left source.new) × (bytes.new.items ≡ bytes.old.items) }
-    ensures long { result ≡ Err ReadFault.Long → (piece : List ℕ)
-        × Consumes (S.left source.old) (S.left source.new) piece
-        × (limit < vec_len bytes.old + length piece) }
-    ensures failed { result ≡ Err ReadFault.Failed
-        → Rose (S.faults source.old) (S.faults source.new) }
+    ensures err { OnErr result (bytes.new.items ≡ bytes.old.items) }
+    ensures long { result ≡ Err ReadFault.Long → (vec_len bytes.old ≡ limit)
+        × (more : List ℕ) × Consumes (S.left source.old) (S.left source.new) more × (0 < length more) }
+    ensures failed { result ≡ Err ReadFault.Failed → Rose (S.faults source.old) (S.faults source.new) }
     ensures faults { S.faults source.old ≤ S.faults source.new }
-    ensures taken { (piece : List ℕ) × Consumes (S.left source.old) (S.left source.new) piece }
 {
-    let count = source.read(buffer)?;
-    if count == 0 {
-        return Ok(false);
+    let most = buffer.len().min(limit - bytes.len());
+    if most == 0 {
+        return read_past(source, buffer);
     }
-    if limit - bytes.len() < count {
-        return Err(ReadFault::Long);
-    }
+    bytes.reserve(most)?;
+    let count = source.read(&mut buffer[..most])?;
     bytes.extend_from_slice(&buffer[..count])?;
-    Ok(true)
+    Ok(count > 0)
+}
+
+/// Asks for one more byte, which is one too many.
+fn read_past<S: Source>(source: &mut S, buffer: &mut [u8]) -> Result<bool, ReadFault>
+    requires { 0 < length buffer.old }
+    ensures end { OnOk result (IsAtEnd (S.left source.new) × Consumes (S.left source.old) (S.left source.new) []) }
+    ensures ok { IfOk result (λ more. more ≡ false) }
+    ensures long { result ≡ Err ReadFault.Long → (more : List ℕ)
+        × Consumes (S.left source.old) (S.left source.new) more × (0 < length more) }
+    ensures failed { result ≡ Err ReadFault.Failed
+        → Rose (S.faults source.old) (S.faults source.new) × (S.left source.new ≡ S.left source.old) }
+    ensures free { result ≢ Err ReadFault.Memory }
+    ensures faults { S.faults source.old ≤ S.faults source.new }
+{
+    match source.read(&mut buffer[..1])? {
+        0 => Ok(false),
+        _ => Err(ReadFault::Long),
+    }
 }

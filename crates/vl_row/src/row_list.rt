@@ -1,5 +1,5 @@
 ghost use Rattle.std.specs.Prelude.{◌≡◌, IfOk, length};
-ghost use Rattle.log_model.specs.History.{AreBatch, AreOfOneBatch, numbered_in, rows_in, with_batch};
+ghost use Rattle.log_model.specs.History.{AreBatch, AreInOrder, AreOfOneBatch, AreRowsOf, numbered_in, rows_in, with_batch};
 ghost use Rattle.log_model.specs.Row.{batch_weight};
 
 use crate::batch::Batch;
@@ -44,16 +44,17 @@ impl RowList {
     }
 
     /// The rows, in their order.
-    #[tactic(auto, using(log_model::proofs::Numbering::rows_in_numbered))]
+    #[tactic(auto, using(log_model::proofs::Numbering::rows_in_numbered, log_model::proofs::Numbering::numbered_in_order))]
     pub fn as_slice(&self) -> &[Row]
-        ensures { result.now ≡ rows_in self.now }
+        ensures rows { result.now ≡ rows_in self.now }
+        ensures order { AreInOrder self.now }
     {
         self.rows.as_slice()
     }
 }
 
 impl From<Batch> for RowList {
-    ghost from_gives = { λ batch list. (list ≡ numbered_in 0 batch) × AreBatch list };
+    ghost from_gives = { λ batch list. (list ≡ numbered_in 0 batch) × AreRowsOf list batch × AreBatch list };
 
     /// The same rows under the batch number 0. It takes no memory.
     fn from(batch: Batch) -> RowList {
