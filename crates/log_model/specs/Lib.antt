@@ -13,3 +13,4 @@ pub mod Print
 pub mod Token
 pub mod Value
 pub mod ObjectLine
+pub mod Order
