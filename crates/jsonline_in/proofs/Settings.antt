@@ -6,7 +6,7 @@ use Rattle.std.proofs.lemmas.List.{append-nil, length-append, take-append-drop, 
 use Rattle.std.proofs.lemmas.Str.{IsCharBoundary-from_take}
 use Rattle.log_model.specs.Field.{Field, set_field, set_all}
 use Rattle.log_model.specs.Token.{Character, string, string_text, Scalar, scalar_text}
-use Rattle.log_model.specs.Value.{Kind, array, object, Label, Value, scalar, nested, Items, nothing, tokens, label_text, field_name, value_fields, member_fields}
+use Rattle.log_model.specs.Value.{Kind, array, object, Label, Value, scalar, nested, Items, nothing, tokens, member_name, field_name, value_fields, member_fields}
 use Rattle.jsonline_in.specs.declared.stop.Stop.{Stop}
 use Rattle.jsonline_in.specs.Reading.{after_space, past, Fault, ◌>>=◌, expect, flat_at, label_at, items_at, value_at, nested_at, put_item}
 use Rattle.std.specs.String.Boundary.{IsSplitPoint}
@@ -99,12 +99,12 @@ value_is_listed old name depth text rest value new none e f =
 
 -- ---- names
 
--- the name that was there stays in front
-pub prefix_kept : {S : Type 0} (now : S → List ℕ) (old mid text rest : List ℕ) (piece : Option S) → IfSome piece (λ _. mid ≡ old) → mapped (λ label. old ++ label_text label) (label_at object text) ≡ Ok (mid ++ or_empty (option_map now piece), rest)
+-- the name that was there stays in prefix
+pub prefix_kept : {S : Type 0} (now : S → List ℕ) (old mid text rest : List ℕ) (piece : Option S) → IfSome piece (λ _. mid ≡ old) → mapped (λ label. old ++ member_name label) (label_at object text) ≡ Ok (mid ++ or_empty (option_map now piece), rest)
     → (tail : List ℕ) × (mid ≡ old ++ tail)
 prefix_kept now old mid text rest None kept e =
-    let m = mapped_ok (λ (label : Label). old ++ label_text label) (label_at object text) (mid ++ []) rest e in
-    (label_text m.0, sym (append-nil mid) ∙ m.2)
+    let m = mapped_ok (λ (label : Label). old ++ member_name label) (label_at object text) (mid ++ []) rest e in
+    (member_name m.0, sym (append-nil mid) ∙ m.2)
 prefix_kept now old mid text rest (Some name) kept e = ([], kept ∙ sym (append-nil old))
 
 pub cut_back : (old mid new tail : List ℕ) → mid ≡ old ++ tail → take (length mid) new ≡ mid → take (length old) new ≡ old
@@ -127,11 +127,11 @@ all_of_two : (old a b : List Field) → set_all old (a ++ b) ≡ set_all (set_al
 all_of_two old [] b = refl
 all_of_two old (x ∷ a) b = all_of_two (set_field old x.0 x.1) a b
 
-pub member_set : (old now : List Field) (names : List ℕ) (x : Label × Value) (more : Items) → now ≡ set_all old (value_fields (names ++ label_text x.0) x.1) → set_all old (member_fields names (put_item x more)) ≡ set_all now (member_fields names more)
-member_set old now names x more e = all_of_two old (value_fields (names ++ label_text x.0) x.1) (member_fields names more) ∙ ap (λ (fields : List Field). set_all fields (member_fields names more)) (sym e)
+pub member_set : (old now : List Field) (names : List ℕ) (x : Label × Value) (more : Items) → now ≡ set_all old (value_fields (names ++ member_name x.0) x.1) → set_all old (member_fields names (put_item x more)) ≡ set_all now (member_fields names more)
+member_set old now names x more e = all_of_two old (value_fields (names ++ member_name x.0) x.1) (member_fields names more) ∙ ap (λ (fields : List Field). set_all fields (member_fields names more)) (sym e)
 
-pub member_listed : (old now : List Field) (before : List ℕ) (x : Label × Value) (more : Items) → now ≡ old ++ value_fields (before ++ label_text x.0) x.1 → old ++ member_fields before (put_item x more) ≡ now ++ member_fields before more
-member_listed old now before x more e = sym (append_assoc old (value_fields (before ++ label_text x.0) x.1) (member_fields before more)) ∙ ap (λ (fields : List Field). fields ++ member_fields before more) (sym e)
+pub member_listed : (old now : List Field) (before : List ℕ) (x : Label × Value) (more : Items) → now ≡ old ++ value_fields (before ++ member_name x.0) x.1 → old ++ member_fields before (put_item x more) ≡ now ++ member_fields before more
+member_listed old now before x more e = sym (append_assoc old (value_fields (before ++ member_name x.0) x.1) (member_fields before more)) ∙ ap (λ (fields : List Field). fields ++ member_fields before more) (sym e)
 
 -- all fields that were listed are set
 pub listed_set : (r : Result (Items × List ℕ) Fault) (old now listed items : List Field) (rest : List ℕ) (i : ℕ) → mapped (member_fields []) r ≡ Ok (listed, rest) → items ≡ listed → length items ≤ i → now ≡ set_all old (take i items)

@@ -28,7 +28,7 @@ is_stop byte = not (is_plain byte)
 unfoldable pub after_space : List ℕ → List ℕ
 after_space bytes = drop (prefix_len is_space bytes) bytes
 
--- what follows the byte, if it stands at the front
+-- what follows the byte, if it stands at the start
 abbrev pub past : ℕ → List ℕ → Option (List ℕ)
 past byte [] = None
 past byte (first ∷ rest) = if first == byte then Some rest else None
@@ -136,13 +136,13 @@ unsigned_end bytes = do
 unfoldable pub number_end : Reader (Unit {0})
 number_end = chosen 45 unsigned_end unsigned_end
 
-abbrev pub front_of : List ℕ → List ℕ → List ℕ
-front_of bytes rest = take (length bytes - length rest) bytes
+abbrev pub prefix_of : List ℕ → List ℕ → List ℕ
+prefix_of bytes rest = take (length bytes - length rest) bytes
 
 unfoldable pub number_at : Reader (List ℕ)
 number_at bytes = do
   end ← number_end bytes
-  Ok (front_of bytes end.1, end.1)
+  Ok (prefix_of bytes end.1, end.1)
 
 abbrev pub word_end : List ℕ → Reader (Unit {0})
 word_end [] bytes = Ok (tt, bytes)

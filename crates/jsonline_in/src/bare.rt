@@ -4,7 +4,7 @@ ghost use Rattle.log_model.specs.Token.{scalar_text};
 ghost use Rattle.jsonline_in.specs.Reading.{word_end, whole_end, fraction_end, signed_end, exponent_end, unsigned_end, number_end, number_at, bare_at};
 ghost use Rattle.jsonline_in.specs.Clauses.{Gives, mapped};
 
-use crate::scan::{digits, expect, front, past};
+use crate::scan::{digits, expect, prefix, past};
 use crate::stop::Stop;
 
 /// Zero, or digits that begin with another.
@@ -78,7 +78,7 @@ fn number(text: &str) -> Result<(&str, &str), Stop>
     ensures { Gives (λ x. (x.0.now, x.1.now)) result (number_at text.now) }
 {
     let rest = number_end(text)?;
-    Ok((front(text, rest), rest))
+    Ok((prefix(text, rest), rest))
 }
 
 /// What follows the `t`, and so for the two below.

@@ -6,7 +6,7 @@ ghost use Rattle.jsonline_in.specs.Reading.{name_at, characters_at, bare_at, lab
 ghost use Rattle.jsonline_in.specs.Clauses.{Gives, mapped, kind_of, compact};
 
 use crate::bare::bare;
-use crate::scan::{after_space, expect, front, past};
+use crate::scan::{after_space, expect, prefix, past};
 use crate::stop::Stop;
 use crate::text::string;
 
@@ -53,7 +53,7 @@ fn copy_string<'a>(text: &'a str, copied: &mut String, spare: &mut String) -> Re
     spare.clear();
     let (_, rest) = string(text, spare)?;
     copied.push_str("\"")?;
-    copied.push_str(front(text, rest))?;
+    copied.push_str(prefix(text, rest))?;
     Ok(rest)
 }
 
@@ -88,11 +88,11 @@ fn copy_bare<'a>(text: &'a str, copied: &mut String) -> Result<&'a str, Stop>
         (mapped (λ token. string_bytes copied.old ++ scalar_source token) (bare_at text.now)) }
 {
     let (_, rest) = bare(text)?;
-    copied.push_str(front(text, rest))?;
+    copied.push_str(prefix(text, rest))?;
     Ok(rest)
 }
 
-/// Copies the value at the front, where so many brackets more may be open, and gives what follows it.
+/// Copies the value at the start, where so many brackets more may be open, and gives what follows it.
 #[cycle(copied)]
 fn copy_value<'a>(
     text: &'a str,

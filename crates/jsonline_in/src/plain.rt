@@ -2,7 +2,7 @@
 ghost use Rattle.std.specs.Prelude.{◌≡◌, ◌<◌, ◌++◌, ◌∷◌, [], List, length, string_bytes, IfErr, OnOk};
 ghost use Rattle.log_model.specs.Field.{Field, set_all};
 ghost use Rattle.log_model.specs.ObjectLine.{IsObjectLine};
-ghost use Rattle.log_model.specs.Value.{object, field_name, label_text, value_fields, member_fields};
+ghost use Rattle.log_model.specs.Value.{object, field_name, member_name, value_fields, member_fields};
 ghost use Rattle.jsonline_in.specs.Clauses.{Gives, mapped};
 ghost use Rattle.jsonline_in.specs.Faults.{Refuses, IsFault};
 ghost use Rattle.jsonline_in.specs.Reading.{nested_at, value_at, item_at, items_at, text_at};
@@ -49,7 +49,7 @@ impl Listing {
         Ok(self.pairs.push(Pair { name, value })?)
     }
 
-    /// Lists the fields of the value at the front, which has this name, and gives what follows it.
+    /// Lists the fields of the value at the start, which has this name, and gives what follows it.
     #[cycle(list)]
     fn value<'a>(&mut self, name: &str, text: &'a str, depth: u32) -> Result<&'a str, Stop>
         ensures { Gives (λ rest. (self.new.pairs.items, rest.now)) result
@@ -70,7 +70,7 @@ impl Listing {
     #[cycle(list)]
     fn member<'a>(&mut self, before: &str, text: &'a str, depth: u32) -> Result<&'a str, Stop>
         ensures { Gives (λ rest. (self.new.pairs.items, rest.now)) result
-            (mapped (λ x. self.old.pairs.items ++ value_fields (before.now ++ label_text x.0) x.1) (item_at (nested_at depth) object text.now)) }
+            (mapped (λ x. self.old.pairs.items ++ value_fields (before.now ++ member_name x.0) x.1) (item_at (nested_at depth) object text.now)) }
     {
         let (own, rest) = text::name(self.alloc, text)?;
         let name = format!(in self.alloc; "{before}{own}")?;

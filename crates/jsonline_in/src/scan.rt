@@ -4,7 +4,7 @@ ghost use Rattle.std.specs.Option.{option_map};
 ghost use Rattle.std.specs.List.{prefix_len};
 ghost use Rattle.std.specs.Char.{is_ascii_digit, is_ascii_hexdigit};
 ghost use Rattle.log_model.specs.Json.{is_space};
-ghost use Rattle.jsonline_in.specs.Reading.{after_space, past, expect, one_of, digits_end, front_of};
+ghost use Rattle.jsonline_in.specs.Reading.{after_space, past, expect, one_of, digits_end, prefix_of};
 ghost use Rattle.jsonline_in.specs.Clauses.{Gives};
 
 use crate::stop::Stop;
@@ -58,9 +58,9 @@ pub(crate) fn expect(text: &str, byte: u8) -> Result<&str, Stop>
 
 /// What stands before the rest of a text.
 #[inline]
-pub(crate) fn front<'a>(text: &'a str, rest: &str) -> &'a str
+pub(crate) fn prefix<'a>(text: &'a str, rest: &str) -> &'a str
     requires { (taken : List ℕ) × (text.now ≡ taken ++ rest.now) }
-    ensures { result.now ≡ front_of text.now rest.now }
+    ensures { result.now ≡ prefix_of text.now rest.now }
 {
     &text[..text.len() - rest.len()]
 }

@@ -3,7 +3,7 @@ ghost use Rattle.std.specs.Prelude.{◌≡◌, ◌<◌, ◌++◌, List, [], ◌�
 ghost use Rattle.std.specs.Option.{option_map};
 ghost use Rattle.log_model.specs.Field.{Field, set_all, set_field};
 ghost use Rattle.log_model.specs.ObjectLine.{IsObjectLine};
-ghost use Rattle.log_model.specs.Value.{object, field_name, label_text, value_fields, member_fields};
+ghost use Rattle.log_model.specs.Value.{object, field_name, member_name, value_fields, member_fields};
 ghost use Rattle.jsonline_in.specs.Faults.{Refuses, IsFault};
 ghost use Rattle.jsonline_in.specs.Reading.{label_at, flat_at, nested_at, value_at, item_at, items_at, text_at};
 ghost use Rattle.jsonline_in.specs.Clauses.{Gives, mapped, or_empty, or_kept, flat_text, value_set};
@@ -22,7 +22,7 @@ use vl_row::FieldList;
 #[inline(always)]
 fn name<'a>(text: &'a str, names: &mut String) -> Result<(Option<&'a str>, &'a str), Stop>
     ensures read { Gives (λ x. (string_bytes names.new ++ or_empty (option_map (λ t. t.now) x.0), x.1.now)) result
-        (mapped (λ label. string_bytes names.old ++ label_text label) (label_at object text.now)) }
+        (mapped (λ label. string_bytes names.old ++ member_name label) (label_at object text.now)) }
     ensures kept { IfOk result (λ x. IfSome x.0 (λ _. string_bytes names.new ≡ string_bytes names.old)) }
 {
     let (name, rest) = string(expect(text, b'"')?, names)?;
@@ -30,7 +30,7 @@ fn name<'a>(text: &'a str, names: &mut String) -> Result<(Option<&'a str>, &'a s
     Ok((name, after_space(rest)))
 }
 
-/// The text of the value at the front, which is no object. Where it is put together, it is left in `values` instead.
+/// The text of the value at the start, which is no object. Where it is put together, it is left in `values` instead.
 #[inline(always)]
 fn flat<'a>(
     text: &'a str,
@@ -128,7 +128,7 @@ fn set_members<'a>(
     }
 }
 
-/// Sets the member at the front, and gives what follows it.
+/// Sets the member at the start, and gives what follows it.
 #[cycle(set)]
 #[inline(always)]
 fn set_member<'a>(
@@ -141,7 +141,7 @@ fn set_member<'a>(
     out: &mut FieldList,
 ) -> Result<&'a str, Stop>
     ensures set { Gives (λ rest. (out.new, rest.now)) result
-        (mapped (λ x. set_all out.old (value_fields (string_bytes names.old ++ label_text x.0) x.1)) (item_at (nested_at depth) object text.now)) }
+        (mapped (λ x. set_all out.old (value_fields (string_bytes names.old ++ member_name x.0) x.1)) (item_at (nested_at depth) object text.now)) }
     ensures names { OnOk result (string_bytes names.new ≡ string_bytes names.old) }
 {
     let before = names.as_str().len();
@@ -151,8 +151,8 @@ fn set_member<'a>(
     Ok(rest)
 }
 
-/// Sets the value at the front, whose name is in `names`, with this text behind it. The name that was there stays in
-/// front.
+/// Sets the value at the start, whose name is in `names`, with this text behind it. The name that was there stays in
+/// prefix.
 #[cycle(set)]
 #[inline(always)]
 fn set_value<'a>(

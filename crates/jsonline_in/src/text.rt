@@ -13,7 +13,7 @@ use crate::scan::{expect, past};
 use crate::stop::Stop;
 use std::alloc::AllocError;
 
-/// The characters at the front that stand for themselves, and what follows them.
+/// The characters at the start that stand for themselves, and what follows them.
 #[tactic(auto, using(crate::proofs::Cuts::plain_cut))]
 #[inline(always)]
 fn split_run(text: &str) -> (&str, &str)

@@ -3,7 +3,7 @@ ghost use Rattle.std.specs.Prelude.{◌≡◌, string_bytes};
 ghost use Rattle.std.specs.List.{prefix_len};
 ghost use Rattle.log_model.specs.Json.{is_plain};
 ghost use Rattle.log_model.specs.Token.{string_text};
-ghost use Rattle.log_model.specs.Value.{object, label_text};
+ghost use Rattle.log_model.specs.Value.{object, member_name};
 ghost use Rattle.jsonline_in.specs.Clauses.{Gives, mapped, flat_text};
 ghost use Rattle.jsonline_in.specs.Reading.{characters_at, label_at, flat_at, nested_at};
 
@@ -46,7 +46,7 @@ fn string(alloc: Global, text: &str) -> Result<(String, &str), Stop>
 
 /// The name of a member, up to its value.
 pub(super) fn name(alloc: Global, text: &str) -> Result<(String, &str), Stop>
-    ensures { Gives (λ x. (string_bytes x.0, x.1.now)) result (mapped label_text (label_at object text.now)) }
+    ensures { Gives (λ x. (string_bytes x.0, x.1.now)) result (mapped member_name (label_at object text.now)) }
 {
     let (name, rest) = string(alloc, expect(text, b'"')?)?;
     let rest = expect(after_space(rest), b':')?;

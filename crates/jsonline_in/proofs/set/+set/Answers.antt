@@ -3,7 +3,7 @@ use Rattle.std.specs.Prelude.{option_map}
 use Rattle.std.specs.String.Boundary.{IsSplitPoint}
 use Rattle.std.proofs.lemmas.Str.{IsUtf8-string_bytes}
 use Rattle.log_model.specs.Field.{set_all}
-use Rattle.log_model.specs.Value.{object, label_text, value_fields, member_fields}
+use Rattle.log_model.specs.Value.{object, member_name, value_fields, member_fields}
 use Rattle.jsonline_in.specs.Reading.{label_at, item_at, nested_at, value_at, flat_at}
 use Rattle.jsonline_in.specs.Clauses.{mapped, value_set, or_empty, or_kept, flat_text}
 use Rattle.jsonline_in.proofs.Copies.{mapped_ok, mapped_err}
@@ -17,8 +17,8 @@ pub set_member-returns-in_err-own-clause-set : goal.set_member-returns-in_err-ow
 set_member-returns-in_err-own-clause-set t c =
     let text = c.args.text.now in
     let names = string_bytes c.args.names.now in
-    stops_at _ c.from_residual.result _ (mapped (λ label. names ++ label_text label) (label_at object text)) _ c.from_residual.ensures.1
-    (λ fault h. ap (mapped (λ x. set_all c.args.out.now (value_fields (names ++ label_text x.0) x.1))) (no_label (nested_at c.args.depth) object text fault (mapped_err _ (label_at object text) fault h))) c.in_err-own.ensures.read
+    stops_at _ c.from_residual.result _ (mapped (λ label. names ++ member_name label) (label_at object text)) _ c.from_residual.ensures.1
+    (λ fault h. ap (mapped (λ x. set_all c.args.out.now (value_fields (names ++ member_name x.0) x.1))) (no_label (nested_at c.args.depth) object text fault (mapped_err _ (label_at object text) fault h))) c.in_err-own.ensures.read
 
 pub set_member-returns-in_err-rest-clause-set : goal.set_member-returns-in_err-rest-clause-set
 set_member-returns-in_err-rest-clause-set t c =
@@ -26,8 +26,8 @@ set_member-returns-in_err-rest-clause-set t c =
     let names = string_bytes c.args.names.now in
     let name = string_bytes c.name.new.names ++ or_empty (option_map (λ s. s.now) c.in_ok-own.own) in
     let inner = nested_at c.args.depth in
-    let m = mapped_ok (λ label. names ++ label_text label) (label_at object text) name c.in_ok-own.rest.now c.in_ok-own.ensures.read in
-    let same = item_mapped inner object text m.0 c.in_ok-own.rest.now (λ x. set_all c.args.out.now (value_fields (names ++ label_text x.0) x.1)) (value_set c.args.out.now name) m.1 (λ value. ap (λ n. value_set c.args.out.now n value) (sym m.2)) in
+    let m = mapped_ok (λ label. names ++ member_name label) (label_at object text) name c.in_ok-own.rest.now c.in_ok-own.ensures.read in
+    let same = item_mapped inner object text m.0 c.in_ok-own.rest.now (λ x. set_all c.args.out.now (value_fields (names ++ member_name x.0) x.1)) (value_set c.args.out.now name) m.1 (λ value. ap (λ n. value_set c.args.out.now n value) (sym m.2)) in
     stops_at _ c.from_residual-in_err-rest.result _ (mapped (value_set c.args.out.now name) (value_at inner c.in_ok-own.rest.now)) _ c.from_residual-in_err-rest.ensures.1 (λ fault h. same ∙ h) c.in_err-rest.ensures.set
 
 pub set_member-truncate-requires : goal.set_member-truncate-requires
@@ -36,8 +36,8 @@ set_member-truncate-requires t c =
     let mid = string_bytes c.name.new.names in
     let new = string_bytes c.set_value.new.names in
     let p = prefix_kept (λ s. s.now) names mid c.args.text.now c.in_ok-own.rest.now c.in_ok-own.own c.in_ok-own.ensures.kept c.in_ok-own.ensures.read in
-    let front : take (length names) new ≡ names = cut_back names mid new p.0 p.1 c.in_ok-rest.ensures.names in
-    λ within. subst (IsSplitPoint new) (sym (ap length c.as_str-before.ensures.value)) (split_back names new front (IsUtf8-string_bytes c.args.names.now) (IsUtf8-string_bytes c.set_value.new.names))
+    let prefix : take (length names) new ≡ names = cut_back names mid new p.0 p.1 c.in_ok-rest.ensures.names in
+    λ within. subst (IsSplitPoint new) (sym (ap length c.as_str-before.ensures.value)) (split_back names new prefix (IsUtf8-string_bytes c.args.names.now) (IsUtf8-string_bytes c.set_value.new.names))
 
 pub set_member-returns-clause-set : goal.set_member-returns-clause-set
 set_member-returns-clause-set t c =
@@ -45,8 +45,8 @@ set_member-returns-clause-set t c =
     let names = string_bytes c.args.names.now in
     let name = string_bytes c.name.new.names ++ or_empty (option_map (λ s. s.now) c.in_ok-own.own) in
     let inner = nested_at c.args.depth in
-    let m = mapped_ok (λ label. names ++ label_text label) (label_at object text) name c.in_ok-own.rest.now c.in_ok-own.ensures.read in
-    item_mapped inner object text m.0 c.in_ok-own.rest.now (λ x. set_all c.args.out.now (value_fields (names ++ label_text x.0) x.1)) (value_set c.args.out.now name) m.1 (λ value. ap (λ n. value_set c.args.out.now n value) (sym m.2))
+    let m = mapped_ok (λ label. names ++ member_name label) (label_at object text) name c.in_ok-own.rest.now c.in_ok-own.ensures.read in
+    item_mapped inner object text m.0 c.in_ok-own.rest.now (λ x. set_all c.args.out.now (value_fields (names ++ member_name x.0) x.1)) (value_set c.args.out.now name) m.1 (λ value. ap (λ n. value_set c.args.out.now n value) (sym m.2))
     ∙ c.in_ok-rest.ensures.set
 
 pub set_member-returns-clause-names : goal.set_member-returns-clause-names
@@ -96,7 +96,7 @@ set_members-returns-in_err-rest-clause-set t c =
     let start = c.after_space-start.result.now in
     let names = string_bytes c.args.names.now in
     let inner = nested_at c.args.depth in
-    stops_at _ c.from_residual.result _ (mapped (λ x. set_all c.args.out.now (value_fields (names ++ label_text x.0) x.1)) (item_at inner object start)) _ c.from_residual.ensures.1
+    stops_at _ c.from_residual.result _ (mapped (λ x. set_all c.args.out.now (value_fields (names ++ member_name x.0) x.1)) (item_at inner object start)) _ c.from_residual.ensures.1
     (λ fault h. ap (mapped (λ members. set_all c.args.out.now (member_fields names members))) (no_first c.args.depth object c.args.text.now start c.after_space-start.ensures fault (sym c.in_default.ensures) (mapped_err _ (item_at inner object start) fault h))) c.in_err-rest.ensures.set
 
 pub set_members-members-init : goal.set_members-members-init
@@ -105,7 +105,7 @@ set_members-members-init t c =
     let names = string_bytes c.args.names.now in
     let old = c.args.out.now in
     let new = c.set_member.new.out in
-    let m = mapped_ok (λ x. set_all old (value_fields (names ++ label_text x.0) x.1)) (item_at (nested_at c.args.depth) object start) new c.in_ok-rest.rest.now c.in_ok-rest.ensures.set in (
+    let m = mapped_ok (λ x. set_all old (value_fields (names ++ member_name x.0) x.1)) (item_at (nested_at c.args.depth) object start) new c.in_ok-rest.rest.now c.in_ok-rest.ensures.set in (
       search rules,
       c.in_ok-rest.ensures.names,
       started c.args.depth object c.args.text.now start c.after_space-start.ensures (λ members. set_all old (member_fields names members)) (λ members. set_all new (member_fields names members)) m.0 c.in_ok-rest.rest.now
@@ -124,7 +124,7 @@ set_members-returns-in_err-rest-2-clause-set t c =
     let names = string_bytes c.args.names.now in
     let here = c.after_space-here.result.now in
     let inner = nested_at c.args.depth in
-    stops_at _ c.from_residual-in_err-rest-2.result _ (mapped (λ x. set_all c.members.out (value_fields (string_bytes c.members.names ++ label_text x.0) x.1)) (item_at inner object c.after_space.result.now)) _ c.from_residual-in_err-rest-2.ensures.1
+    stops_at _ c.from_residual-in_err-rest-2.result _ (mapped (λ x. set_all c.members.out (value_fields (string_bytes c.members.names ++ member_name x.0) x.1)) (item_at inner object c.after_space.result.now)) _ c.from_residual-in_err-rest-2.ensures.1
     (λ fault h. ap (mapped (λ members. set_all c.args.out.now (member_fields names members))) (no_other c.args.depth object _ _ c.members.rest.now _ c.members.invariant.2 here c.after_space-here.ensures c.in-Some-past.next.now fault (sym c.in-Some-past.ensures)
     (ap (item_at inner object) (sym c.after_space.ensures) ∙ mapped_err _ (item_at inner object c.after_space.result.now) fault h))) c.in_err-rest-2.ensures.set
 
@@ -141,8 +141,8 @@ set_members-members-preserved t c =
     let names = string_bytes c.args.names.now in
     let now = c.members.out in
     let new = c.set_member-in-members.new.out in
-    let m = mapped_ok (λ x. set_all now (value_fields (string_bytes c.members.names ++ label_text x.0) x.1)) (item_at inner object c.after_space.result.now) new c.in_ok-rest-2.rest.now c.in_ok-rest-2.ensures.set in
-    let same : new ≡ set_all now (value_fields (names ++ label_text m.0.0) m.0.1) = m.2 ∙ ap (λ n. set_all now (value_fields (n ++ label_text m.0.0) m.0.1)) c.members.invariant.1 in (
+    let m = mapped_ok (λ x. set_all now (value_fields (string_bytes c.members.names ++ member_name x.0) x.1)) (item_at inner object c.after_space.result.now) new c.in_ok-rest-2.rest.now c.in_ok-rest-2.ensures.set in
+    let same : new ≡ set_all now (value_fields (names ++ member_name m.0.0) m.0.1) = m.2 ∙ ap (λ n. set_all now (value_fields (n ++ member_name m.0.0) m.0.1)) c.members.invariant.1 in (
       search rules,
       c.in_ok-rest-2.ensures.names ∙ c.members.invariant.1,
       goes_on_to c.args.depth object _ _ c.members.rest.now _ c.members.invariant.2 c.after_space-here.result.now c.after_space-here.ensures (λ members. set_all new (member_fields names members)) c.in-Some-past.next.now m.0 c.in_ok-rest-2.rest.now
