@@ -8,9 +8,9 @@ use Rattle.log_model.specs.Json.{is_plain}
 use Rattle.log_model.specs.Token.{Character, plain, alone, text_behind, string_text}
 use Rattle.jsonline_in.specs.Reading.{past, Fault, deep, stuck, ◌>>=◌, gives, fails, chosen_by, expect, one_of, escape_at, plain_at, some_of, character_at, put_character, characters_at, turn}
 use Rattle.std.specs.Result.{IsErrAnd}
-use Rattle.jsonline_in.specs.Clauses.{Fails, Gives, mapped}
-use Rattle.jsonline_in.specs.declared.stop.Stop.{Stop}
-use Rattle.jsonline_in.specs.declared.stop.Stop.TheVariants.{TooDeep, Stuck, Memory}
+use Rattle.jsonline_in.specs.Clauses.{Fails, ReadsAs, mapped}
+use Rattle.jsonline_in.specs.declared.scan_fault.ScanFault.{ScanFault}
+use Rattle.jsonline_in.specs.declared.scan_fault.ScanFault.TheVariants.{TooDeep, Stuck, Memory}
 use Rattle.jsonline_in.proofs.Good.{reads_of, past_takes}
 use Rattle.jsonline_in.proofs.Steps.{one_again, one_stops, none_behind}
 use Rattle.jsonline_in.proofs.Texts.{IsBehind, good_escape, character_shrinks}
@@ -248,14 +248,14 @@ module _ (old now : List ℕ) (before : ℕ) (rest : List ℕ) (total : Result (
 -- ---- where it stops
 
 -- a reader that stops where another does
-pub fails_too : {X Y : Type 0} (a : Result X Fault) (b : Result Y Fault) (stop : Stop) → ((fault : Fault) → a ≡ Err fault → b ≡ Err fault) → Fails stop a → Fails stop b
+pub fails_too : {X Y : Type 0} (a : Result X Fault) (b : Result Y Fault) (stop : ScanFault) → ((fault : Fault) → a ≡ Err fault → b ≡ Err fault) → Fails stop a → Fails stop b
 fails_too a b TooDeep same h = same deep h
 fails_too a b (Stuck left) same h = same (stuck left) h
 fails_too a b Memory same h = tt
 
-pub stops_at : {X Y Z : Type 0} (view : X → Y) (r : Result X Stop) (stop : Stop) (a : Result Z Fault) (b : Result Y Fault) → IsErrAnd r (λ y. y ≡ stop) → ((fault : Fault) → a ≡ Err fault → b ≡ Err fault) → Fails stop a → Gives view r b
+pub stops_at : {X Y Z : Type 0} (view : X → Y) (r : Result X ScanFault) (stop : ScanFault) (a : Result Z Fault) (b : Result Y Fault) → IsErrAnd r (λ y. y ≡ stop) → ((fault : Fault) → a ≡ Err fault → b ≡ Err fault) → Fails stop a → ReadsAs view r b
 stops_at view (Ok x) stop a b is same h = absurd is
-stops_at view (Err y) stop a b is same h = fails_too a b y same (subst (λ (z : Stop). Fails z a) (sym is) h)
+stops_at view (Err y) stop a b is same h = fails_too a b y same (subst (λ (z : ScanFault). Fails z a) (sym is) h)
 
 -- a run and an escape behind it
 pub two_steps : (now mid new : List ℕ) (before unit next : ℕ) (run : List Character) (character : Character)

@@ -7,11 +7,11 @@ use Rattle.std.proofs.lemmas.Str.{IsCharBoundary-from_take}
 use Rattle.log_model.specs.Field.{Field, set_field, set_all}
 use Rattle.log_model.specs.Token.{Character, string, string_text, Scalar, scalar_text}
 use Rattle.log_model.specs.Value.{Kind, array, object, Label, Value, scalar, nested, Items, nothing, tokens, member_name, field_name, value_fields, member_fields}
-use Rattle.jsonline_in.specs.declared.stop.Stop.{Stop}
+use Rattle.jsonline_in.specs.declared.scan_fault.ScanFault.{ScanFault}
 use Rattle.jsonline_in.specs.Reading.{after_space, past, Fault, ◌>>=◌, expect, flat_at, label_at, items_at, value_at, nested_at, put_item}
 use Rattle.std.specs.String.Boundary.{IsSplitPoint}
 use Rattle.jsonline_in.proofs.ValueSteps.{value_flat, flat_square, quoted_mapped, bare_mapped}
-use Rattle.jsonline_in.specs.Clauses.{Fails, Gives, mapped, compact, flat_text, value_set, or_empty, or_kept}
+use Rattle.jsonline_in.specs.Clauses.{Fails, ReadsAs, mapped, compact, flat_text, value_set, or_empty, or_kept}
 use Rattle.jsonline_in.proofs.Copies.{mapped_ok}
 use Rattle.jsonline_in.proofs.Decoding.{fails_too}
 use Rattle.jsonline_in.proofs.Loops.{Continued, closed, not_closed}
@@ -29,9 +29,9 @@ still : {S : Type 0} (piece : Option S) (old new : List ℕ) → old ≡ [] → 
 still None old new e k = tt
 still (Some text) old new e k = k ∙ e
 
-pub string_flat : {S R : Type 0} (now : S → List ℕ) (left : R → List ℕ) (r : Result (Option S × R) Stop) (old new : List ℕ) (a : Result (List Character × List ℕ) Fault) → old ≡ []
-    → Gives (λ x. (new ++ or_empty (option_map now x.0), left x.1)) r (mapped (λ characters. old ++ string_text characters) a) → IfOk r (λ x. IfSome x.0 (λ _. new ≡ old))
-    → Gives (λ x. (or_kept (option_map now x.0) new, left x.1)) r (mapped string_text a)
+pub string_flat : {S R : Type 0} (now : S → List ℕ) (left : R → List ℕ) (r : Result (Option S × R) ScanFault) (old new : List ℕ) (a : Result (List Character × List ℕ) Fault) → old ≡ []
+    → ReadsAs (λ x. (new ++ or_empty (option_map now x.0), left x.1)) r (mapped (λ characters. old ++ string_text characters) a) → IfOk r (λ x. IfSome x.0 (λ _. new ≡ old))
+    → ReadsAs (λ x. (or_kept (option_map now x.0) new, left x.1)) r (mapped string_text a)
 string_flat now left (Ok x) old new a e g kept = sym (empty_before a old e) ∙ g ∙ ap (λ (t : List ℕ). Ok (t, left x.1)) (kept_text now x.0 new (still x.0 old new e kept))
 string_flat now left (Err stop) old new a e g kept = subst (Fails stop) (empty_before a old e) g
 
@@ -156,8 +156,8 @@ pub on_ok : {A E : Type 0} (r : Result A E) (P : Type 0) → P → OnOk r P
 on_ok (Ok x) P p = p
 on_ok (Err e) P p = tt
 
-pub closed_by : {S : Type 0} (view : S → List ℕ) (r : Result S Stop) (depth : ℕ) (whole left : Items → List Field) (rest : List ℕ) (total : Result (Items × List ℕ) Fault) → Continued depth object whole left rest total
-    → (here : List ℕ) (now : List Field) → here ≡ after_space rest → past 44 here ≡ None → now ≡ left nothing → Gives (λ x. (tt, view x)) r (expect 125 here) → Gives (λ x. (now, view x)) r (mapped whole total)
+pub closed_by : {S : Type 0} (view : S → List ℕ) (r : Result S ScanFault) (depth : ℕ) (whole left : Items → List Field) (rest : List ℕ) (total : Result (Items × List ℕ) Fault) → Continued depth object whole left rest total
+    → (here : List ℕ) (now : List Field) → here ≡ after_space rest → past 44 here ≡ None → now ≡ left nothing → ReadsAs (λ x. (tt, view x)) r (expect 125 here) → ReadsAs (λ x. (now, view x)) r (mapped whole total)
 closed_by view (Ok x) depth whole left rest total c here now space none last g = closed depth object whole left rest total c here space (view x) now none g last
 closed_by view (Err stop) depth whole left rest total c here now space none last g =
     fails_too (expect 125 here) (mapped whole total) stop (λ fault h. ap (mapped whole) (not_closed depth object whole left rest total c here space fault none h)) g
