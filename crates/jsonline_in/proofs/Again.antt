@@ -9,7 +9,7 @@ use Rattle.log_model.specs.Token.{Character, plain, short, unicode, is_short, is
 use Rattle.jsonline_in.specs.Reading.{past, Fault, ◌>>=◌, gives, fails, chosen, chosen_by, expect, unicode_at, short_at, escape_at, character_at, characters_at, digits_end, whole_end, fraction_end, signed_end, exponent_end, unsigned_end, number_end, number_at, word_end, literal_of, made_by, bare_at}
 use Rattle.jsonline_in.proofs.Good.{past_again}
 use Rattle.jsonline_in.proofs.Steps.{run_again, one_again, digits_or}
-use Rattle.jsonline_in.proofs.Numbers.{front_is}
+use Rattle.jsonline_in.proofs.Numbers.{prefix_is}
 use Rattle.jsonline_in.proofs.Decoding.{done, one_plain, turned, goes_on}
 
 -- ---- one byte that is not the one that is looked for
@@ -209,7 +209,7 @@ number_again : (token rest : List ℕ) → IsNumber token → Calm rest → numb
 unfolding number_at
 number_again token rest n calm =
     let e = number_ends token rest n calm in
-    let f = front_is token rest in
+    let f = prefix_is token rest in
     rw (e, f) refl
 
 -- ---- words and scalars

@@ -5,10 +5,10 @@ use Rattle.std.specs.List.{prefix_len}
 use Rattle.std.proofs.lemmas.List.{append-nil}
 use Rattle.log_model.specs.Json.{is_plain}
 use Rattle.log_model.specs.Token.{Character, plain, source, string_source, string_text}
-use Rattle.jsonline_in.specs.Reading.{past, Fault, characters_at, front_of}
+use Rattle.jsonline_in.specs.Reading.{past, Fault, characters_at, prefix_of}
 use Rattle.jsonline_in.specs.Clauses.{mapped}
 use Rattle.jsonline_in.proofs.Good.{reads_of}
-use Rattle.jsonline_in.proofs.Numbers.{front_is}
+use Rattle.jsonline_in.proofs.Numbers.{prefix_is}
 use Rattle.jsonline_in.proofs.Texts.{IsTail, good_characters}
 use Rattle.jsonline_in.proofs.Decoding.{run_and_end, run}
 
@@ -45,16 +45,16 @@ plain_string old bytes content after end e f g =
 -- ---- sources
 
 module _ {B : Type 0} (made : List Character → B) (bytes rest : List ℕ) (y : B) (e : mapped made (characters_at bytes) ≡ Ok (y, rest)) where
-  pub string_front : (taken : List ℕ) × (bytes ≡ taken ++ rest)
-  string_front =
+  pub string_prefix : (taken : List ℕ) × (bytes ≡ taken ++ rest)
+  string_prefix =
       let m = mapped_ok made (characters_at bytes) y rest e in
       let r = reads_of (λ reach. IsTail) characters_at good_characters bytes m.0 rest m.1 in
       (r.text, r.parts)
 
-  pub string_copied : (old quoted new : List ℕ) → quoted ≡ old ++ 34 ∷ [] → new ≡ quoted ++ front_of bytes rest → mapped (λ characters. old ++ string_source characters) (characters_at bytes) ≡ Ok (new, rest)
+  pub string_copied : (old quoted new : List ℕ) → quoted ≡ old ++ 34 ∷ [] → new ≡ quoted ++ prefix_of bytes rest → mapped (λ characters. old ++ string_source characters) (characters_at bytes) ≡ Ok (new, rest)
   string_copied old quoted new f g =
       let m = mapped_ok made (characters_at bytes) y rest e in
       let r = reads_of (λ reach. IsTail) characters_at good_characters bytes m.0 rest m.1 in
-      let front : front_of bytes rest ≡ flat_map source m.0 ++ 34 ∷ [] = ap (λ (t : List ℕ). front_of t rest) r.parts ∙ front_is r.text rest ∙ r.inside.spelled in
-      let all : old ++ string_source m.0 ≡ new = sym (g ∙ ap (λ (t : List ℕ). t ++ front_of bytes rest) f ∙ append_assoc old (34 ∷ []) (front_of bytes rest) ∙ ap (λ (t : List ℕ). old ++ 34 ∷ t) front) in
+      let prefix : prefix_of bytes rest ≡ flat_map source m.0 ++ 34 ∷ [] = ap (λ (t : List ℕ). prefix_of t rest) r.parts ∙ prefix_is r.text rest ∙ r.inside.spelled in
+      let all : old ++ string_source m.0 ≡ new = sym (g ∙ ap (λ (t : List ℕ). t ++ prefix_of bytes rest) f ∙ append_assoc old (34 ∷ []) (prefix_of bytes rest) ∙ ap (λ (t : List ℕ). old ++ 34 ∷ t) prefix) in
       ap (mapped (λ (characters : List Character). old ++ string_source characters)) m.1 ∙ ap (λ (t : List ℕ). Ok (t, rest)) all

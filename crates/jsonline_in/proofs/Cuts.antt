@@ -71,7 +71,7 @@ plain_cut text utf8 =
 
 -- ---- before what is left
 
-pub front_cut : (text taken rest : List ℕ) → text ≡ taken ++ rest → IsUtf8 rest → IsCharBoundary text (length text - length rest)
-front_cut text taken rest parts utf8 =
+pub prefix_cut : (text taken rest : List ℕ) → text ≡ taken ++ rest → IsUtf8 rest → IsCharBoundary text (length text - length rest)
+prefix_cut text taken rest parts utf8 =
     let n : length taken ≡ length text - length rest = omega (arith, ap length parts, length-append taken rest) in
     subst (IsCharBoundary text) n (IsCharBoundary-at_seam text taken rest parts utf8)

@@ -8,9 +8,9 @@ use Rattle.log_model.specs.Json.{is_plain}
 use Rattle.log_model.specs.Token.{Character, plain, alone, text_behind, string_text}
 use Rattle.jsonline_in.specs.Reading.{past, Fault, deep, stuck, ◌>>=◌, gives, fails, chosen_by, expect, one_of, escape_at, plain_at, some_of, character_at, put_character, characters_at, turn}
 use Rattle.std.specs.Result.{IsErrAnd}
-use Rattle.jsonline_in.specs.Clauses.{Fails, Gives, mapped}
-use Rattle.jsonline_in.specs.declared.stop.Stop.{Stop}
-use Rattle.jsonline_in.specs.declared.stop.Stop.TheVariants.{TooDeep, Stuck, Memory}
+use Rattle.jsonline_in.specs.Clauses.{Fails, ReadsAs, mapped}
+use Rattle.jsonline_in.specs.declared.scan_fault.ScanFault.{ScanFault}
+use Rattle.jsonline_in.specs.declared.scan_fault.ScanFault.TheVariants.{TooDeep, Stuck, Memory}
 use Rattle.jsonline_in.proofs.Good.{reads_of, past_takes}
 use Rattle.jsonline_in.proofs.Steps.{one_again, one_stops, none_behind}
 use Rattle.jsonline_in.proofs.Texts.{IsBehind, good_escape, character_shrinks}
@@ -49,8 +49,8 @@ run_step bytes run old new before unit is step more = ap (λ (t : List ℕ). old
 
 -- ---- what is read in one turn
 
-abbrev pub put_front : List Character → List Character × List ℕ → Result (List Character × List ℕ) Fault
-put_front front x = Ok (front ++ x.0, x.1)
+abbrev pub put_prefix : List Character → List Character × List ℕ → Result (List Character × List ℕ) Fault
+put_prefix prefix x = Ok (prefix ++ x.0, x.1)
 
 pub turned : (bytes : List ℕ) → characters_at bytes ≡ (character_at bytes >>= turn put_character [] characters_at)
 unfolding characters_at
@@ -91,24 +91,24 @@ one_plain first rest e =
     ∙ ap (by_backslash (first ∷ rest)) n.1
     ∙ ap (λ (r : Result (ℕ × List ℕ) Fault). as_some (as_plain r)) (one_again is_plain first rest e)
 
-pub run_read : (bytes : List ℕ) → characters_at bytes ≡ (characters_at (drop (prefix_len is_plain bytes) bytes) >>= put_front (map plain (take (prefix_len is_plain bytes) bytes)))
+pub run_read : (bytes : List ℕ) → characters_at bytes ≡ (characters_at (drop (prefix_len is_plain bytes) bytes) >>= put_prefix (map plain (take (prefix_len is_plain bytes) bytes)))
 run_read [] = nothing (characters_at [])
   where
-    nothing : (r : Result (List Character × List ℕ) Fault) → r ≡ (r >>= put_front [])
+    nothing : (r : Result (List Character × List ℕ) Fault) → r ≡ (r >>= put_prefix [])
     nothing (Ok x) = refl
     nothing (Err fault) = refl
 run_read (first ∷ rest) = by_case (run_read rest) (is_plain first) refl
   where
-    nothing : (r : Result (List Character × List ℕ) Fault) → r ≡ (r >>= put_front [])
+    nothing : (r : Result (List Character × List ℕ) Fault) → r ≡ (r >>= put_prefix [])
     nothing (Ok x) = refl
     nothing (Err fault) = refl
 
-    again : (run : List Character) (r : Result (List Character × List ℕ) Fault) → ((r >>= put_front run) >>= λ xs. Ok (plain first ∷ xs.0, xs.1)) ≡ (r >>= put_front (plain first ∷ run))
+    again : (run : List Character) (r : Result (List Character × List ℕ) Fault) → ((r >>= put_prefix run) >>= λ xs. Ok (plain first ∷ xs.0, xs.1)) ≡ (r >>= put_prefix (plain first ∷ run))
     again run (Ok x) = refl
     again run (Err fault) = refl
 
-    by_case : characters_at rest ≡ (characters_at (drop (prefix_len is_plain rest) rest) >>= put_front (map plain (take (prefix_len is_plain rest) rest))) → (b : Bool) → is_plain first ≡ b
-        → characters_at (first ∷ rest) ≡ (characters_at (drop (cond b (1 + prefix_len is_plain rest) 0) (first ∷ rest)) >>= put_front (map plain (take (cond b (1 + prefix_len is_plain rest) 0) (first ∷ rest))))
+    by_case : characters_at rest ≡ (characters_at (drop (prefix_len is_plain rest) rest) >>= put_prefix (map plain (take (prefix_len is_plain rest) rest))) → (b : Bool) → is_plain first ≡ b
+        → characters_at (first ∷ rest) ≡ (characters_at (drop (cond b (1 + prefix_len is_plain rest) 0) (first ∷ rest)) >>= put_prefix (map plain (take (cond b (1 + prefix_len is_plain rest) 0) (first ∷ rest))))
     by_case before false e = nothing (characters_at (first ∷ rest))
     by_case before true e =
         let n = prefix_len is_plain rest in
@@ -124,7 +124,7 @@ end_read bytes end e = turned bytes ∙ ap (λ (o : Option (List ℕ)). goes_on 
 
 -- what a reader of the rest gives, where an escape begins
 abbrev pub escaped_by : Result (Character × List ℕ) Fault → Result (List Character × List ℕ) Fault
-escaped_by read = read >>= λ x. characters_at x.1 >>= put_front (x.0 ∷ [])
+escaped_by read = read >>= λ x. characters_at x.1 >>= put_prefix (x.0 ∷ [])
 
 pub escape_read : (bytes inner : List ℕ) → past 34 bytes ≡ None → past 92 bytes ≡ Some inner → characters_at bytes ≡ escaped_by (escape_at inner)
 unfolding character_at
@@ -179,25 +179,25 @@ expect_none byte bytes fault e = found (past byte bytes) e
     found None h = (refl, cc)
     found (Some x) h = absurd cc
 
-front_more : (a b : List Character) (r : Result (List Character × List ℕ) Fault) → ((r >>= put_front b) >>= put_front a) ≡ (r >>= put_front (a ++ b))
-front_more a b (Ok x) = ap (λ (t : List Character). Ok (t, x.1)) (sym (append_assoc a b x.0))
-front_more a b (Err fault) = refl
+prefix_more : (a b : List Character) (r : Result (List Character × List ℕ) Fault) → ((r >>= put_prefix b) >>= put_prefix a) ≡ (r >>= put_prefix (a ++ b))
+prefix_more a b (Ok x) = ap (λ (t : List Character). Ok (t, x.1)) (sym (append_assoc a b x.0))
+prefix_more a b (Err fault) = refl
 
 pub escape_shorter : (bytes inner next : List ℕ) (character : Character) → past 92 bytes ≡ Some inner → escape_at inner ≡ Ok (character, next) → length next < length bytes
 escape_shorter bytes inner next character e f =
     let r = reads_of (λ reach. IsBehind (92 ∷ [])) escape_at good_escape inner character next f in
     omega (arith, ap length (past_takes 92 bytes inner e), ap length r.parts, length-append r.text next)
 
--- behind the run at the front
+-- behind the run at the start
 module _ (bytes after : List ℕ) (is : after ≡ drop (prefix_len is_plain bytes) bytes) where
   abbrev pub run : List Character
   run = map plain (take (prefix_len is_plain bytes) bytes)
 
-  read_on : characters_at bytes ≡ (characters_at after >>= put_front run)
-  read_on = run_read bytes ∙ ap (λ (t : List ℕ). characters_at t >>= put_front run) (sym is)
+  read_on : characters_at bytes ≡ (characters_at after >>= put_prefix run)
+  read_on = run_read bytes ∙ ap (λ (t : List ℕ). characters_at t >>= put_prefix run) (sym is)
 
   pub behind_run : (fault : Fault) → characters_at after ≡ Err fault → characters_at bytes ≡ Err fault
-  behind_run fault e = read_on ∙ ap (λ (r : Result (List Character × List ℕ) Fault). r >>= put_front run) e
+  behind_run fault e = read_on ∙ ap (λ (r : Result (List Character × List ℕ) Fault). r >>= put_prefix run) e
 
   pub stuck_run : (fault : Fault) → past 34 after ≡ None → expect 92 after ≡ Err fault → characters_at bytes ≡ Err fault
   stuck_run fault e f =
@@ -209,13 +209,13 @@ module _ (bytes after : List ℕ) (is : after ≡ drop (prefix_len is_plain byte
   stuck_escape inner fault e f g = behind_run fault (escape_read after inner e (expect_past 92 after inner f) ∙ ap escaped_by g)
 
   pub run_and_escape : (inner next : List ℕ) (character : Character) → past 34 after ≡ None → expect 92 after ≡ Ok (tt, inner) → escape_at inner ≡ Ok (character, next)
-      → characters_at bytes ≡ (characters_at next >>= put_front (run ++ character ∷ []))
+      → characters_at bytes ≡ (characters_at next >>= put_prefix (run ++ character ∷ []))
   run_and_escape inner next character e f g =
-      read_on ∙ ap (λ (r : Result (List Character × List ℕ) Fault). r >>= put_front run) (escape_read after inner e (expect_past 92 after inner f) ∙ ap escaped_by g)
-      ∙ front_more run (character ∷ []) (characters_at next)
+      read_on ∙ ap (λ (r : Result (List Character × List ℕ) Fault). r >>= put_prefix run) (escape_read after inner e (expect_past 92 after inner f) ∙ ap escaped_by g)
+      ∙ prefix_more run (character ∷ []) (characters_at next)
 
-  pub run_and_end : (end : List ℕ) → past 34 after ≡ Some end → characters_at bytes ≡ (Ok ([], end) >>= put_front run)
-  run_and_end end e = read_on ∙ ap (λ (r : Result (List Character × List ℕ) Fault). r >>= put_front run) (end_read after end e)
+  pub run_and_end : (end : List ℕ) → past 34 after ≡ Some end → characters_at bytes ≡ (Ok ([], end) >>= put_prefix run)
+  run_and_end end e = read_on ∙ ap (λ (r : Result (List Character × List ℕ) Fault). r >>= put_prefix run) (end_read after end e)
 
   pub run_shorter : (inner next : List ℕ) (character : Character) → expect 92 after ≡ Ok (tt, inner) → escape_at inner ≡ Ok (character, next) → length next < length bytes
   run_shorter inner next character f g = omega (arith, escape_shorter after inner next character (expect_past 92 after inner f) g, ap length is, length-drop (prefix_len is_plain bytes) bytes)
@@ -224,38 +224,38 @@ module _ (bytes after : List ℕ) (is : after ≡ drop (prefix_len is_plain byte
 
 -- Old and the text of the characters up to here are now, but for what the last code unit leaves behind.
 pub record Decoded (old now : List ℕ) (before : ℕ) (rest : List ℕ) (total : Result (List Character × List ℕ) Fault) : Type 0 where
-  pub front : List Character
-  pub text : (more : List Character) → old ++ string_text (front ++ more) ≡ now ++ text_behind before more
-  pub reached : total ≡ (characters_at rest >>= put_front front)
+  pub prefix : List Character
+  pub text : (more : List Character) → old ++ string_text (prefix ++ more) ≡ now ++ text_behind before more
+  pub reached : total ≡ (characters_at rest >>= put_prefix prefix)
 
 module _ (old now : List ℕ) (before : ℕ) (rest : List ℕ) (total : Result (List Character × List ℕ) Fault) (d : Decoded old now before rest total) where
-  pub more_decoded : (new : List ℕ) (unit : ℕ) (next : List ℕ) (read : List Character) → ((more : List Character) → now ++ text_behind before (read ++ more) ≡ new ++ text_behind unit more) → characters_at rest ≡ (characters_at next >>= put_front read) → Decoded old new unit next total
+  pub more_decoded : (new : List ℕ) (unit : ℕ) (next : List ℕ) (read : List Character) → ((more : List Character) → now ++ text_behind before (read ++ more) ≡ new ++ text_behind unit more) → characters_at rest ≡ (characters_at next >>= put_prefix read) → Decoded old new unit next total
   more_decoded new unit next read step e = record {
-    front = d.front ++ read;
-    text = λ more. ap (λ (t : List Character). old ++ string_text t) (append_assoc d.front read more) ∙ d.text (read ++ more) ∙ step more;
-    reached = d.reached ∙ ap (λ (r : Result (List Character × List ℕ) Fault). r >>= put_front d.front) e ∙ front_more d.front read (characters_at next);
+    prefix = d.prefix ++ read;
+    text = λ more. ap (λ (t : List Character). old ++ string_text t) (append_assoc d.prefix read more) ∙ d.text (read ++ more) ∙ step more;
+    reached = d.reached ∙ ap (λ (r : Result (List Character × List ℕ) Fault). r >>= put_prefix d.prefix) e ∙ prefix_more d.prefix read (characters_at next);
   }
 
-  pub all_decoded : (read : List Character) (end mid new : List ℕ) (unit : ℕ) → characters_at rest ≡ (Ok ([], end) >>= put_front read)
+  pub all_decoded : (read : List Character) (end mid new : List ℕ) (unit : ℕ) → characters_at rest ≡ (Ok ([], end) >>= put_prefix read)
       → ((more : List Character) → now ++ text_behind before (read ++ more) ≡ mid ++ text_behind unit more) → new ≡ mid ++ alone unit → mapped (λ characters. old ++ string_text characters) total ≡ Ok (new, end)
   all_decoded read end mid new unit e step f =
-      ap (mapped (λ (characters : List Character). old ++ string_text characters)) (d.reached ∙ ap (λ (r : Result (List Character × List ℕ) Fault). r >>= put_front d.front) e)
+      ap (mapped (λ (characters : List Character). old ++ string_text characters)) (d.reached ∙ ap (λ (r : Result (List Character × List ℕ) Fault). r >>= put_prefix d.prefix) e)
       ∙ ap (λ (t : List ℕ). Ok (t, end)) (d.text (read ++ []) ∙ step [] ∙ sym f)
 
   pub no_more : (fault : Fault) → characters_at rest ≡ Err fault → mapped (λ characters. old ++ string_text characters) total ≡ Err fault
-  no_more fault e = ap (mapped (λ (characters : List Character). old ++ string_text characters)) (d.reached ∙ ap (λ (r : Result (List Character × List ℕ) Fault). r >>= put_front d.front) e)
+  no_more fault e = ap (mapped (λ (characters : List Character). old ++ string_text characters)) (d.reached ∙ ap (λ (r : Result (List Character × List ℕ) Fault). r >>= put_prefix d.prefix) e)
 
 -- ---- where it stops
 
 -- a reader that stops where another does
-pub fails_too : {X Y : Type 0} (a : Result X Fault) (b : Result Y Fault) (stop : Stop) → ((fault : Fault) → a ≡ Err fault → b ≡ Err fault) → Fails stop a → Fails stop b
+pub fails_too : {X Y : Type 0} (a : Result X Fault) (b : Result Y Fault) (stop : ScanFault) → ((fault : Fault) → a ≡ Err fault → b ≡ Err fault) → Fails stop a → Fails stop b
 fails_too a b TooDeep same h = same deep h
 fails_too a b (Stuck left) same h = same (stuck left) h
 fails_too a b Memory same h = tt
 
-pub stops_at : {X Y Z : Type 0} (view : X → Y) (r : Result X Stop) (stop : Stop) (a : Result Z Fault) (b : Result Y Fault) → IsErrAnd r (λ y. y ≡ stop) → ((fault : Fault) → a ≡ Err fault → b ≡ Err fault) → Fails stop a → Gives view r b
+pub stops_at : {X Y Z : Type 0} (view : X → Y) (r : Result X ScanFault) (stop : ScanFault) (a : Result Z Fault) (b : Result Y Fault) → IsErrAnd r (λ y. y ≡ stop) → ((fault : Fault) → a ≡ Err fault → b ≡ Err fault) → Fails stop a → ReadsAs view r b
 stops_at view (Ok x) stop a b is same h = absurd is
-stops_at view (Err y) stop a b is same h = fails_too a b y same (subst (λ (z : Stop). Fails z a) (sym is) h)
+stops_at view (Err y) stop a b is same h = fails_too a b y same (subst (λ (z : ScanFault). Fails z a) (sym is) h)
 
 -- a run and an escape behind it
 pub two_steps : (now mid new : List ℕ) (before unit next : ℕ) (run : List Character) (character : Character)

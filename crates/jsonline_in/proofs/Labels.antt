@@ -2,10 +2,10 @@
 use Rattle.std.proofs.Common.{◌≡◌, ℕ, List, [], ◌∷◌, ◌++◌, Ok, Err, refl, sym, ap, ◌∙◌, append_assoc}
 use Rattle.log_model.specs.Token.{Character, string_source, Scalar, scalar_source}
 use Rattle.log_model.specs.Value.{Label, named, label_tokens}
-use Rattle.jsonline_in.specs.Reading.{after_space, Fault, expect, characters_at, name_at, bare_at, front_of}
+use Rattle.jsonline_in.specs.Reading.{after_space, Fault, expect, characters_at, name_at, bare_at, prefix_of}
 use Rattle.jsonline_in.specs.Clauses.{mapped, compact}
 use Rattle.jsonline_in.proofs.Good.{reads_of}
-use Rattle.jsonline_in.proofs.Numbers.{front_is}
+use Rattle.jsonline_in.proofs.Numbers.{prefix_is}
 use Rattle.jsonline_in.proofs.Decoding.{done}
 use Rattle.jsonline_in.proofs.Copies.{mapped_ok}
 use Rattle.jsonline_in.proofs.Values.{IsBare, good_bare}
@@ -43,15 +43,15 @@ label_copied old y z name e f = e ∙ ap (λ (t : List ℕ). t ++ 58 ∷ []) f �
 -- ---- what has no quotation marks
 
 module _ {B : Type 0} (made : Scalar → B) (bytes rest : List ℕ) (y : B) (e : mapped made (bare_at bytes) ≡ Ok (y, rest)) where
-  pub bare_front : (taken : List ℕ) × (bytes ≡ taken ++ rest)
-  bare_front =
+  pub bare_prefix : (taken : List ℕ) × (bytes ≡ taken ++ rest)
+  bare_prefix =
       let m = mapped_ok made (bare_at bytes) y rest e in
       let r = reads_of (λ reach. IsBare) bare_at good_bare bytes m.0 rest m.1 in
       (r.text, r.parts)
 
-  pub bare_copied : (old new : List ℕ) → new ≡ old ++ front_of bytes rest → mapped (λ token. old ++ scalar_source token) (bare_at bytes) ≡ Ok (new, rest)
+  pub bare_copied : (old new : List ℕ) → new ≡ old ++ prefix_of bytes rest → mapped (λ token. old ++ scalar_source token) (bare_at bytes) ≡ Ok (new, rest)
   bare_copied old new f =
       let m = mapped_ok made (bare_at bytes) y rest e in
       let r = reads_of (λ reach. IsBare) bare_at good_bare bytes m.0 rest m.1 in
-      let front : front_of bytes rest ≡ scalar_source m.0 = ap (λ (t : List ℕ). front_of t rest) r.parts ∙ front_is r.text rest ∙ r.inside.spelled in
-      ap (mapped (λ (token : Scalar). old ++ scalar_source token)) m.1 ∙ ap (λ (t : List ℕ). Ok (t, rest)) (ap (λ (t : List ℕ). old ++ t) (sym front) ∙ sym f)
+      let prefix : prefix_of bytes rest ≡ scalar_source m.0 = ap (λ (t : List ℕ). prefix_of t rest) r.parts ∙ prefix_is r.text rest ∙ r.inside.spelled in
+      ap (mapped (λ (token : Scalar). old ++ scalar_source token)) m.1 ∙ ap (λ (t : List ℕ). Ok (t, rest)) (ap (λ (t : List ℕ). old ++ t) (sym prefix) ∙ sym f)

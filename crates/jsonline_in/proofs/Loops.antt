@@ -14,8 +14,8 @@ abbrev pub put_all : List (Label × Value) → Items → Items
 put_all [] more = more
 put_all (x ∷ xs) more = put_item x (put_all xs more)
 
-abbrev pub put_front : List (Label × Value) → Items × List ℕ → Result (Items × List ℕ) Fault
-put_front front x = Ok (put_all front x.0, x.1)
+abbrev pub put_prefix : List (Label × Value) → Items × List ℕ → Result (Items × List ℕ) Fault
+put_prefix prefix x = Ok (put_all prefix x.0, x.1)
 
 module _ (depth : ℕ) (kind : Kind) where
   abbrev pub inner : Kind → Reader Value
@@ -36,7 +36,7 @@ module _ (depth : ℕ) (kind : Kind) where
 
   -- what a reader of one more item gives
   abbrev pub one_by : Result ((Label × Value) × List ℕ) Fault → Result (Items × List ℕ) Fault
-  one_by read = read >>= λ x. others_at inner kind x.1 >>= put_front (x.0 ∷ [])
+  one_by read = read >>= λ x. others_at inner kind x.1 >>= put_prefix (x.0 ∷ [])
 
   pub other_read : (bytes here next : List ℕ) → here ≡ after_space bytes → past 44 here ≡ Some next → others_at inner kind bytes ≡ one_by (item_of (after_space next))
   unfolding other_at
@@ -57,19 +57,19 @@ module _ (depth : ℕ) (kind : Kind) where
 
   -- ---- so far
 
-  -- What is left makes the whole, with the items in front.
+  -- What is left makes the whole, with the items in prefix.
   pub record Continued {X : Type 0} (whole left : Items → X) (rest : List ℕ) (total : Result (Items × List ℕ) Fault) : Type 0 where
-    pub front : List (Label × Value)
-    pub means : (more : Items) → whole (put_all front more) ≡ left more
-    pub reached : total ≡ (others_at inner kind rest >>= put_front front)
+    pub prefix : List (Label × Value)
+    pub means : (more : Items) → whole (put_all prefix more) ≡ left more
+    pub reached : total ≡ (others_at inner kind rest >>= put_prefix prefix)
 
   put_twice : (a b : List (Label × Value)) (more : Items) → put_all (a ++ b) more ≡ put_all a (put_all b more)
   put_twice [] b more = refl
   put_twice (x ∷ a) b more = ap (put_item x) (put_twice a b more)
 
-  front_more : (a b : List (Label × Value)) (r : Result (Items × List ℕ) Fault) → ((r >>= put_front b) >>= put_front a) ≡ (r >>= put_front (a ++ b))
-  front_more a b (Ok x) = ap (λ (t : Items). Ok (t, x.1)) (sym (put_twice a b x.0))
-  front_more a b (Err fault) = refl
+  prefix_more : (a b : List (Label × Value)) (r : Result (Items × List ℕ) Fault) → ((r >>= put_prefix b) >>= put_prefix a) ≡ (r >>= put_prefix (a ++ b))
+  prefix_more a b (Ok x) = ap (λ (t : Items). Ok (t, x.1)) (sym (put_twice a b x.0))
+  prefix_more a b (Err fault) = refl
 
   -- ---- the first item
 
@@ -92,7 +92,7 @@ module _ (depth : ℕ) (kind : Kind) where
     pub started : {X : Type 0} (whole left : Items → X) (x : Label × Value) (rest : List ℕ) → past (closing kind) here ≡ None → item_of here ≡ Ok (x, rest) → ((more : Items) → whole (put_item x more) ≡ left more) → Continued whole left rest (items_at inner kind bytes)
     unfolding first_at
     started whole left x rest e f means = record {
-      front = x ∷ [];
+      prefix = x ∷ [];
       means = means;
       reached = some_items e ∙ ap (λ (r : Result ((Label × Value) × List ℕ) Fault). r >>= λ x. others_at inner kind x.1 >>= λ more. Ok (put_item x.0 more.0, more.1)) f;
     }
@@ -100,17 +100,17 @@ module _ (depth : ℕ) (kind : Kind) where
   -- ---- the others
 
   module _ {X : Type 0} (whole left : Items → X) (rest : List ℕ) (total : Result (Items × List ℕ) Fault) (c : Continued whole left rest total) (here : List ℕ) (space : here ≡ after_space rest) where
-    reached_by : (r : Result (Items × List ℕ) Fault) → others_at inner kind rest ≡ r → total ≡ (r >>= put_front c.front)
-    reached_by r e = c.reached ∙ ap (λ (s : Result (Items × List ℕ) Fault). s >>= put_front c.front) e
+    reached_by : (r : Result (Items × List ℕ) Fault) → others_at inner kind rest ≡ r → total ≡ (r >>= put_prefix c.prefix)
+    reached_by r e = c.reached ∙ ap (λ (s : Result (Items × List ℕ) Fault). s >>= put_prefix c.prefix) e
 
     pub no_other : (next : List ℕ) (fault : Fault) → past 44 here ≡ Some next → item_of (after_space next) ≡ Err fault → total ≡ Err fault
     no_other next fault e f = reached_by (Err fault) (other_read rest here next space e ∙ ap one_by f)
 
     pub goes_on_to : (left' : Items → X) (next : List ℕ) (x : Label × Value) (after : List ℕ) → past 44 here ≡ Some next → item_of (after_space next) ≡ Ok (x, after) → ((more : Items) → left (put_item x more) ≡ left' more) → Continued whole left' after total
     goes_on_to left' next x after e f means = record {
-      front = c.front ++ x ∷ [];
-      means = λ more. ap whole (put_twice c.front (x ∷ []) more) ∙ c.means (put_item x more) ∙ means more;
-      reached = reached_by (one_by (item_of (after_space next))) (other_read rest here next space e) ∙ ap (λ (r : Result ((Label × Value) × List ℕ) Fault). one_by r >>= put_front c.front) f ∙ front_more c.front (x ∷ []) (others_at inner kind after);
+      prefix = c.prefix ++ x ∷ [];
+      means = λ more. ap whole (put_twice c.prefix (x ∷ []) more) ∙ c.means (put_item x more) ∙ means more;
+      reached = reached_by (one_by (item_of (after_space next))) (other_read rest here next space e) ∙ ap (λ (r : Result ((Label × Value) × List ℕ) Fault). one_by r >>= put_prefix c.prefix) f ∙ prefix_more c.prefix (x ∷ []) (others_at inner kind after);
     }
 
     pub not_closed : (fault : Fault) → past 44 here ≡ None → expect (closing kind) here ≡ Err fault → total ≡ Err fault

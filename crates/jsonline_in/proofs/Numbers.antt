@@ -5,7 +5,7 @@ use Rattle.std.specs.List.{list_all}
 use Rattle.std.proofs.lemmas.Bool.{and_parts, and_cases, or_cases, leb-true, eqb-true, cond-false, false_from_ne_true}
 use Rattle.std.proofs.lemmas.List.{length-append, take_at}
 use Rattle.log_model.specs.Token.{are_digits, is_whole, is_fraction, is_sign, is_signed, is_exponent, IsNumber}
-use Rattle.jsonline_in.specs.Reading.{past, Fault, deep, stuck, ◌>>=◌, gives, chosen, behind, front_of, digits_end, whole_end, fraction_end, signed_end, exponent_end, unsigned_end, number_end, number_at}
+use Rattle.jsonline_in.specs.Reading.{past, Fault, deep, stuck, ◌>>=◌, gives, chosen, behind, prefix_of, digits_end, whole_end, fraction_end, signed_end, exponent_end, unsigned_end, number_end, number_at}
 use Rattle.jsonline_in.proofs.Good.{Reach, GoodAt, Good, good_both, good_gives, good_behind, good_chosen, good_wider}
 use Rattle.jsonline_in.proofs.Steps.{good_digits_at, good_digits}
 
@@ -126,11 +126,11 @@ pub record IsNumberToken (token text : List ℕ) : Type 0 where
   pub number : IsNumber token
   pub spelled : text ≡ token
 
-pub front_is : (text rest : List ℕ) → front_of (text ++ rest) rest ≡ text
-front_is text rest = take_at text rest (length (text ++ rest) - length rest) (omega (arith, length-append text rest))
+pub prefix_is : (text rest : List ℕ) → prefix_of (text ++ rest) rest ≡ text
+prefix_is text rest = take_at text rest (length (text ++ rest) - length rest) (omega (arith, length-append text rest))
 
 abbrev token_of : List ℕ → Result (Unit {0} × List ℕ) Fault → Result (List ℕ × List ℕ) Fault
-token_of bytes result = result >>= λ end. Ok (front_of bytes end.1, end.1)
+token_of bytes result = result >>= λ end. Ok (prefix_of bytes end.1, end.1)
 
 pub good_number : Good (λ reach. IsNumberToken) number_at
 unfolding number_at
@@ -140,8 +140,8 @@ good_number bytes = by_case (number_end bytes) (good_number_end bytes)
     by_case (Ok x) h = record {
       text = h.text;
       parts = h.parts;
-      inside = let same : front_of bytes x.1 ≡ h.text = ap (λ (t : List ℕ). front_of t x.1) h.parts ∙ front_is h.text x.1 in record { number = subst IsNumber (sym same) h.inside; spelled = sym same };
-      again = λ other s. ap (token_of (h.text ++ other)) (h.again other s) ∙ ap (λ (t : List ℕ). Ok (t, other)) (front_is h.text other ∙ sym (front_is h.text x.1) ∙ ap (λ (t : List ℕ). front_of t x.1) (sym h.parts));
+      inside = let same : prefix_of bytes x.1 ≡ h.text = ap (λ (t : List ℕ). prefix_of t x.1) h.parts ∙ prefix_is h.text x.1 in record { number = subst IsNumber (sym same) h.inside; spelled = sym same };
+      again = λ other s. ap (token_of (h.text ++ other)) (h.again other s) ∙ ap (λ (t : List ℕ). Ok (t, other)) (prefix_is h.text other ∙ sym (prefix_is h.text x.1) ∙ ap (λ (t : List ℕ). prefix_of t x.1) (sym h.parts));
     }
     by_case (Err deep) h = record { text = h.text; stop = h.stop; parts = h.parts; some = h.some; x = h.text ++ h.more; more = h.more; inside = record { number = h.inside; spelled = refl }; again = λ other. ap (token_of (h.text ++ other)) (h.again other) }
     by_case (Err (stuck left)) h = record { text = h.text; stop = h.stop; parts = h.parts; left_is = h.left_is; x = h.text ++ h.more; more = h.more; inside = record { number = h.inside; spelled = refl }; again = λ other s. ap (token_of (h.text ++ other)) (h.again other s) }

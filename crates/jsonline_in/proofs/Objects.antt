@@ -6,7 +6,7 @@ use Rattle.std.proofs.lemmas.List.{length-append, append-nil, take_at, take-appe
 use Rattle.log_model.specs.Field.{Field, set_all}
 use Rattle.log_model.specs.Json.{IsSpace}
 use Rattle.log_model.specs.Value.{object, Items, nothing, item, AreItems, all_within, series, IsSpelled, IsObjectText, member_fields}
-use Rattle.log_model.specs.ObjectLine.{is_shallow, IsObjectLine, OpensObject, BeginsObject, IsTooDeep, IsLongestFront}
+use Rattle.log_model.specs.ObjectLine.{is_shallow, IsObjectLine, OpensObject, BeginsObject, IsTooDeep, IsLongestPrefix}
 use Rattle.jsonline_in.specs.Reading.{after_space, past, Fault, deep, stuck, Reader, ◌>>=◌, fails, chosen_by, behind, items_at, nested_at, end_at, text_at}
 use Rattle.jsonline_in.specs.Clauses.{mapped, Opens}
 use Rattle.jsonline_in.specs.Faults.{SaysNothing}
@@ -48,17 +48,17 @@ good_tail members = good_both (λ reach x text. IsSpace text) (λ o reach x text
 pub record IsInside (reach : Reach) (members : Items) (text : List ℕ) : Type 0 where
   pub are : AreItems object members
   pub nest : AllNest 63 reach members
-  pub front : List ℕ
+  pub prefix : List ℕ
   pub after : List ℕ
-  pub spelled : IsSpelled (series object [] members) front
+  pub spelled : IsSpelled (series object [] members) prefix
   pub space : IsSpace after
-  pub parts : text ≡ front ++ after
+  pub parts : text ≡ prefix ++ after
 
 good_text : Good IsInside text_at
 unfolding text_at
 good_text = good_both (AreItemsText 63 object []) (λ members reach x text. (x ≡ members) × IsSpace text) IsInside
     (record {
-      join = λ reach members a x b p q. subst (λ (i : Items). IsInside reach i (a ++ b)) (sym q.0) (record { are = p.are; nest = p.nest; front = a; after = b; spelled = p.spelled; space = q.1; parts = refl });
+      join = λ reach members a x b p q. subst (λ (i : Items). IsInside reach i (a ++ b)) (sym q.0) (record { are = p.are; nest = p.nest; prefix = a; after = b; spelled = p.spelled; space = q.1; parts = refl });
       widen = λ x a p. record { are = p.are; nest = tt; spelled = p.spelled };
       some = λ reach members a p. (members, [], (refl, refl));
     })
@@ -76,17 +76,17 @@ object_text : (reach : Reach) (space text : List ℕ) (members : Items) → IsSp
 object_text reach space text members is p = record {
   nest = p.nest;
   is_object = record {
-    front = space ++ 123 ∷ p.front;
+    prefix = space ++ 123 ∷ p.prefix;
     behind = p.after;
     is_object = p.are;
-    spelled = (space, p.front, is, refl, p.spelled);
+    spelled = (space, p.prefix, is, refl, p.spelled);
     space = p.space;
-    parts = ap (λ (t : List ℕ). space ++ 123 ∷ t) p.parts ∙ sym (append_assoc space (123 ∷ p.front) p.after);
+    parts = ap (λ (t : List ℕ). space ++ 123 ∷ t) p.parts ∙ sym (append_assoc space (123 ∷ p.prefix) p.after);
   };
 }
 
 empty_inside : (reach : Reach) → IsInside reach nothing (125 ∷ [])
-empty_inside reach = record { are = tt; nest = none reach; front = 125 ∷ []; after = []; spelled = ([], [], refl, refl, refl); space = refl; parts = refl }
+empty_inside reach = record { are = tt; nest = none reach; prefix = 125 ∷ []; after = []; spelled = ([], [], refl, refl, refl); space = refl; parts = refl }
   where
     none : (reach : Reach) → AllNest 63 reach nothing
     none shallow = refl
@@ -126,7 +126,7 @@ text_again members x after are p space = ap then_tail (items_again members 63 x 
 pub object_again : (text : List ℕ) (members : Items) → IsObjectText text members → object_at text ≡ fits (is_shallow members) members []
 object_again text members o =
     let p = o.spelled in
-    let start : after_space text ≡ 123 ∷ (p.1 ++ o.behind) = ap after_space o.parts ∙ here 123 [] (series object [] members) o.front o.behind p refl in
+    let start : after_space text ≡ 123 ∷ (p.1 ++ o.behind) = ap after_space o.parts ∙ here 123 [] (series object [] members) o.prefix o.behind p refl in
     ap (behind 123 text_at) start ∙ ap (chosen_by text_at fails (123 ∷ (p.1 ++ o.behind))) (past_again 123 (p.1 ++ o.behind)) ∙ text_again members p.1 o.behind o.is_object p.4 o.space
 
 -- an object is read, or it is too deep
@@ -153,26 +153,26 @@ take_more : (a b : List ℕ) (k : ℕ) → take (length a + k) (a ++ b) ≡ a ++
 take_more [] b k = ap (λ (n : ℕ). take n b) (omega arith)
 take_more (x ∷ a) b k = let more : suc (length a) + k ≡ suc (length a + k) = omega arith in ap (λ (n : ℕ). take n (x ∷ (a ++ b))) more ∙ ap (λ (t : List ℕ). x ∷ t) (take_more a b k)
 
-front_is : (front rest line : List ℕ) → line ≡ front ++ rest → front ≡ take (length front) line
-front_is front rest line e = sym (ap (λ (t : List ℕ). take (length front) t) e ∙ take_at front rest (length front) refl)
+prefix_is : (prefix rest line : List ℕ) → line ≡ prefix ++ rest → prefix ≡ take (length prefix) line
+prefix_is prefix rest line e = sym (ap (λ (t : List ℕ). take (length prefix) t) e ∙ take_at prefix rest (length prefix) refl)
 
--- a longer front goes on with the next byte
-longer_front : (text stop : List ℕ) (n : ℕ) (line : List ℕ) → line ≡ text ++ stop → length text < n → n ≤ length line → (more : List ℕ) → (other : List ℕ) × (take n line ++ more ≡ text ++ other) × SameHead stop other
-longer_front text [] n line e low high more = absurd (omega (arith, ap length e, length-append text []))
-longer_front text (byte ∷ stop) n line e low high more =
+-- a longer prefix goes on with the next byte
+longer_prefix : (text stop : List ℕ) (n : ℕ) (line : List ℕ) → line ≡ text ++ stop → length text < n → n ≤ length line → (more : List ℕ) → (other : List ℕ) × (take n line ++ more ≡ text ++ other) × SameHead stop other
+longer_prefix text [] n line e low high more = absurd (omega (arith, ap length e, length-append text []))
+longer_prefix text (byte ∷ stop) n line e low high more =
     let text' = text ++ byte ∷ [] in
     let whole : line ≡ text' ++ stop = e ∙ sym (append_assoc text (byte ∷ []) stop) in
     let k = n - length text' in
     let n_is : n ≡ length text' + k = omega (arith, length-append text (byte ∷ [])) in
-    let front : take n line ≡ text' ++ take k stop = ap (λ (t : List ℕ). take n t) whole ∙ ap (λ (i : ℕ). take i (text' ++ stop)) n_is ∙ take_more text' stop k in
-    (byte ∷ (take k stop ++ more), ap (λ (t : List ℕ). t ++ more) front ∙ append_assoc text' (take k stop) more ∙ append_assoc text (byte ∷ []) (take k stop ++ more), refl)
+    let prefix : take n line ≡ text' ++ take k stop = ap (λ (t : List ℕ). take n t) whole ∙ ap (λ (i : ℕ). take i (text' ++ stop)) n_is ∙ take_more text' stop k in
+    (byte ∷ (take k stop ++ more), ap (λ (t : List ℕ). t ++ more) prefix ∙ append_assoc text' (take k stop) more ∙ append_assoc text (byte ∷ []) (take k stop ++ more), refl)
 
--- a shallow object that goes on behind a front of only deep ones
-too_short : (text stop more : List ℕ) (members : Items) {line : List ℕ} → line ≡ text ++ stop → IsObjectHere shallow members (text ++ more) → (d : IsTooDeep line) → length d.front ≤ length text → ⊥
+-- a shallow object that goes on behind a prefix of only deep ones
+too_short : (text stop more : List ℕ) (members : Items) {line : List ℕ} → line ≡ text ++ stop → IsObjectHere shallow members (text ++ more) → (d : IsTooDeep line) → length d.prefix ≤ length text → ⊥
 too_short text stop more members {line} parts here d short =
-    let n = length d.front in
-    let front : d.front ≡ take n text = front_is d.front d.rest line d.parts ∙ ap (λ (t : List ℕ). take n t) parts ∙ take-append-le n text stop short in
-    let same : text ++ more ≡ d.front ++ (drop n text ++ more) = ap (λ (t : List ℕ). t ++ more) (sym (take-append-drop n text)) ∙ append_assoc (take n text) (drop n text) more ∙ ap (λ (t : List ℕ). t ++ (drop n text ++ more)) (sym front) in
+    let n = length d.prefix in
+    let prefix : d.prefix ≡ take n text = prefix_is d.prefix d.rest line d.parts ∙ ap (λ (t : List ℕ). take n t) parts ∙ take-append-le n text stop short in
+    let same : text ++ more ≡ d.prefix ++ (drop n text ++ more) = ap (λ (t : List ℕ). t ++ more) (sym (take-append-drop n text)) ∙ append_assoc (take n text) (drop n text) more ∙ ap (λ (t : List ℕ). t ++ (drop n text ++ more)) (sym prefix) in
     let is_deep = d.deep (drop n text ++ more) members (subst (λ (t : List ℕ). IsObjectText t members) same here.is_object) in
     let is_shallow_too = here.nest in
     absurd cc
@@ -213,7 +213,7 @@ module _ (line inside : List ℕ) (opens : past 123 (after_space line) ≡ Some 
   line_deep e =
       let g : GoodAt IsObjectHere object_at line (Err deep) = subst (GoodAt IsObjectHere object_at line) (whole_is (Err deep) e) (good_object line) in
       record {
-        front = g.text;
+        prefix = g.text;
         rest = g.stop;
         parts = g.parts;
         begins = (g.more, g.x, g.inside.is_object);
@@ -227,27 +227,27 @@ module _ (line inside : List ℕ) (opens : past 123 (after_space line) ≡ Some 
     pub left_within : left ≤ length line
     left_within = let g = stuck_at in omega (arith, ap length g.parts, length-append g.text g.stop, g.left_is)
 
-    -- no object begins with a longer front
+    -- no object begins with a longer prefix
     none_longer : (n : ℕ) → length line - left < n → n ≤ length line → BeginsObject (take n line) → ⊥
     none_longer n low high begins =
         let g = stuck_at in
         let at : length line - left ≡ length g.text = omega (arith, ap length g.parts, length-append g.text g.stop, g.left_is) in
-        let long = longer_front g.text g.stop n line g.parts (omega (arith, at)) high begins.0 in
+        let long = longer_prefix g.text g.stop n line g.parts (omega (arith, at)) high begins.0 in
         never_stuck (take n line ++ begins.0) begins.1 (length long.0) begins.2 (ap object_at long.1 ∙ g.again long.0 long.2)
 
-    pub line_stuck : IsLongestFront line (length line - left)
+    pub line_stuck : IsLongestPrefix line (length line - left)
     line_stuck =
         let g = stuck_at in
         let at : length g.text ≡ length line - left = omega (arith, ap length g.parts, length-append g.text g.stop, g.left_is) in
-        let front : g.text ≡ take (length line - left) line = sym (ap (λ (t : List ℕ). take (length line - left) t) g.parts ∙ take_at g.text g.stop (length line - left) at) in
-        record { inside = omega arith; begins = subst BeginsObject front (g.more, g.x, g.inside.is_object); longest = none_longer }
+        let prefix : g.text ≡ take (length line - left) line = sym (ap (λ (t : List ℕ). take (length line - left) t) g.parts ∙ take_at g.text g.stop (length line - left) at) in
+        record { inside = omega arith; begins = subst BeginsObject prefix (g.more, g.x, g.inside.is_object); longest = none_longer }
 
     pub not_deep : IsTooDeep line → ⊥
     not_deep d =
         let g = stuck_at in
         let at : length line - left ≡ length g.text = omega (arith, ap length g.parts, length-append g.text g.stop, g.left_is) in
-        elim (cases_lt (length g.text) (length d.front)) [
-          | inl longer ↦ none_longer (length d.front) (omega (arith, at)) (omega (arith, ap length d.parts, length-append d.front d.rest)) (subst BeginsObject (front_is d.front d.rest line d.parts) d.begins)
+        elim (cases_lt (length g.text) (length d.prefix)) [
+          | inl longer ↦ none_longer (length d.prefix) (omega (arith, at)) (omega (arith, ap length d.parts, length-append d.prefix d.rest)) (subst BeginsObject (prefix_is d.prefix d.rest line d.parts) d.begins)
           | inr shorter ↦ too_short g.text g.stop g.more g.x g.parts g.inside d (omega arith)
         ]
 

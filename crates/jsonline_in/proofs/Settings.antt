@@ -6,12 +6,12 @@ use Rattle.std.proofs.lemmas.List.{append-nil, length-append, take-append-drop, 
 use Rattle.std.proofs.lemmas.Str.{IsCharBoundary-from_take}
 use Rattle.log_model.specs.Field.{Field, set_field, set_all}
 use Rattle.log_model.specs.Token.{Character, string, string_text, Scalar, scalar_text}
-use Rattle.log_model.specs.Value.{Kind, array, object, Label, Value, scalar, nested, Items, nothing, tokens, label_text, field_name, value_fields, member_fields}
-use Rattle.jsonline_in.specs.declared.stop.Stop.{Stop}
+use Rattle.log_model.specs.Value.{Kind, array, object, Label, Value, scalar, nested, Items, nothing, tokens, member_name, field_name, value_fields, member_fields}
+use Rattle.jsonline_in.specs.declared.scan_fault.ScanFault.{ScanFault}
 use Rattle.jsonline_in.specs.Reading.{after_space, past, Fault, ◌>>=◌, expect, flat_at, label_at, items_at, value_at, nested_at, put_item}
 use Rattle.std.specs.String.Boundary.{IsSplitPoint}
 use Rattle.jsonline_in.proofs.ValueSteps.{value_flat, flat_square, quoted_mapped, bare_mapped}
-use Rattle.jsonline_in.specs.Clauses.{Fails, Gives, mapped, compact, flat_text, value_set, or_empty, or_kept}
+use Rattle.jsonline_in.specs.Clauses.{Fails, ReadsAs, mapped, compact, flat_text, value_set, or_empty, or_kept}
 use Rattle.jsonline_in.proofs.Copies.{mapped_ok}
 use Rattle.jsonline_in.proofs.Decoding.{fails_too}
 use Rattle.jsonline_in.proofs.Loops.{Continued, closed, not_closed}
@@ -29,9 +29,9 @@ still : {S : Type 0} (piece : Option S) (old new : List ℕ) → old ≡ [] → 
 still None old new e k = tt
 still (Some text) old new e k = k ∙ e
 
-pub string_flat : {S R : Type 0} (now : S → List ℕ) (left : R → List ℕ) (r : Result (Option S × R) Stop) (old new : List ℕ) (a : Result (List Character × List ℕ) Fault) → old ≡ []
-    → Gives (λ x. (new ++ or_empty (option_map now x.0), left x.1)) r (mapped (λ characters. old ++ string_text characters) a) → IfOk r (λ x. IfSome x.0 (λ _. new ≡ old))
-    → Gives (λ x. (or_kept (option_map now x.0) new, left x.1)) r (mapped string_text a)
+pub string_flat : {S R : Type 0} (now : S → List ℕ) (left : R → List ℕ) (r : Result (Option S × R) ScanFault) (old new : List ℕ) (a : Result (List Character × List ℕ) Fault) → old ≡ []
+    → ReadsAs (λ x. (new ++ or_empty (option_map now x.0), left x.1)) r (mapped (λ characters. old ++ string_text characters) a) → IfOk r (λ x. IfSome x.0 (λ _. new ≡ old))
+    → ReadsAs (λ x. (or_kept (option_map now x.0) new, left x.1)) r (mapped string_text a)
 string_flat now left (Ok x) old new a e g kept = sym (empty_before a old e) ∙ g ∙ ap (λ (t : List ℕ). Ok (t, left x.1)) (kept_text now x.0 new (still x.0 old new e kept))
 string_flat now left (Err stop) old new a e g kept = subst (Fails stop) (empty_before a old e) g
 
@@ -99,12 +99,12 @@ value_is_listed old name depth text rest value new none e f =
 
 -- ---- names
 
--- the name that was there stays in front
-pub prefix_kept : {S : Type 0} (now : S → List ℕ) (old mid text rest : List ℕ) (piece : Option S) → IfSome piece (λ _. mid ≡ old) → mapped (λ label. old ++ label_text label) (label_at object text) ≡ Ok (mid ++ or_empty (option_map now piece), rest)
+-- the name that was there stays in prefix
+pub prefix_kept : {S : Type 0} (now : S → List ℕ) (old mid text rest : List ℕ) (piece : Option S) → IfSome piece (λ _. mid ≡ old) → mapped (λ label. old ++ member_name label) (label_at object text) ≡ Ok (mid ++ or_empty (option_map now piece), rest)
     → (tail : List ℕ) × (mid ≡ old ++ tail)
 prefix_kept now old mid text rest None kept e =
-    let m = mapped_ok (λ (label : Label). old ++ label_text label) (label_at object text) (mid ++ []) rest e in
-    (label_text m.0, sym (append-nil mid) ∙ m.2)
+    let m = mapped_ok (λ (label : Label). old ++ member_name label) (label_at object text) (mid ++ []) rest e in
+    (member_name m.0, sym (append-nil mid) ∙ m.2)
 prefix_kept now old mid text rest (Some name) kept e = ([], kept ∙ sym (append-nil old))
 
 pub cut_back : (old mid new tail : List ℕ) → mid ≡ old ++ tail → take (length mid) new ≡ mid → take (length old) new ≡ old
@@ -127,11 +127,11 @@ all_of_two : (old a b : List Field) → set_all old (a ++ b) ≡ set_all (set_al
 all_of_two old [] b = refl
 all_of_two old (x ∷ a) b = all_of_two (set_field old x.0 x.1) a b
 
-pub member_set : (old now : List Field) (names : List ℕ) (x : Label × Value) (more : Items) → now ≡ set_all old (value_fields (names ++ label_text x.0) x.1) → set_all old (member_fields names (put_item x more)) ≡ set_all now (member_fields names more)
-member_set old now names x more e = all_of_two old (value_fields (names ++ label_text x.0) x.1) (member_fields names more) ∙ ap (λ (fields : List Field). set_all fields (member_fields names more)) (sym e)
+pub member_set : (old now : List Field) (names : List ℕ) (x : Label × Value) (more : Items) → now ≡ set_all old (value_fields (names ++ member_name x.0) x.1) → set_all old (member_fields names (put_item x more)) ≡ set_all now (member_fields names more)
+member_set old now names x more e = all_of_two old (value_fields (names ++ member_name x.0) x.1) (member_fields names more) ∙ ap (λ (fields : List Field). set_all fields (member_fields names more)) (sym e)
 
-pub member_listed : (old now : List Field) (before : List ℕ) (x : Label × Value) (more : Items) → now ≡ old ++ value_fields (before ++ label_text x.0) x.1 → old ++ member_fields before (put_item x more) ≡ now ++ member_fields before more
-member_listed old now before x more e = sym (append_assoc old (value_fields (before ++ label_text x.0) x.1) (member_fields before more)) ∙ ap (λ (fields : List Field). fields ++ member_fields before more) (sym e)
+pub member_listed : (old now : List Field) (before : List ℕ) (x : Label × Value) (more : Items) → now ≡ old ++ value_fields (before ++ member_name x.0) x.1 → old ++ member_fields before (put_item x more) ≡ now ++ member_fields before more
+member_listed old now before x more e = sym (append_assoc old (value_fields (before ++ member_name x.0) x.1) (member_fields before more)) ∙ ap (λ (fields : List Field). fields ++ member_fields before more) (sym e)
 
 -- all fields that were listed are set
 pub listed_set : (r : Result (Items × List ℕ) Fault) (old now listed items : List Field) (rest : List ℕ) (i : ℕ) → mapped (member_fields []) r ≡ Ok (listed, rest) → items ≡ listed → length items ≤ i → now ≡ set_all old (take i items)
@@ -156,8 +156,8 @@ pub on_ok : {A E : Type 0} (r : Result A E) (P : Type 0) → P → OnOk r P
 on_ok (Ok x) P p = p
 on_ok (Err e) P p = tt
 
-pub closed_by : {S : Type 0} (view : S → List ℕ) (r : Result S Stop) (depth : ℕ) (whole left : Items → List Field) (rest : List ℕ) (total : Result (Items × List ℕ) Fault) → Continued depth object whole left rest total
-    → (here : List ℕ) (now : List Field) → here ≡ after_space rest → past 44 here ≡ None → now ≡ left nothing → Gives (λ x. (tt, view x)) r (expect 125 here) → Gives (λ x. (now, view x)) r (mapped whole total)
+pub closed_by : {S : Type 0} (view : S → List ℕ) (r : Result S ScanFault) (depth : ℕ) (whole left : Items → List Field) (rest : List ℕ) (total : Result (Items × List ℕ) Fault) → Continued depth object whole left rest total
+    → (here : List ℕ) (now : List Field) → here ≡ after_space rest → past 44 here ≡ None → now ≡ left nothing → ReadsAs (λ x. (tt, view x)) r (expect 125 here) → ReadsAs (λ x. (now, view x)) r (mapped whole total)
 closed_by view (Ok x) depth whole left rest total c here now space none last g = closed depth object whole left rest total c here space (view x) now none g last
 closed_by view (Err stop) depth whole left rest total c here now space none last g =
     fails_too (expect 125 here) (mapped whole total) stop (λ fault h. ap (mapped whole) (not_closed depth object whole left rest total c here space fault none h)) g

@@ -44,9 +44,9 @@ pub record IsSecond (a : ℕ) (character : Character) (text : List ℕ) : Type 0
   pub spelled : text ≡ b ∷ tail
 
 -- the character, behind these bytes of its own
-pub record IsBehind (front : List ℕ) (character : Character) (text : List ℕ) : Type 0 where
+pub record IsBehind (prefix : List ℕ) (character : Character) (text : List ℕ) : Type 0 where
   pub is : is_character character ≡ true
-  pub spelled : front ++ text ≡ source character
+  pub spelled : prefix ++ text ≡ source character
 
 cons_of : (test : ℕ → Bool) (x : ℕ) (a b : List ℕ) → IsOne test x a → a ++ b ≡ x ∷ b
 cons_of test x a b p = ap (λ (t : List ℕ). t ++ b) p.spelled

@@ -3,12 +3,12 @@ use Rattle.std.proofs.Common.{◌≡◌, ℕ, zero, suc, ◌-◌, List, [], ◌�
 use Rattle.std.proofs.lemmas.List.{append-nil}
 use Rattle.log_model.specs.Token.{Character, string, Scalar}
 use Rattle.log_model.specs.Value.{Kind, array, object, opening, closing, Label, Value, scalar, nested, Items, tokens, series, label_tokens}
-use Rattle.jsonline_in.specs.declared.stop.Stop.{Stop}
+use Rattle.jsonline_in.specs.declared.scan_fault.ScanFault.{ScanFault}
 use Rattle.jsonline_in.specs.Reading.{past, Fault, deep, Reader, ◌>>=◌, chosen_by, made_by, bare_at, characters_at, value_of_string, flat_at, value_at, label_at, item_at, items_at, nested_at}
-use Rattle.jsonline_in.specs.Clauses.{Gives, mapped, compact}
+use Rattle.jsonline_in.specs.Clauses.{ReadsAs, mapped, compact}
 
-pub gives_same : {X Y : Type 0} (view : X → Y) (r : Result X Stop) (a b : Result Y Fault) → a ≡ b → Gives view r b → Gives view r a
-gives_same view r a b e g = subst (Gives view r) (sym e) g
+pub gives_same : {X Y : Type 0} (view : X → Y) (r : Result X ScanFault) (a b : Result Y Fault) → a ≡ b → ReadsAs view r b → ReadsAs view r a
+gives_same view r a b e g = subst (ReadsAs view r) (sym e) g
 
 pub mapped_same : {A B : Type 0} (f g : A → B) → ((x : A) → f x ≡ g x) → (r : Result (A × List ℕ) Fault) → mapped f r ≡ mapped g r
 mapped_same f g same (Ok x) = ap (λ y. Ok (y, x.1)) (same x.0)

@@ -3,7 +3,7 @@ use Rattle.std.proofs.Common.{◌≡◌, ℕ, zero, suc, ◌<◌, true, List, []
 use Rattle.std.proofs.lemmas.Bool.{and_from}
 use Rattle.std.proofs.lemmas.List.{length-append, append-nil}
 use Rattle.log_model.specs.Json.{IsSpace}
-use Rattle.log_model.specs.Token.{Character, are_characters, string_source, Scalar, string, number, Literal, literal, truth, falsehood, null, IsScalar, scalar_source, literal_source}
+use Rattle.log_model.specs.Token.{Character, are_characters, string_source, Scalar, string, number, Literal, literal, truth, falsehood, null, IsScalarToken, scalar_source, literal_source}
 use Rattle.log_model.specs.Value.{Kind, array, object, Label, unnamed, named, Value, scalar, nested, Items, nothing, item, suits, IsValue, AreItems, nests_within, all_within, opening, closing, label_tokens, tokens, series, IsSpelled}
 use Rattle.jsonline_in.specs.Reading.{after_space, past, Reader, ◌>>=◌, gives, fails, chosen, chosen_by, behind, expect, word_end, number_at, literal_of, made_by, bare_at, characters_at, value_of_string, flat_at, value_at, name_at, label_at, item_at, some_of, other_at, put_item, others_at, first_at, items_at, nested_at}
 use Rattle.jsonline_in.proofs.Good.{Reach, shallow, any, GoodAt, Good, reads_of, good_both, good_gives, good_made, good_behind, good_chosen, past_takes, past_again, past_none}
@@ -15,7 +15,7 @@ use Rattle.jsonline_in.proofs.Turns.{Shrinks, good_turns}
 -- ---- scalars without quotation marks
 
 pub record IsBare (token : Scalar) (text : List ℕ) : Type 0 where
-  pub is : IsScalar token
+  pub is : IsScalarToken token
   pub spelled : text ≡ scalar_source token
 
 good_literal : (first : ℕ) (word : List ℕ) (which : Literal) → literal_source which ≡ first ∷ word → Good (λ reach. IsBare) (behind first (literal_of which (word_end word)))
@@ -180,7 +180,7 @@ nests_scalar : (depth : ℕ) (reach : Reach) (token : Scalar) → Nests depth re
 nests_scalar depth shallow token = refl
 nests_scalar depth any token = tt
 
-scalar_text_of : (depth : ℕ) (reach : Reach) (token : Scalar) (text : List ℕ) → IsScalar token → text ≡ scalar_source token → IsValueText depth reach (scalar token) text
+scalar_text_of : (depth : ℕ) (reach : Reach) (token : Scalar) (text : List ℕ) → IsScalarToken token → text ≡ scalar_source token → IsValueText depth reach (scalar token) text
 scalar_text_of depth reach token text is e = record {
   is = is;
   nests = nests_scalar depth reach token;
@@ -241,7 +241,7 @@ module _ (depth : ℕ) (inner : Kind → Reader Value) (solid : Solid depth inne
   IsOther kind reach None text = IsSpelled ((closing kind ∷ []) ∷ []) text
   IsOther kind reach (Some x) text = (suits kind x.0 ≡ true) × IsValue x.1 × Nests depth reach x.1 × IsSpelled ((44 ∷ []) ∷ (label_tokens x.0 ++ tokens x.1)) text
 
-  -- the same with no white space in front
+  -- the same with no white space in prefix
   abbrev IsOtherHere : Kind → Reach → Option (Label × Value) → List ℕ → Type 0
   IsOtherHere kind reach None text = text ≡ closing kind ∷ []
   IsOtherHere kind reach (Some x) text = (suits kind x.0 ≡ true) × IsValue x.1 × Nests depth reach x.1 × Spaced ((44 ∷ []) ∷ (label_tokens x.0 ++ tokens x.1)) text
@@ -327,7 +327,7 @@ module _ (depth : ℕ) (inner : Kind → Reader Value) (solid : Solid depth inne
       widen None a p = p
       widen (Some x) a p = (p.0, p.1, tt, p.3)
 
-  -- items with no white space in front
+  -- items with no white space in prefix
   pub record AreItemsHere (kind : Kind) (reach : Reach) (items : Items) (text : List ℕ) : Type 0 where
     pub are : AreItems kind items
     pub nest : AllNest depth reach items

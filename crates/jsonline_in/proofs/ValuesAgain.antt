@@ -3,7 +3,7 @@ use Rattle.std.proofs.Common.{◌≡◌, ℕ, zero, suc, Bool, true, false, cond
 use Rattle.std.specs.Prelude.{flat_map}
 use Rattle.std.proofs.lemmas.Bool.{and_cases, or_cases, leb-true, eqb-true, false_from_ne_true}
 use Rattle.log_model.specs.Json.{is_space, IsSpace}
-use Rattle.log_model.specs.Token.{Character, are_characters, source, Scalar, string, number, literal, Literal, truth, falsehood, null, IsScalar, scalar_source}
+use Rattle.log_model.specs.Token.{Character, are_characters, source, Scalar, string, number, literal, Literal, truth, falsehood, null, IsScalarToken, scalar_source}
 use Rattle.log_model.specs.Value.{Kind, array, object, Label, unnamed, named, Value, scalar, nested, Items, nothing, item, suits, IsValue, AreItems, nests_within, all_within, opening, closing, label_tokens, tokens, series, IsSpelled}
 use Rattle.jsonline_in.specs.Reading.{after_space, past, Fault, deep, Reader, ◌>>=◌, expect, bare_at, value_of_string, flat_at, value_at, name_at, item_at, put_item, others_at, first_at, items_at, nested_at}
 use Rattle.jsonline_in.proofs.Steps.{space_again, space_ends}
@@ -11,7 +11,7 @@ use Rattle.jsonline_in.proofs.Good.{past_again}
 use Rattle.jsonline_in.proofs.Decoding.{done}
 use Rattle.jsonline_in.proofs.ValueSteps.{value_flat, flat_bare}
 use Rattle.jsonline_in.proofs.Again.{past_other, characters_again, Calm, is_numeric, expects, begins_number, number_begins, not_number, number_bare, literal_bare}
-use Rattle.jsonline_in.proofs.Loops.{some_items, no_items, other_read, end_read, one_by, put_front}
+use Rattle.jsonline_in.proofs.Loops.{some_items, no_items, other_read, end_read, one_by, put_prefix}
 
 -- what reading gives of a value that nests no deeper than is read, and of another
 abbrev pub fits : {A : Type 0} → Bool → A → List ℕ → Result (A × List ℕ) Fault
@@ -75,7 +75,7 @@ calm_series kind (item label value more) x rest p = calm_token 44 [] (label_toke
 number_solid : (byte : ℕ) → begins_number byte ≡ true → is_space byte ≡ false
 number_solid byte e = false_from_ne_true (is_space byte) (λ (s : is_space byte ≡ true). grind (arith, and_cases, or_cases, leb-true, eqb-true))
 
--- a token alone, with white space in front
+-- a token alone, with white space in prefix
 alone : (byte : ℕ) (token x rest : List ℕ) → IsSpelled ((byte ∷ token) ∷ []) x → is_space byte ≡ false → after_space (x ++ rest) ≡ byte ∷ (token ++ rest)
 alone byte token x rest p solid = here byte token [] x rest p solid ∙ ap (λ (t : List ℕ). byte ∷ (token ++ (t ++ rest))) p.4
 
@@ -110,7 +110,7 @@ module _ (inner : Kind → Reader Value) where
   bare_value : (text rest : List ℕ) (token : Scalar) → past 123 text ≡ None → past 34 text ≡ None → past 91 text ≡ None → bare_at text ≡ Ok (token, rest) → value_at inner text ≡ Ok (scalar token, rest)
   bare_value text rest token a b c e = value_flat inner text a ∙ flat_bare inner text b c ∙ ap as_scalar e
 
-  scalar_again : (token : Scalar) (x rest : List ℕ) → IsScalar token → IsSpelled (scalar_source token ∷ []) x → Calm rest → value_at inner (after_space (x ++ rest)) ≡ Ok (scalar token, rest)
+  scalar_again : (token : Scalar) (x rest : List ℕ) → IsScalarToken token → IsSpelled (scalar_source token ∷ []) x → Calm rest → value_at inner (after_space (x ++ rest)) ≡ Ok (scalar token, rest)
   unfolding value_at flat_at
   scalar_again (string name) x rest is p calm =
       ap (value_at inner) (alone 34 (flat_map source name ++ 34 ∷ []) x rest p refl)
@@ -179,10 +179,10 @@ module _ (n : ℕ) (kind : Kind) (label : Label) (value : Value) (more : Items) 
   abbrev tail : List (List ℕ)
   tail = series kind ((44 ∷ []) ∷ []) more
 
-  -- the item at the front, and where the others begin
-  front_item : (x : List ℕ) → IsSpelled (label_tokens label ++ (tokens value ++ tail)) x
+  -- the item at the start, and where the others begin
+  prefix_item : (x : List ℕ) → IsSpelled (label_tokens label ++ (tokens value ++ tail)) x
       → (z : List ℕ) × IsSpelled tail z × (item_at (nested_at n) kind (after_space (x ++ rest)) ≡ fits (nests_within n value) (label, value) (z ++ rest))
-  front_item x p =
+  prefix_item x p =
       let q : IsSpelled ((label_tokens label ++ tokens value) ++ tail) x = subst (λ (ts : List (List ℕ)). IsSpelled ts x) (sym (append_assoc (label_tokens label) (tokens value) tail)) p in
       let parts = spelled_split (label_tokens label ++ tokens value) tail x q in
       let calm = calm_series kind more parts.1 rest parts.3 in (
@@ -195,7 +195,7 @@ module _ (n : ℕ) (kind : Kind) (label : Label) (value : Value) (more : Items) 
   pub first_again : (x : List ℕ) → IsSpelled (series kind [] (item label value more)) x → items_at (nested_at n) kind (x ++ rest) ≡ fits (nests_within n value && all_within n more) (item label value more) rest
   unfolding first_at
   first_again x p =
-      let f = front_item x p in
+      let f = prefix_item x p in
       some_items n kind (x ++ rest) (after_space (x ++ rest)) refl (item_begins kind label value tail x rest s is p)
       ∙ ap (λ (r : Result ((Label × Value) × List ℕ) Fault). r >>= λ y. others_at (nested_at n) kind y.1 >>= λ more. Ok (put_item y.0 more.0, more.1)) f.2
       ∙ both_fit (λ y. others_at (nested_at n) kind y.1 >>= λ more. Ok (put_item y.0 more.0, more.1)) (nests_within n value) (all_within n more) (label, value) (f.0 ++ rest) (item label value more) rest
@@ -204,10 +204,10 @@ module _ (n : ℕ) (kind : Kind) (label : Label) (value : Value) (more : Items) 
   pub other_again : (x : List ℕ) → IsSpelled (series kind ((44 ∷ []) ∷ []) (item label value more)) x → others_at (nested_at n) kind (x ++ rest) ≡ fits (nests_within n value && all_within n more) (item label value more) rest
   other_again x p =
       let start = here 44 [] (label_tokens label ++ (tokens value ++ tail)) x rest p refl in
-      let f = front_item p.1 p.4 in
+      let f = prefix_item p.1 p.4 in
       other_read n kind (x ++ rest) (after_space (x ++ rest)) (p.1 ++ rest) refl (ap (past 44) start ∙ past_again 44 (p.1 ++ rest)) ∙ ap (one_by n kind) f.2
-      ∙ both_fit (λ y. others_at (nested_at n) kind y.1 >>= put_front (y.0 ∷ [])) (nests_within n value) (all_within n more) (label, value) (f.0 ++ rest) (item label value more) rest
-      (ap (λ (r : Result (Items × List ℕ) Fault). r >>= put_front ((label, value) ∷ [])) (others f.0 f.1) ∙ made_fits (put_item (label, value)) (all_within n more) more rest)
+      ∙ both_fit (λ y. others_at (nested_at n) kind y.1 >>= put_prefix (y.0 ∷ [])) (nests_within n value) (all_within n more) (label, value) (f.0 ++ rest) (item label value more) rest
+      (ap (λ (r : Result (Items × List ℕ) Fault). r >>= put_prefix ((label, value) ∷ [])) (others f.0 f.1) ∙ made_fits (put_item (label, value)) (all_within n more) more rest)
 
 -- ---- values, and the items behind the first
 

@@ -4,23 +4,23 @@ use Rattle.log_model.specs.Token.{Character, short, unicode, scalar_text}
 use Rattle.log_model.specs.Field.{Field, set_all}
 use Rattle.log_model.specs.Value.{Kind, array, object, Value, scalar, nested, tokens, value_fields}
 use Rattle.jsonline_in.specs.Reading.{Fault, deep, stuck, ◌>>=◌, after_space, past, text_at}
-use Rattle.jsonline_in.specs.declared.stop.Stop.{Stop}
-use Rattle.jsonline_in.specs.declared.stop.Stop.TheVariants.{TooDeep, Stuck, Memory}
+use Rattle.jsonline_in.specs.declared.scan_fault.ScanFault.{ScanFault}
+use Rattle.jsonline_in.specs.declared.scan_fault.ScanFault.TheVariants.{TooDeep, Stuck, Memory}
 use Rattle.jsonline_in.specs.declared.escape.Escape.{Escape}
 use Rattle.jsonline_in.specs.declared.escape.Escape.TheVariants as escapes
 use Rattle.jsonline_in.specs.declared.copy.Bracket.{Bracket}
 use Rattle.jsonline_in.specs.declared.copy.Bracket.TheVariants as brackets
 
 -- why a scanner stopped, and why reading does
-abbrev pub Fails : {Y : Type 0} → Stop → Result Y Fault → Type 0
+abbrev pub Fails : {Y : Type 0} → ScanFault → Result Y Fault → Type 0
 Fails TooDeep read = read ≡ Err deep
 Fails (Stuck left) read = read ≡ Err (stuck left)
 Fails Memory read = Unit {0}
 
 -- What was returned, seen by view, is what reading gives, unless memory ran out.
-abbrev pub Gives : {X Y : Type 0} → (X → Y) → Result X Stop → Result Y Fault → Type 0
-Gives view (Ok x) read = read ≡ Ok (view x)
-Gives view (Err stop) read = Fails stop read
+abbrev pub ReadsAs : {X Y : Type 0} → (X → Y) → Result X ScanFault → Result Y Fault → Type 0
+ReadsAs view (Ok x) read = read ≡ Ok (view x)
+ReadsAs view (Err stop) read = Fails stop read
 
 -- what becomes of the value that was read
 abbrev pub mapped : {A B : Type 0} → (A → B) → Result (A × List ℕ) Fault → Result (B × List ℕ) Fault
@@ -32,7 +32,7 @@ pub record Opens (line inside : List ℕ) : Type 0 where
   pub brace : past 123 (after_space line) ≡ Some inside
 
 -- Reading stops so behind the opening brace.
-pub record StopsIn (stop : Stop) (line : List ℕ) : Type 0 where
+pub record StopsIn (stop : ScanFault) (line : List ℕ) : Type 0 where
   pub inside : List ℕ
   pub opens : Opens line inside
   pub fails : Fails stop (text_at inside)

@@ -2,7 +2,7 @@
 use Rattle.std.specs.Prelude.{◌≡◌, ℕ, List, ◌++◌, codes, decimal, IsUtf8}
 use Rattle.std.specs.Str.Lossy.{utf8_valid_len}
 use Rattle.log_model.specs.Field.{Field}
-use Rattle.log_model.specs.ObjectLine.{IsObjectLine, OpensObject, IsTooDeep, IsLongestFront}
+use Rattle.log_model.specs.ObjectLine.{IsObjectLine, OpensObject, IsTooDeep, IsLongestPrefix}
 use Rattle.jsonline_in.specs.declared.fault.JsonFault.{JsonFault}
 use Rattle.jsonline_in.specs.declared.fault.JsonFault.TheVariants.{NotUtf8, NotObject, TooDeep, NotJson, Memory}
 
@@ -17,14 +17,14 @@ Refuses TooDeep line = SaysNothing line
 Refuses (NotJson at) line = SaysNothing line
 Refuses Memory line = Unit {0}
 
--- Each fault comes where none before it does: the line is not UTF-8 behind its longest front that is; it opens no
+-- Each fault comes where none before it does: the line is not UTF-8 behind its longest prefix that is; it opens no
 -- object; objects begin as it does, up to some place, but each is too deep; or it is no object, and none begins with
 -- more of it.
 abbrev pub IsFault : JsonFault → List ℕ → Type 0
 IsFault (NotUtf8 at) line = (IsUtf8 line → ⊥) × (at ≡ utf8_valid_len line)
 IsFault NotObject line = IsUtf8 line × (OpensObject line → ⊥)
 IsFault TooDeep line = IsUtf8 line × OpensObject line × IsTooDeep line
-IsFault (NotJson at) line = IsUtf8 line × OpensObject line × (IsTooDeep line → ⊥) × IsLongestFront line at
+IsFault (NotJson at) line = IsUtf8 line × OpensObject line × (IsTooDeep line → ⊥) × IsLongestPrefix line at
 IsFault Memory line = Unit {0}
 
 -- how a fault prints

@@ -1,10 +1,13 @@
 -- Reading an object of JSON from left to right. A reader gives a value and the bytes after it, or it stops.
-use Rattle.std.specs.Prelude.{ℕ, zero, suc, Bool, not, List, [], ◌∷◌, length, take, drop, Option, Some, None, Result, Ok, Err, ◌==◌, ◌-◌, if◌then◌else◌}
+use Rattle.std.specs.Prelude.{ℕ, zero, suc, Bool, not, List, [], ◌∷◌, length, take, drop, Option, Some, None, Result}
+use Rattle.std.specs.Prelude.{Ok, Err, ◌==◌, ◌-◌, if◌then◌else◌}
 use Rattle.std.specs.List.{prefix_len}
 use Rattle.std.specs.Char.{is_ascii_digit, is_ascii_hexdigit}
 use Rattle.log_model.specs.Json.{is_space, is_plain}
-use Rattle.log_model.specs.Token.{Character, plain, short, unicode, is_short, Scalar, string, number, Literal, literal, truth, falsehood, null}
-use Rattle.log_model.specs.Value.{Kind, array, object, closing, Label, unnamed, named, Value, scalar, nested, Items, nothing, item}
+use Rattle.log_model.specs.Token.{Character, plain, short, unicode, is_short, Scalar, string, number, Literal}
+use Rattle.log_model.specs.Token.{literal, truth, falsehood, null}
+use Rattle.log_model.specs.Value.{Kind, array, object, closing, Label, unnamed, named, Value, scalar, nested, Items}
+use Rattle.log_model.specs.Value.{nothing, item}
 
 -- The 65th bracket would be open, or no object goes on so: then so many bytes are left.
 pub data Fault : Type 0 where
@@ -28,7 +31,7 @@ is_stop byte = not (is_plain byte)
 unfoldable pub after_space : List ℕ → List ℕ
 after_space bytes = drop (prefix_len is_space bytes) bytes
 
--- what follows the byte, if it stands at the front
+-- what follows the byte, if it stands at the start
 abbrev pub past : ℕ → List ℕ → Option (List ℕ)
 past byte [] = None
 past byte (first ∷ rest) = if first == byte then Some rest else None
@@ -113,7 +116,9 @@ characters_at bytes = turns put_character [] character_at (suc (length bytes)) b
 -- ---- numbers and literals
 
 unfoldable pub digits_end : Reader (Unit {0})
-digits_end bytes = if prefix_len is_ascii_digit bytes == 0 then Err (stuck (length bytes)) else Ok (tt, drop (prefix_len is_ascii_digit bytes) bytes)
+digits_end bytes =
+    if prefix_len is_ascii_digit bytes == 0 then Err (stuck (length bytes))
+    else Ok (tt, drop (prefix_len is_ascii_digit bytes) bytes)
 
 unfoldable pub whole_end : Reader (Unit {0})
 whole_end = chosen 48 (gives tt) digits_end
@@ -136,13 +141,13 @@ unsigned_end bytes = do
 unfoldable pub number_end : Reader (Unit {0})
 number_end = chosen 45 unsigned_end unsigned_end
 
-abbrev pub front_of : List ℕ → List ℕ → List ℕ
-front_of bytes rest = take (length bytes - length rest) bytes
+abbrev pub prefix_of : List ℕ → List ℕ → List ℕ
+prefix_of bytes rest = take (length bytes - length rest) bytes
 
 unfoldable pub number_at : Reader (List ℕ)
 number_at bytes = do
   end ← number_end bytes
-  Ok (front_of bytes end.1, end.1)
+  Ok (prefix_of bytes end.1, end.1)
 
 abbrev pub word_end : List ℕ → Reader (Unit {0})
 word_end [] bytes = Ok (tt, bytes)
@@ -193,7 +198,9 @@ item_at inner kind bytes = do
 
 -- behind an item: one more behind a comma, or none where the bracket closes
 unfoldable pub other_at : (Kind → Reader Value) → Kind → Reader (Option (Label × Value))
-other_at inner kind bytes = chosen 44 (λ rest. some_of (item_at inner kind) (after_space rest)) (behind (closing kind) (gives None)) (after_space bytes)
+other_at inner kind bytes =
+    chosen 44 (λ rest. some_of (item_at inner kind) (after_space rest)) (behind (closing kind) (gives None))
+    (after_space bytes)
 
 abbrev pub put_item : Label × Value → Items → Items
 put_item x more = item x.0 x.1 more

@@ -1,16 +1,17 @@
 // Numbers and literals.
 ghost use Rattle.std.specs.Prelude.{◌≡◌, ◌∷◌, []};
 ghost use Rattle.log_model.specs.Token.{scalar_text};
-ghost use Rattle.jsonline_in.specs.Reading.{word_end, whole_end, fraction_end, signed_end, exponent_end, unsigned_end, number_end, number_at, bare_at};
-ghost use Rattle.jsonline_in.specs.Clauses.{Gives, mapped};
+ghost use Rattle.jsonline_in.specs.Reading.{word_end, whole_end, fraction_end, signed_end, exponent_end};
+ghost use Rattle.jsonline_in.specs.Reading.{unsigned_end, number_end, number_at, bare_at};
+ghost use Rattle.jsonline_in.specs.Clauses.{ReadsAs, mapped};
 
-use crate::scan::{digits, expect, front, past};
-use crate::stop::Stop;
+use crate::scan::{digits, expect, past, prefix};
+use crate::scan_fault::ScanFault;
 
 /// Zero, or digits that begin with another.
 #[tactic(auto, unfolding(crate::specs::Reading::whole_end))]
-fn whole(text: &str) -> Result<&str, Stop>
-    ensures { Gives (λ rest. (tt, rest.now)) result (whole_end text.now) }
+fn whole(text: &str) -> Result<&str, ScanFault>
+    ensures { ReadsAs (λ rest. (tt, rest.now)) result (whole_end text.now) }
 {
     match past(text, b'0') {
         Some(rest) => Ok(rest),
@@ -19,8 +20,8 @@ fn whole(text: &str) -> Result<&str, Stop>
 }
 
 #[tactic(auto, unfolding(crate::specs::Reading::fraction_end))]
-fn fraction(text: &str) -> Result<&str, Stop>
-    ensures { Gives (λ rest. (tt, rest.now)) result (fraction_end text.now) }
+fn fraction(text: &str) -> Result<&str, ScanFault>
+    ensures { ReadsAs (λ rest. (tt, rest.now)) result (fraction_end text.now) }
 {
     match past(text, b'.') {
         Some(rest) => digits(rest),
@@ -30,8 +31,8 @@ fn fraction(text: &str) -> Result<&str, Stop>
 
 /// Digits that may have a sign.
 #[tactic(auto, unfolding(crate::specs::Reading::signed_end))]
-fn signed(text: &str) -> Result<&str, Stop>
-    ensures { Gives (λ rest. (tt, rest.now)) result (signed_end text.now) }
+fn signed(text: &str) -> Result<&str, ScanFault>
+    ensures { ReadsAs (λ rest. (tt, rest.now)) result (signed_end text.now) }
 {
     if let Some(rest) = past(text, b'+') {
         return digits(rest);
@@ -43,8 +44,8 @@ fn signed(text: &str) -> Result<&str, Stop>
 }
 
 #[tactic(auto, unfolding(crate::specs::Reading::exponent_end))]
-fn exponent(text: &str) -> Result<&str, Stop>
-    ensures { Gives (λ rest. (tt, rest.now)) result (exponent_end text.now) }
+fn exponent(text: &str) -> Result<&str, ScanFault>
+    ensures { ReadsAs (λ rest. (tt, rest.now)) result (exponent_end text.now) }
 {
     if let Some(rest) = past(text, b'e') {
         return signed(rest);
@@ -56,15 +57,15 @@ fn exponent(text: &str) -> Result<&str, Stop>
 }
 
 #[tactic(auto, unfolding(crate::specs::Reading::unsigned_end))]
-fn unsigned(text: &str) -> Result<&str, Stop>
-    ensures { Gives (λ rest. (tt, rest.now)) result (unsigned_end text.now) }
+fn unsigned(text: &str) -> Result<&str, ScanFault>
+    ensures { ReadsAs (λ rest. (tt, rest.now)) result (unsigned_end text.now) }
 {
     exponent(fraction(whole(text)?)?)
 }
 
 #[tactic(auto, unfolding(crate::specs::Reading::number_end))]
-fn number_end(text: &str) -> Result<&str, Stop>
-    ensures { Gives (λ rest. (tt, rest.now)) result (number_end text.now) }
+fn number_end(text: &str) -> Result<&str, ScanFault>
+    ensures { ReadsAs (λ rest. (tt, rest.now)) result (number_end text.now) }
 {
     match past(text, b'-') {
         Some(rest) => unsigned(rest),
@@ -74,28 +75,28 @@ fn number_end(text: &str) -> Result<&str, Stop>
 
 /// A number as it is spelled.
 #[tactic(auto, unfolding(crate::specs::Reading::number_at))]
-fn number(text: &str) -> Result<(&str, &str), Stop>
-    ensures { Gives (λ x. (x.0.now, x.1.now)) result (number_at text.now) }
+fn number(text: &str) -> Result<(&str, &str), ScanFault>
+    ensures { ReadsAs (λ x. (x.0.now, x.1.now)) result (number_at text.now) }
 {
     let rest = number_end(text)?;
-    Ok((front(text, rest), rest))
+    Ok((prefix(text, rest), rest))
 }
 
 /// What follows the `t`, and so for the two below.
-fn rest_of_true(text: &str) -> Result<&str, Stop>
-    ensures { Gives (λ rest. (tt, rest.now)) result (word_end (114 ∷ 117 ∷ 101 ∷ []) text.now) }
+fn rest_of_true(text: &str) -> Result<&str, ScanFault>
+    ensures { ReadsAs (λ rest. (tt, rest.now)) result (word_end (114 ∷ 117 ∷ 101 ∷ []) text.now) }
 {
     expect(expect(expect(text, b'r')?, b'u')?, b'e')
 }
 
-fn rest_of_false(text: &str) -> Result<&str, Stop>
-    ensures { Gives (λ rest. (tt, rest.now)) result (word_end (97 ∷ 108 ∷ 115 ∷ 101 ∷ []) text.now) }
+fn rest_of_false(text: &str) -> Result<&str, ScanFault>
+    ensures { ReadsAs (λ rest. (tt, rest.now)) result (word_end (97 ∷ 108 ∷ 115 ∷ 101 ∷ []) text.now) }
 {
     expect(expect(expect(expect(text, b'a')?, b'l')?, b's')?, b'e')
 }
 
-fn rest_of_null(text: &str) -> Result<&str, Stop>
-    ensures { Gives (λ rest. (tt, rest.now)) result (word_end (117 ∷ 108 ∷ 108 ∷ []) text.now) }
+fn rest_of_null(text: &str) -> Result<&str, ScanFault>
+    ensures { ReadsAs (λ rest. (tt, rest.now)) result (word_end (117 ∷ 108 ∷ 108 ∷ []) text.now) }
 {
     expect(expect(expect(text, b'u')?, b'l')?, b'l')
 }
@@ -103,8 +104,8 @@ fn rest_of_null(text: &str) -> Result<&str, Stop>
 /// The text of a number or a literal, and what follows it.
 #[tactic(auto, unfolding(crate::specs::Reading::bare_at))]
 #[inline(never)]
-pub(crate) fn bare(text: &str) -> Result<(&str, &str), Stop>
-    ensures { Gives (λ x. (x.0.now, x.1.now)) result (mapped scalar_text (bare_at text.now)) }
+pub(crate) fn bare(text: &str) -> Result<(&str, &str), ScanFault>
+    ensures { ReadsAs (λ x. (x.0.now, x.1.now)) result (mapped scalar_text (bare_at text.now)) }
 {
     if let Some(rest) = past(text, b't') {
         return Ok(("true", rest_of_true(rest)?));

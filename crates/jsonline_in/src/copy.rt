@@ -2,12 +2,13 @@
 ghost use Rattle.std.specs.Prelude.{◌≡◌, ◌<◌, ◌++◌, ◌∷◌, [], string_bytes};
 ghost use Rattle.log_model.specs.Token.{string_source, scalar_source};
 ghost use Rattle.log_model.specs.Value.{closing, opening, tokens, series, label_tokens};
-ghost use Rattle.jsonline_in.specs.Reading.{name_at, characters_at, bare_at, label_at, nested_at, value_at, item_at, items_at};
-ghost use Rattle.jsonline_in.specs.Clauses.{Gives, mapped, kind_of, compact};
+ghost use Rattle.jsonline_in.specs.Reading.{name_at, characters_at, bare_at, label_at, nested_at, value_at, item_at};
+ghost use Rattle.jsonline_in.specs.Reading.{items_at};
+ghost use Rattle.jsonline_in.specs.Clauses.{ReadsAs, mapped, kind_of, compact};
 
 use crate::bare::bare;
-use crate::scan::{after_space, expect, front, past};
-use crate::stop::Stop;
+use crate::scan::{after_space, expect, past, prefix};
+use crate::scan_fault::ScanFault;
 use crate::text::string;
 
 /// An array or an object, by its brackets.
@@ -46,20 +47,28 @@ fn closing_text(bracket: Bracket) -> &'static str
 }
 
 /// Copies the string behind its opening quotation mark as it is spelled.
-fn copy_string<'a>(text: &'a str, copied: &mut String, spare: &mut String) -> Result<&'a str, Stop>
-    ensures { Gives (λ rest. (string_bytes copied.new, rest.now)) result
+fn copy_string<'a>(
+    text: &'a str,
+    copied: &mut String,
+    spare: &mut String,
+) -> Result<&'a str, ScanFault>
+    ensures { ReadsAs (λ rest. (string_bytes copied.new, rest.now)) result
         (mapped (λ characters. string_bytes copied.old ++ string_source characters) (characters_at text.now)) }
 {
     spare.clear();
     let (_, rest) = string(text, spare)?;
     copied.push_str("\"")?;
-    copied.push_str(front(text, rest))?;
+    copied.push_str(prefix(text, rest))?;
     Ok(rest)
 }
 
 /// Copies the name of a member and the colon, up to the member's value.
-fn copy_name<'a>(text: &'a str, copied: &mut String, spare: &mut String) -> Result<&'a str, Stop>
-    ensures { Gives (λ rest. (string_bytes copied.new, rest.now)) result
+fn copy_name<'a>(
+    text: &'a str,
+    copied: &mut String,
+    spare: &mut String,
+) -> Result<&'a str, ScanFault>
+    ensures { ReadsAs (λ rest. (string_bytes copied.new, rest.now)) result
         (mapped (λ label. string_bytes copied.old ++ compact (label_tokens label)) (name_at text.now)) }
 {
     let rest = copy_string(expect(text, b'"')?, copied, spare)?;
@@ -73,9 +82,10 @@ fn copy_label<'a>(
     bracket: Bracket,
     copied: &mut String,
     spare: &mut String,
-) -> Result<&'a str, Stop>
-    ensures { Gives (λ rest. (string_bytes copied.new, rest.now)) result
-        (mapped (λ label. string_bytes copied.old ++ compact (label_tokens label)) (label_at (kind_of bracket) text.now)) }
+) -> Result<&'a str, ScanFault>
+    ensures { ReadsAs (λ rest. (string_bytes copied.new, rest.now)) result
+        (mapped (λ label. string_bytes copied.old ++ compact (label_tokens label))
+        (label_at (kind_of bracket) text.now)) }
 {
     match bracket {
         Bracket::Square => Ok(text),
@@ -83,24 +93,24 @@ fn copy_label<'a>(
     }
 }
 
-fn copy_bare<'a>(text: &'a str, copied: &mut String) -> Result<&'a str, Stop>
-    ensures { Gives (λ rest. (string_bytes copied.new, rest.now)) result
+fn copy_bare<'a>(text: &'a str, copied: &mut String) -> Result<&'a str, ScanFault>
+    ensures { ReadsAs (λ rest. (string_bytes copied.new, rest.now)) result
         (mapped (λ token. string_bytes copied.old ++ scalar_source token) (bare_at text.now)) }
 {
     let (_, rest) = bare(text)?;
-    copied.push_str(front(text, rest))?;
+    copied.push_str(prefix(text, rest))?;
     Ok(rest)
 }
 
-/// Copies the value at the front, where so many brackets more may be open, and gives what follows it.
+/// Copies the value at the start, where so many brackets more may be open, and gives what follows it.
 #[cycle(copied)]
 fn copy_value<'a>(
     text: &'a str,
     depth: u32,
     copied: &mut String,
     spare: &mut String,
-) -> Result<&'a str, Stop>
-    ensures { Gives (λ rest. (string_bytes copied.new, rest.now)) result
+) -> Result<&'a str, ScanFault>
+    ensures { ReadsAs (λ rest. (string_bytes copied.new, rest.now)) result
         (mapped (λ value. string_bytes copied.old ++ compact (tokens value)) (value_at (nested_at depth) text.now)) }
 {
     if let Some(inside) = past(text, b'{') {
@@ -124,12 +134,13 @@ pub(crate) fn copy_nested<'a>(
     depth: u32,
     copied: &mut String,
     spare: &mut String,
-) -> Result<&'a str, Stop>
-    ensures { Gives (λ rest. (string_bytes copied.new, rest.now)) result
-        (mapped (λ value. string_bytes copied.old ++ compact (tokens value)) (nested_at depth (kind_of bracket) text.now)) }
+) -> Result<&'a str, ScanFault>
+    ensures { ReadsAs (λ rest. (string_bytes copied.new, rest.now)) result
+        (mapped (λ value. string_bytes copied.old ++ compact (tokens value))
+        (nested_at depth (kind_of bracket) text.now)) }
 {
     if depth == 0 {
-        return Err(Stop::TooDeep);
+        return Err(ScanFault::TooDeep);
     }
     copied.push_str(opening_text(bracket))?;
     copy_items(text, bracket, depth - 1, copied, spare)
@@ -143,9 +154,10 @@ fn copy_items<'a>(
     depth: u32,
     copied: &mut String,
     spare: &mut String,
-) -> Result<&'a str, Stop>
-    ensures { Gives (λ rest. (string_bytes copied.new, rest.now)) result
-        (mapped (λ items. string_bytes copied.old ++ compact (series (kind_of bracket) [] items)) (items_at (nested_at depth) (kind_of bracket) text.now)) }
+) -> Result<&'a str, ScanFault>
+    ensures { ReadsAs (λ rest. (string_bytes copied.new, rest.now)) result
+        (mapped (λ items. string_bytes copied.old ++ compact (series (kind_of bracket) [] items))
+        (items_at (nested_at depth) (kind_of bracket) text.now)) }
 {
     let start = after_space(text);
     if let Some(end) = past(start, closing(bracket)) {
@@ -172,9 +184,10 @@ fn copy_item<'a>(
     depth: u32,
     copied: &mut String,
     spare: &mut String,
-) -> Result<&'a str, Stop>
-    ensures { Gives (λ rest. (string_bytes copied.new, rest.now)) result
-        (mapped (λ x. string_bytes copied.old ++ (compact (label_tokens x.0) ++ compact (tokens x.1))) (item_at (nested_at depth) (kind_of bracket) text.now)) }
+) -> Result<&'a str, ScanFault>
+    ensures { ReadsAs (λ rest. (string_bytes copied.new, rest.now)) result
+        (mapped (λ x. string_bytes copied.old ++ (compact (label_tokens x.0) ++ compact (tokens x.1)))
+        (item_at (nested_at depth) (kind_of bracket) text.now)) }
 {
     let rest = copy_label(text, bracket, copied, spare)?;
     copy_value(rest, depth, copied, spare)

@@ -1,12 +1,14 @@
 // Escaped characters of strings, and the text that they stand for.
-ghost use Rattle.std.specs.Prelude.{◌≡◌, ◌<◌, ◌≤◌, ◌++◌, [], ◌∷◌, List, if◌then◌else◌, string_bytes, IfOk, OnOk, IsTrue};
+ghost use Rattle.std.specs.Prelude.{◌≡◌, ◌<◌, ◌≤◌, ◌++◌, [], ◌∷◌, List, if◌then◌else◌, string_bytes, IfOk, OnOk};
+ghost use Rattle.std.specs.Prelude.{IsTrue};
 ghost use Rattle.std.specs.Char.{digit_value, encode_utf8, IsScalar};
-ghost use Rattle.log_model.specs.Token.{Character, is_character, alone, is_short, unit_text, replacement, is_high_surrogate, is_low_surrogate, text_behind, short_value, code_unit};
-ghost use Rattle.jsonline_in.specs.Reading.{unicode_at, short_at, escape_at};
-ghost use Rattle.jsonline_in.specs.Clauses.{Gives, escape_of};
+ghost use Rattle.log_model.specs.Token.{Character, is_character, alone, is_short, unit_text, replacement};
+ghost use Rattle.log_model.specs.Token.{is_high_surrogate, is_low_surrogate, text_behind, short_value, code_unit};
+ghost use Rattle.jsonline_in.specs.Reading.{unicode_at, one_of, short_at, escape_at};
+ghost use Rattle.jsonline_in.specs.Clauses.{ReadsAs, escape_of};
 
 use crate::scan::{hex, past};
-use crate::stop::Stop;
+use crate::scan_fault::ScanFault;
 use std::alloc::AllocError;
 
 /// What stands behind a backslash.
@@ -18,8 +20,8 @@ pub(crate) enum Escape {
 }
 
 #[tactic(auto, unfolding(crate::specs::Reading::unicode_at))]
-fn unicode(text: &str) -> Result<(Escape, &str), Stop>
-    ensures { Gives (λ x. (escape_of x.0, x.1.now)) result (unicode_at text.now) }
+fn unicode(text: &str) -> Result<(Escape, &str), ScanFault>
+    ensures { ReadsAs (λ x. (escape_of x.0, x.1.now)) result (unicode_at text.now) }
 {
     let (a, rest) = hex(text)?;
     let (b, rest) = hex(rest)?;
@@ -34,19 +36,28 @@ fn is_short(byte: u8) -> bool
     matches!(byte, b'"' | b'\\' | b'/' | b'b' | b'f' | b'n' | b'r' | b't')
 }
 
-#[tactic(auto, using(crate::proofs::Cuts::short_cut), unfolding(crate::specs::Reading::short_at, crate::specs::Reading::one_of))]
-fn short(text: &str) -> Result<(Escape, &str), Stop>
-    ensures { Gives (λ x. (escape_of x.0, x.1.now)) result (short_at text.now) }
+/// The byte of a short escape.
+#[tactic(auto, using(crate::proofs::Cuts::short_cut), unfolding(crate::specs::Reading::one_of))]
+fn short_byte(text: &str) -> Result<(u8, &str), ScanFault>
+    ensures { ReadsAs (λ x. (x.0, x.1.now)) result (one_of is_short text.now) }
 {
     match text.as_bytes() {
-        [first, ..] if is_short(*first) => Ok((Escape::Short(*first), &text[1..])),
-        _ => Err(Stop::Stuck { left: text.len() }),
+        [first, ..] if is_short(*first) => Ok((*first, &text[1..])),
+        _ => Err(ScanFault::Stuck { left: text.len() }),
     }
 }
 
+#[tactic(auto, unfolding(crate::specs::Reading::short_at))]
+fn short(text: &str) -> Result<(Escape, &str), ScanFault>
+    ensures { ReadsAs (λ x. (escape_of x.0, x.1.now)) result (short_at text.now) }
+{
+    let (byte, rest) = short_byte(text)?;
+    Ok((Escape::Short(byte), rest))
+}
+
 #[tactic(auto, unfolding(crate::specs::Reading::escape_at))]
-pub(crate) fn escaped(text: &str) -> Result<(Escape, &str), Stop>
-    ensures { Gives (λ x. (escape_of x.0, x.1.now)) result (escape_at text.now) }
+pub(crate) fn escaped(text: &str) -> Result<(Escape, &str), ScanFault>
+    ensures { ReadsAs (λ x. (escape_of x.0, x.1.now)) result (escape_at text.now) }
 {
     match past(text, b'u') {
         Some(rest) => unicode(rest),
@@ -140,7 +151,8 @@ fn push_short(out: &mut String, before: u32, byte: u8) -> Result<(), AllocError>
 pub(crate) fn push_escape(out: &mut String, before: u32, escape: Escape) -> Result<u32, AllocError>
     requires { IsTrue (is_character (escape_of escape)) }
     ensures { IfOk result (λ unit. (more : List Character) →
-        string_bytes out.old ++ text_behind before (escape_of escape ∷ more) ≡ string_bytes out.new ++ text_behind unit more) }
+        string_bytes out.old ++ text_behind before (escape_of escape ∷ more)
+        ≡ string_bytes out.new ++ text_behind unit more) }
 {
     match escape {
         Escape::Short(byte) => {

@@ -9,8 +9,8 @@ mod line;
 pub mod plain;
 pub mod run;
 mod scan;
+mod scan_fault;
 mod set;
-mod stop;
 mod text;
 
 pub use fault::JsonFault;

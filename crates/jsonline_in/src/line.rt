@@ -5,7 +5,7 @@ ghost use Rattle.jsonline_in.specs.Faults.{Refuses, IsFault};
 
 use crate::fault::JsonFault;
 use crate::scan::{after_space, past};
-use crate::stop::Stop;
+use crate::scan_fault::ScanFault;
 
 /// The text behind the opening brace of the line.
 pub(crate) fn opened(line: &[u8]) -> Result<&str, JsonFault>
@@ -28,16 +28,16 @@ pub(crate) fn opened(line: &[u8]) -> Result<&str, JsonFault>
 }
 
 /// What a stop behind the opening brace says of the line.
-pub(crate) fn fault_of(line: &[u8], stop: Stop) -> JsonFault
+pub(crate) fn fault_of(line: &[u8], stop: ScanFault) -> JsonFault
     requires { StopsIn stop line.now }
     ensures refused { Refuses result line.now }
     ensures fault { IsFault result line.now }
 {
     match stop {
-        Stop::TooDeep => JsonFault::TooDeep,
-        Stop::Stuck { left } => JsonFault::NotJson {
+        ScanFault::TooDeep => JsonFault::TooDeep,
+        ScanFault::Stuck { left } => JsonFault::NotJson {
             at: line.len() - left,
         },
-        Stop::Memory => JsonFault::Memory,
+        ScanFault::Memory => JsonFault::Memory,
     }
 }

@@ -2,8 +2,8 @@
 ghost use Rattle.std.specs.Prelude.{◌≡◌, ◌<◌, ◌++◌, ◌∷◌, [], List, length, string_bytes, IfErr, OnOk};
 ghost use Rattle.log_model.specs.Field.{Field, set_all};
 ghost use Rattle.log_model.specs.ObjectLine.{IsObjectLine};
-ghost use Rattle.log_model.specs.Value.{object, field_name, label_text, value_fields, member_fields};
-ghost use Rattle.jsonline_in.specs.Clauses.{Gives, mapped};
+ghost use Rattle.log_model.specs.Value.{object, field_name, member_name, value_fields, member_fields};
+ghost use Rattle.jsonline_in.specs.Clauses.{ReadsAs, mapped};
 ghost use Rattle.jsonline_in.specs.Faults.{Refuses, IsFault};
 ghost use Rattle.jsonline_in.specs.Reading.{nested_at, value_at, item_at, items_at, text_at};
 
@@ -12,7 +12,7 @@ mod text;
 use crate::fault::JsonFault;
 use crate::line::{fault_of, opened};
 use crate::scan::{after_space, expect, past};
-use crate::stop::Stop;
+use crate::scan_fault::ScanFault;
 use std::alloc::{AllocError, Global};
 use std::marker::Model;
 use vl_row::FieldList;
@@ -49,15 +49,15 @@ impl Listing {
         Ok(self.pairs.push(Pair { name, value })?)
     }
 
-    /// Lists the fields of the value at the front, which has this name, and gives what follows it.
+    /// Lists the fields of the value at the start, which has this name, and gives what follows it.
     #[cycle(list)]
-    fn value<'a>(&mut self, name: &str, text: &'a str, depth: u32) -> Result<&'a str, Stop>
-        ensures { Gives (λ rest. (self.new.pairs.items, rest.now)) result
+    fn value<'a>(&mut self, name: &str, text: &'a str, depth: u32) -> Result<&'a str, ScanFault>
+        ensures { ReadsAs (λ rest. (self.new.pairs.items, rest.now)) result
             (mapped (λ value. self.old.pairs.items ++ value_fields name.now value) (value_at (nested_at depth) text.now)) }
     {
         if let Some(inside) = past(text, b'{') {
             if depth == 0 {
-                return Err(Stop::TooDeep);
+                return Err(ScanFault::TooDeep);
             }
             let before = format!(in self.alloc; "{name}.")?;
             return self.members(before.as_str(), inside, depth - 1);
@@ -68,9 +68,9 @@ impl Listing {
     }
 
     #[cycle(list)]
-    fn member<'a>(&mut self, before: &str, text: &'a str, depth: u32) -> Result<&'a str, Stop>
-        ensures { Gives (λ rest. (self.new.pairs.items, rest.now)) result
-            (mapped (λ x. self.old.pairs.items ++ value_fields (before.now ++ label_text x.0) x.1) (item_at (nested_at depth) object text.now)) }
+    fn member<'a>(&mut self, before: &str, text: &'a str, depth: u32) -> Result<&'a str, ScanFault>
+        ensures { ReadsAs (λ rest. (self.new.pairs.items, rest.now)) result
+            (mapped (λ x. self.old.pairs.items ++ value_fields (before.now ++ member_name x.0) x.1) (item_at (nested_at depth) object text.now)) }
     {
         let (own, rest) = text::name(self.alloc, text)?;
         let name = format!(in self.alloc; "{before}{own}")?;
@@ -79,8 +79,8 @@ impl Listing {
 
     /// Lists the fields of the members behind an opening brace, whose names have this text before them.
     #[cycle(list)]
-    fn members<'a>(&mut self, before: &str, text: &'a str, depth: u32) -> Result<&'a str, Stop>
-        ensures { Gives (λ rest. (self.new.pairs.items, rest.now)) result
+    fn members<'a>(&mut self, before: &str, text: &'a str, depth: u32) -> Result<&'a str, ScanFault>
+        ensures { ReadsAs (λ rest. (self.new.pairs.items, rest.now)) result
             (mapped (λ members. self.old.pairs.items ++ member_fields before.now members) (items_at (nested_at depth) object text.now)) }
     {
         let start = after_space(text);
@@ -97,14 +97,14 @@ impl Listing {
 
 /// The fields of the object that is all of the text, behind its opening brace.
 #[tactic(auto, unfolding(crate::specs::Reading::text_at, crate::specs::Reading::end_at))]
-fn listed(alloc: Global, inside: &str) -> Result<Vec<Pair>, Stop>
-    ensures { Gives (λ list. (list.items, [])) result (mapped (member_fields []) (text_at inside.now)) }
+fn listed(alloc: Global, inside: &str) -> Result<Vec<Pair>, ScanFault>
+    ensures { ReadsAs (λ list. (list.items, [])) result (mapped (member_fields []) (text_at inside.now)) }
 {
     let pairs = Vec::new(alloc);
     let mut listing = Listing { alloc, pairs };
     let rest = after_space(listing.members("", inside, 63)?);
     if !rest.is_empty() {
-        return Err(Stop::Stuck { left: rest.len() });
+        return Err(ScanFault::Stuck { left: rest.len() });
     }
     Ok(listing.pairs)
 }

@@ -4,10 +4,10 @@ ghost use Rattle.std.specs.Option.{option_map};
 ghost use Rattle.std.specs.List.{prefix_len};
 ghost use Rattle.std.specs.Char.{is_ascii_digit, is_ascii_hexdigit};
 ghost use Rattle.log_model.specs.Json.{is_space};
-ghost use Rattle.jsonline_in.specs.Reading.{after_space, past, expect, one_of, digits_end, front_of};
-ghost use Rattle.jsonline_in.specs.Clauses.{Gives};
+ghost use Rattle.jsonline_in.specs.Reading.{after_space, past, expect, one_of, digits_end, prefix_of};
+ghost use Rattle.jsonline_in.specs.Clauses.{ReadsAs};
 
-use crate::stop::Stop;
+use crate::scan_fault::ScanFault;
 
 #[inline]
 fn is_space(byte: u8) -> bool
@@ -46,21 +46,21 @@ pub(crate) fn past(text: &str, byte: u8) -> Option<&str>
 
 #[tactic(auto, unfolding(crate::specs::Reading::expect))]
 #[inline]
-pub(crate) fn expect(text: &str, byte: u8) -> Result<&str, Stop>
+pub(crate) fn expect(text: &str, byte: u8) -> Result<&str, ScanFault>
     requires { byte < 128 }
-    ensures { Gives (λ rest. (tt, rest.now)) result (expect byte text.now) }
+    ensures { ReadsAs (λ rest. (tt, rest.now)) result (expect byte text.now) }
 {
     match past(text, byte) {
         Some(rest) => Ok(rest),
-        None => Err(Stop::Stuck { left: text.len() }),
+        None => Err(ScanFault::Stuck { left: text.len() }),
     }
 }
 
 /// What stands before the rest of a text.
 #[inline]
-pub(crate) fn front<'a>(text: &'a str, rest: &str) -> &'a str
+pub(crate) fn prefix<'a>(text: &'a str, rest: &str) -> &'a str
     requires { (taken : List ℕ) × (text.now ≡ taken ++ rest.now) }
-    ensures { result.now ≡ front_of text.now rest.now }
+    ensures { result.now ≡ prefix_of text.now rest.now }
 {
     &text[..text.len() - rest.len()]
 }
@@ -78,23 +78,23 @@ fn digits_len(bytes: &[u8]) -> usize
 /// One decimal digit or more.
 #[tactic(auto, using(crate::proofs::Cuts::digits_cut), unfolding(crate::specs::Reading::digits_end))]
 #[inline]
-pub(crate) fn digits(text: &str) -> Result<&str, Stop>
-    ensures { Gives (λ rest. (tt, rest.now)) result (digits_end text.now) }
+pub(crate) fn digits(text: &str) -> Result<&str, ScanFault>
+    ensures { ReadsAs (λ rest. (tt, rest.now)) result (digits_end text.now) }
 {
     let len = digits_len(text.as_bytes());
     if len == 0 {
-        return Err(Stop::Stuck { left: text.len() });
+        return Err(ScanFault::Stuck { left: text.len() });
     }
     Ok(&text[len..])
 }
 
 /// One hexadecimal digit.
 #[tactic(auto, using(crate::proofs::Cuts::hex_cut), unfolding(crate::specs::Reading::one_of))]
-pub(crate) fn hex(text: &str) -> Result<(u8, &str), Stop>
-    ensures { Gives (λ x. (x.0, x.1.now)) result (one_of is_ascii_hexdigit text.now) }
+pub(crate) fn hex(text: &str) -> Result<(u8, &str), ScanFault>
+    ensures { ReadsAs (λ x. (x.0, x.1.now)) result (one_of is_ascii_hexdigit text.now) }
 {
     match text.as_bytes() {
         [first, ..] if first.is_ascii_hexdigit() => Ok((*first, &text[1..])),
-        _ => Err(Stop::Stuck { left: text.len() }),
+        _ => Err(ScanFault::Stuck { left: text.len() }),
     }
 }

@@ -5,15 +5,15 @@ ghost use Rattle.std.specs.List.{prefix_len};
 ghost use Rattle.log_model.specs.Json.{is_plain};
 ghost use Rattle.log_model.specs.Token.{Character, plain, string_text, text_behind};
 ghost use Rattle.jsonline_in.specs.Reading.{characters_at};
-ghost use Rattle.jsonline_in.specs.Clauses.{Gives, mapped, or_empty};
+ghost use Rattle.jsonline_in.specs.Clauses.{ReadsAs, mapped, or_empty};
 
 use crate::escape::{escaped, push_alone, push_escape};
 use crate::run::plain_len;
 use crate::scan::{expect, past};
-use crate::stop::Stop;
+use crate::scan_fault::ScanFault;
 use std::alloc::AllocError;
 
-/// The characters at the front that stand for themselves, and what follows them.
+/// The characters at the start that stand for themselves, and what follows them.
 #[tactic(auto, using(crate::proofs::Cuts::plain_cut))]
 #[inline(always)]
 fn split_run(text: &str) -> (&str, &str)
@@ -27,7 +27,8 @@ fn split_run(text: &str) -> (&str, &str)
 /// Gives the code unit that what follows them comes behind.
 pub(crate) fn push_run(out: &mut String, before: u32, run: &str) -> Result<u32, AllocError>
     ensures { IfOk result (λ unit. (more : List Character) →
-        string_bytes out.old ++ text_behind before (map plain run.now ++ more) ≡ string_bytes out.new ++ text_behind unit more) }
+        string_bytes out.old ++ text_behind before (map plain run.now ++ more)
+        ≡ string_bytes out.new ++ text_behind unit more) }
 {
     if run.is_empty() {
         return Ok(before);
@@ -39,8 +40,8 @@ pub(crate) fn push_run(out: &mut String, before: u32, run: &str) -> Result<u32, 
 
 /// Appends the text of the string behind its opening quotation mark, and gives what follows the closing one.
 #[inline(never)]
-fn decode<'a>(text: &'a str, out: &mut String) -> Result<&'a str, Stop>
-    ensures { Gives (λ rest. (string_bytes out.new, rest.now)) result
+fn decode<'a>(text: &'a str, out: &mut String) -> Result<&'a str, ScanFault>
+    ensures { ReadsAs (λ rest. (string_bytes out.new, rest.now)) result
         (mapped (λ characters. string_bytes out.old ++ string_text characters) (characters_at text.now)) }
 {
     let mut rest = text;
@@ -64,8 +65,8 @@ fn decode<'a>(text: &'a str, out: &mut String) -> Result<&'a str, Stop>
 pub(crate) fn string<'a>(
     text: &'a str,
     out: &mut String,
-) -> Result<(Option<&'a str>, &'a str), Stop>
-    ensures read { Gives (λ x. (string_bytes out.new ++ or_empty (option_map (λ t. t.now) x.0), x.1.now)) result
+) -> Result<(Option<&'a str>, &'a str), ScanFault>
+    ensures read { ReadsAs (λ x. (string_bytes out.new ++ or_empty (option_map (λ t. t.now) x.0), x.1.now)) result
         (mapped (λ characters. string_bytes out.old ++ string_text characters) (characters_at text.now)) }
     ensures kept { IfOk result (λ x. IfSome x.0 (λ _. string_bytes out.new ≡ string_bytes out.old)) }
 {

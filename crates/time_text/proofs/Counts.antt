@@ -11,7 +11,7 @@ use Rattle.std.proofs.lemmas.Bool.Decides.{nat_tests}
 use Rattle.std.proofs.lemmas.Option.{none-some}
 use Rattle.std.proofs.lemmas.Str.Parse.{numerals_by_value, tells_all_ascii_digits}
 use Rattle.std.proofs.Math.ListN.{get_or-append}
-use Rattle.log_model.specs.MomentText.{AreDigits, IsNumber, IsCount, AreSeconds, SpellsMoment, counted, in_seconds, nanoseconds_of}
+use Rattle.log_model.specs.MomentText.{AreDigits, IsDecimalCount, IsCount, AreSeconds, SpellsMoment, counted, in_seconds, nanoseconds_of}
 use Rattle.time_text.specs.Reading.{◌>>=◌, digits_len, number_at, fraction_at, only_fraction, after_number, count_at}
 use Rattle.time_text.proofs.DigitLemmas.{front_digits}
 
@@ -94,7 +94,7 @@ fraction_again places rest digits most none =
 -- ---- counts
 
 number_takes : (bytes : List ℕ) → nat_le 1 (digits_len bytes) && (not (slice_index bytes 0 == 48) || (digits_len bytes == 1)) ≡ true
-    → IsNumber (take (digits_len bytes) bytes) (number_at bytes)
+    → IsDecimalCount (take (digits_len bytes) bytes) (number_at bytes)
 number_takes bytes test =
     let len = digits_len bytes in
     let parts = and_parts (nat_le 1 len) _ test in
@@ -109,10 +109,10 @@ number_takes bytes test =
       value = refl;
     }
 
-after_takes : (text whole bytes : List ℕ) (number : ℕ) (moment : ℤ) → IsNumber whole number → text ≡ whole ++ bytes → after_number number bytes ≡ Some moment → SpellsMoment text moment
+after_takes : (text whole bytes : List ℕ) (number : ℕ) (moment : ℤ) → IsDecimalCount whole number → text ≡ whole ++ bytes → after_number number bytes ≡ Some moment → SpellsMoment text moment
 unfolding after_number
 after_takes text whole [] number moment h spelled e =
-    counted (record { count = number; is_number = subst (λ (t : List ℕ). IsNumber t number) (sym (spelled ∙ append-nil whole)) h; is_moment = sym (some_is _ moment e) })
+    counted (record { count = number; is_number = subst (λ (t : List ℕ). IsDecimalCount t number) (sym (spelled ∙ append-nil whole)) h; is_moment = sym (some_is _ moment e) })
 after_takes text whole (byte ∷ bytes) number moment h spelled e =
     let parts = test_some _ _ moment e in
     let tests = and_parts (byte == 46) (nat_lt number (10 ^ 11)) parts.0 in
@@ -148,7 +148,7 @@ count_takes text moment e =
     let parts = test_some _ _ moment e in
     after_takes text (take len text) (drop len text) (number_at text) moment (number_takes text parts.0) (sym (take-append-drop len text)) parts.1
 
-count_again : (whole rest : List ℕ) (number : ℕ) → IsNumber whole number → digits_len rest ≡ 0 → count_at (whole ++ rest) ≡ after_number number rest
+count_again : (whole rest : List ℕ) (number : ℕ) → IsDecimalCount whole number → digits_len rest ≡ 0 → count_at (whole ++ rest) ≡ after_number number rest
 unfolding count_at
 count_again whole rest number h none =
     let len = len_again whole rest h.digits.each none in

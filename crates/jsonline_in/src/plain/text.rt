@@ -3,15 +3,15 @@ ghost use Rattle.std.specs.Prelude.{◌≡◌, string_bytes};
 ghost use Rattle.std.specs.List.{prefix_len};
 ghost use Rattle.log_model.specs.Json.{is_plain};
 ghost use Rattle.log_model.specs.Token.{string_text};
-ghost use Rattle.log_model.specs.Value.{object, label_text};
-ghost use Rattle.jsonline_in.specs.Clauses.{Gives, mapped, flat_text};
+ghost use Rattle.log_model.specs.Value.{object, member_name};
+ghost use Rattle.jsonline_in.specs.Clauses.{ReadsAs, mapped, flat_text};
 ghost use Rattle.jsonline_in.specs.Reading.{characters_at, label_at, flat_at, nested_at};
 
 use crate::bare::bare;
 use crate::copy::{Bracket, copy_nested};
 use crate::escape::{escaped, push_alone, push_escape};
 use crate::scan::{after_space, expect, past};
-use crate::stop::Stop;
+use crate::scan_fault::ScanFault;
 use crate::text::push_run;
 use std::alloc::Global;
 
@@ -25,8 +25,8 @@ fn plain_len(text: &str) -> usize
 
 /// The text of the string behind its opening quotation mark, and what follows the closing one.
 #[tactic(auto, using(crate::proofs::Cuts::plain_cut))]
-fn string(alloc: Global, text: &str) -> Result<(String, &str), Stop>
-    ensures { Gives (λ x. (string_bytes x.0, x.1.now)) result (mapped string_text (characters_at text.now)) }
+fn string(alloc: Global, text: &str) -> Result<(String, &str), ScanFault>
+    ensures { ReadsAs (λ x. (string_bytes x.0, x.1.now)) result (mapped string_text (characters_at text.now)) }
 {
     let mut out = String::new(alloc);
     let mut rest = text;
@@ -45,8 +45,8 @@ fn string(alloc: Global, text: &str) -> Result<(String, &str), Stop>
 }
 
 /// The name of a member, up to its value.
-pub(super) fn name(alloc: Global, text: &str) -> Result<(String, &str), Stop>
-    ensures { Gives (λ x. (string_bytes x.0, x.1.now)) result (mapped label_text (label_at object text.now)) }
+pub(super) fn name(alloc: Global, text: &str) -> Result<(String, &str), ScanFault>
+    ensures { ReadsAs (λ x. (string_bytes x.0, x.1.now)) result (mapped member_name (label_at object text.now)) }
 {
     let (name, rest) = string(alloc, expect(text, b'"')?)?;
     let rest = expect(after_space(rest), b':')?;
@@ -54,8 +54,8 @@ pub(super) fn name(alloc: Global, text: &str) -> Result<(String, &str), Stop>
 }
 
 /// The text of a value that is no object.
-pub(super) fn flat(alloc: Global, text: &str, depth: u32) -> Result<(String, &str), Stop>
-    ensures { Gives (λ x. (string_bytes x.0, x.1.now)) result (mapped flat_text (flat_at (nested_at depth) text.now)) }
+pub(super) fn flat(alloc: Global, text: &str, depth: u32) -> Result<(String, &str), ScanFault>
+    ensures { ReadsAs (λ x. (string_bytes x.0, x.1.now)) result (mapped flat_text (flat_at (nested_at depth) text.now)) }
 {
     if let Some(inside) = past(text, b'"') {
         return string(alloc, inside);

@@ -1,11 +1,11 @@
 use Rattle.std.proofs.Common.{string_bytes, ap, ◌∙◌, ◌++◌}
-use Rattle.jsonline_in.proofs.Copies.{string_front, string_copied}
+use Rattle.jsonline_in.proofs.Copies.{string_prefix, string_copied}
 use Rattle.jsonline_in.proofs.copy.copy_string.Goals as goal
 
-pub front-requires : goal.front-requires
-front-requires c = string_front _ c.args.text.now c.in_ok-rest.rest.now _ c.in_ok-rest.ensures.read
+pub prefix-requires : goal.prefix-requires
+prefix-requires c = string_prefix _ c.args.text.now c.in_ok-rest.rest.now _ c.in_ok-rest.ensures.read
 
 pub returns : goal.returns
 returns c =
     string_copied _ c.args.text.now c.in_ok-rest.rest.now _ c.in_ok-rest.ensures.read (string_bytes c.args.copied.now) (string_bytes c.push_str.new.self) (string_bytes c.push_str-2.new.self)
-    c.in_ok-push_str.ensures.bytes (c.in_ok-push_str-2.ensures.bytes ∙ ap (λ t. string_bytes c.push_str.new.self ++ t) c.front.ensures)
+    c.in_ok-push_str.ensures.bytes (c.in_ok-push_str-2.ensures.bytes ∙ ap (λ t. string_bytes c.push_str.new.self ++ t) c.prefix.ensures)

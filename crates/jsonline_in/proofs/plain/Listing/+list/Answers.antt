@@ -1,6 +1,6 @@
 use Rattle.std.proofs.Common.{rules, None, Ok, string_bytes, ap, sym, ◌∙◌, ◌≡◌, ◌++◌, ◌∷◌, []}
 use Rattle.std.proofs.lemmas.List.{append-nil}
-use Rattle.log_model.specs.Value.{object, label_text, value_fields, member_fields}
+use Rattle.log_model.specs.Value.{object, member_name, value_fields, member_fields}
 use Rattle.jsonline_in.specs.Reading.{past, label_at, item_at, nested_at, flat_at}
 use Rattle.jsonline_in.specs.Clauses.{mapped, flat_text}
 use Rattle.jsonline_in.proofs.Copies.{mapped_ok, mapped_err}
@@ -43,17 +43,17 @@ value-returns t c =
 pub member-returns-in_err-own : goal.member-returns-in_err-own
 member-returns-in_err-own t c =
     let text = c.args.text.now in
-    stops_at _ c.from_residual.result _ (mapped label_text (label_at object text)) _ c.from_residual.ensures.1
-    (λ fault h. ap (mapped (λ x. c.args.self.now.pairs.items ++ value_fields (c.args.before.now ++ label_text x.0) x.1)) (no_label (nested_at c.args.depth) object text fault (mapped_err _ (label_at object text) fault h))) c.in_err-own.ensures
+    stops_at _ c.from_residual.result _ (mapped member_name (label_at object text)) _ c.from_residual.ensures.1
+    (λ fault h. ap (mapped (λ x. c.args.self.now.pairs.items ++ value_fields (c.args.before.now ++ member_name x.0) x.1)) (no_label (nested_at c.args.depth) object text fault (mapped_err _ (label_at object text) fault h))) c.in_err-own.ensures
 
 pub member-returns : goal.member-returns
 member-returns t c =
     let old = c.args.self.now.pairs.items in
     let before = c.args.before.now in
     let name = c.as_str.result.now in
-    let m = mapped_ok label_text (label_at object c.args.text.now) (string_bytes c.in_ok-own.own) c.in_ok-own.rest.now c.in_ok-own.ensures in
-    let same : before ++ label_text m.0 ≡ name = sym (c.as_str.ensures.value ∙ c.in_ok-name.ensures.ok ∙ ap (λ n. before ++ n) m.2) in
-    gives_same _ c.value.result _ _ (item_mapped (nested_at c.args.depth) object c.args.text.now m.0 c.in_ok-own.rest.now (λ x. old ++ value_fields (before ++ label_text x.0) x.1) (λ value. old ++ value_fields name value) m.1
+    let m = mapped_ok member_name (label_at object c.args.text.now) (string_bytes c.in_ok-own.own) c.in_ok-own.rest.now c.in_ok-own.ensures in
+    let same : before ++ member_name m.0 ≡ name = sym (c.as_str.ensures.value ∙ c.in_ok-name.ensures.ok ∙ ap (λ n. before ++ n) m.2) in
+    gives_same _ c.value.result _ _ (item_mapped (nested_at c.args.depth) object c.args.text.now m.0 c.in_ok-own.rest.now (λ x. old ++ value_fields (before ++ member_name x.0) x.1) (λ value. old ++ value_fields name value) m.1
     (λ value. ap (λ n. old ++ value_fields n value) same)) c.value.ensures
 
 pub members-returns-in-Some : goal.members-returns-in-Some
@@ -68,7 +68,7 @@ members-returns-in_err-rest t c =
     let old = c.args.self.now.pairs.items in
     let before = c.args.before.now in
     let inner = nested_at c.args.depth in
-    stops_at _ c.from_residual.result _ (mapped (λ x. old ++ value_fields (before ++ label_text x.0) x.1) (item_at inner object start)) _ c.from_residual.ensures.1
+    stops_at _ c.from_residual.result _ (mapped (λ x. old ++ value_fields (before ++ member_name x.0) x.1) (item_at inner object start)) _ c.from_residual.ensures.1
     (λ fault h. ap (mapped (λ members. old ++ member_fields before members)) (no_first c.args.depth object c.args.text.now start c.after_space-start.ensures fault (sym c.in_default.ensures) (mapped_err _ (item_at inner object start) fault h))) c.in_err-rest.ensures
 
 pub members-members-init : goal.members-members-init
@@ -77,7 +77,7 @@ members-members-init t c =
     let before = c.args.before.now in
     let old = c.args.self.now.pairs.items in
     let new = c.member.new.self.pairs.items in
-    let m = mapped_ok (λ x. old ++ value_fields (before ++ label_text x.0) x.1) (item_at (nested_at c.args.depth) object start) new c.in_ok-rest.rest.now c.in_ok-rest.ensures in (
+    let m = mapped_ok (λ x. old ++ value_fields (before ++ member_name x.0) x.1) (item_at (nested_at c.args.depth) object start) new c.in_ok-rest.rest.now c.in_ok-rest.ensures in (
       search rules,
       started c.args.depth object c.args.text.now start c.after_space-start.ensures (λ members. old ++ member_fields before members) (λ members. new ++ member_fields before members) m.0 c.in_ok-rest.rest.now
           (sym c.in_default.ensures) m.1 (λ more. member_listed old new before m.0 more m.2),
@@ -93,7 +93,7 @@ pub members-returns-in_err-rest-2 : goal.members-returns-in_err-rest-2
 members-returns-in_err-rest-2 t c =
     let before = c.args.before.now in
     let inner = nested_at c.args.depth in
-    stops_at _ c.from_residual-in_err-rest-2.result _ (mapped (λ x. c.members.self.pairs.items ++ value_fields (before ++ label_text x.0) x.1) (item_at inner object c.after_space-in-Some-past.result.now)) _ c.from_residual-in_err-rest-2.ensures.1
+    stops_at _ c.from_residual-in_err-rest-2.result _ (mapped (λ x. c.members.self.pairs.items ++ value_fields (before ++ member_name x.0) x.1) (item_at inner object c.after_space-in-Some-past.result.now)) _ c.from_residual-in_err-rest-2.ensures.1
     (λ fault h. ap (mapped (λ members. c.args.self.now.pairs.items ++ member_fields before members)) (no_other c.args.depth object _ _ c.members.rest.now _ c.members.invariant.1 c.after_space.result.now c.after_space.ensures c.in-Some-past.next.now fault (sym c.in-Some-past.ensures)
     (ap (item_at inner object) (sym c.after_space-in-Some-past.ensures) ∙ mapped_err _ (item_at inner object c.after_space-in-Some-past.result.now) fault h))) c.in_err-rest-2.ensures
 
@@ -110,7 +110,7 @@ members-members-preserved t c =
     let before = c.args.before.now in
     let now = c.members.self.pairs.items in
     let new = c.member-in-Some-past.new.self.pairs.items in
-    let m = mapped_ok (λ x. now ++ value_fields (before ++ label_text x.0) x.1) (item_at inner object c.after_space-in-Some-past.result.now) new c.in_ok-rest-2.rest.now c.in_ok-rest-2.ensures in (
+    let m = mapped_ok (λ x. now ++ value_fields (before ++ member_name x.0) x.1) (item_at inner object c.after_space-in-Some-past.result.now) new c.in_ok-rest-2.rest.now c.in_ok-rest-2.ensures in (
       search rules,
       goes_on_to c.args.depth object _ _ c.members.rest.now _ c.members.invariant.1 c.after_space.result.now c.after_space.ensures (λ members. new ++ member_fields before members) c.in-Some-past.next.now m.0 c.in_ok-rest-2.rest.now
           (sym c.in-Some-past.ensures) (ap (item_at inner object) (sym c.after_space-in-Some-past.ensures) ∙ m.1) (λ more. member_listed now new before m.0 more m.2),

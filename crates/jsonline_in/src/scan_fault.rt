@@ -1,12 +1,12 @@
 // Where reading stops, before the line that is read is known.
 ghost use Rattle.std.specs.Prelude.{◌≡◌};
-ghost use Rattle.jsonline_in.specs.declared.stop.Stop.TheVariants.{Memory};
+ghost use Rattle.jsonline_in.specs.declared.scan_fault.ScanFault.TheVariants.{Memory};
 
 use std::alloc::AllocError;
 
 /// Why the fields were not all set.
 #[derive(Clone, Copy)]
-pub(crate) enum Stop {
+pub(crate) enum ScanFault {
     /// The 65th bracket would be open.
     TooDeep,
     /// No object goes on so. The bytes from there on are left.
@@ -14,10 +14,10 @@ pub(crate) enum Stop {
     Memory,
 }
 
-impl From<AllocError> for Stop {
+impl From<AllocError> for ScanFault {
     ghost from_gives = { λ _ e. e ≡ Memory };
 
-    fn from(_e: AllocError) -> Stop {
-        Stop::Memory
+    fn from(_e: AllocError) -> ScanFault {
+        ScanFault::Memory
     }
 }

@@ -1,5 +1,0 @@
-use Rattle.jsonline_in.proofs.Cuts.{front_cut}
-use Rattle.jsonline_in.proofs.scan.front.Goals as goal
-
-pub range-requires-clause-end_boundary : goal.range-requires-clause-end_boundary
-range-requires-clause-end_boundary c = front_cut c.args.text.now c.requires.0 c.args.rest.now c.requires.1 c.utf8.rest
