@@ -1,5 +1,6 @@
 pub mod Bytes
 pub mod Faults
+pub mod Change
 pub mod Moments
 pub mod Memory
 pub mod Adapters

@@ -64,13 +64,13 @@ pub record FallsShort (old : Reading) (left_old left_new : Option (List ℕ)) : 
   pub consumed : Consumes left_old left_new piece
   pub fewer : AreFewer old.lines (old.ahead ++ piece)
 
--- All that may be read was read behind the group, but not all lines of another one, and the source gave more.
+-- All that may be read was read behind the group, but not all lines of another one, and the source gave one byte more.
 pub record IsTooLong (old : Reading) (left_old left_new : Option (List ℕ)) : Type 0 where
   pub piece : List ℕ
   pub more : List ℕ
   pub consumed : Consumes left_old left_new (piece ++ more)
   pub all : bytes_read old + length piece ≡ old.limit
-  pub some : 0 < length more
+  pub one : length more ≡ 1
   pub fewer : AreFewer old.lines (old.ahead ++ piece)
 
 -- nothing is left

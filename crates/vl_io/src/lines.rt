@@ -142,7 +142,7 @@ fn read_lines<S: Source>(
     ensures fewer { OnErr result (AreFewer lines bytes.new.items) }
     ensures long { result ≡ Err ReadFault.Long → (vec_len bytes.new ≡ limit) × (piece : List ℕ) × (more : List ℕ)
         × Consumes (S.left source.old) (S.left source.new) (piece ++ more)
-        × (bytes.new.items ≡ bytes.old.items ++ piece) × (0 < length more) }
+        × (bytes.new.items ≡ bytes.old.items ++ piece) × (length more ≡ 1) }
     ensures failed { result ≡ Err ReadFault.Failed
         → Rose (S.faults source.old) (S.faults source.new) }
     ensures faults { S.faults source.old ≤ S.faults source.new }

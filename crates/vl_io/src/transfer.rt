@@ -101,7 +101,7 @@ pub(crate) fn read_piece<S: Source>(
     ensures end { result ≡ Ok false → IsAtEnd (S.left source.new) × (bytes.new.items ≡ bytes.old.items) }
     ensures err { OnErr result (bytes.new.items ≡ bytes.old.items) }
     ensures long { result ≡ Err ReadFault.Long → (vec_len bytes.old ≡ limit)
-        × (more : List ℕ) × Consumes (S.left source.old) (S.left source.new) more × (0 < length more) }
+        × (more : List ℕ) × Consumes (S.left source.old) (S.left source.new) more × (length more ≡ 1) }
     ensures failed { result ≡ Err ReadFault.Failed → Rose (S.faults source.old) (S.faults source.new) }
     ensures faults { S.faults source.old ≤ S.faults source.new }
 {
@@ -121,7 +121,7 @@ fn read_past<S: Source>(source: &mut S, buffer: &mut [u8]) -> Result<bool, ReadF
     ensures end { OnOk result (IsAtEnd (S.left source.new) × Consumes (S.left source.old) (S.left source.new) []) }
     ensures ok { IfOk result (λ more. more ≡ false) }
     ensures long { result ≡ Err ReadFault.Long → (more : List ℕ)
-        × Consumes (S.left source.old) (S.left source.new) more × (0 < length more) }
+        × Consumes (S.left source.old) (S.left source.new) more × (length more ≡ 1) }
     ensures failed { result ≡ Err ReadFault.Failed
         → Rose (S.faults source.old) (S.faults source.new) × (S.left source.new ≡ S.left source.old) }
     ensures free { result ≢ Err ReadFault.Memory }

@@ -1,7 +1,8 @@
-pub mod Intake
+pub mod Groups
+pub mod Interrupt
 pub mod Load
+pub mod Pipe
 pub mod Program
 pub mod Query
 pub mod Run
 pub mod Status
-pub mod Stop

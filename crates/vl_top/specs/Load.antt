@@ -1,28 +1,27 @@
 -- What becomes of an input on its way into the shelf.
-use Rattle.std.specs.Prelude.{◌≡◌, ℕ, ◌+◌, ◌<◌, ◌≤◌, List, [], ◌++◌, length, take, Option, None}
-use Rattle.vl_io.specs.Bytes.{Appends, Consumes, IsAtEnd}
-use Rattle.vl_io.specs.Faults.{Rose}
+use Rattle.std.specs.Prelude.{◌≡◌, ℕ, ◌+◌, ◌<◌, ◌≤◌, List, [], ◌++◌, length}
+use Rattle.vl_io.specs.Change.{Change, IsCut, IsSpent, Gave, Took}
 use Rattle.log_model.specs.Core.{Contents, Stands, held_limit}
-use Rattle.log_model.specs.History.{Numbered, made_by}
-use Rattle.ingest_row.specs.Intake.{Outcome, rows_read}
-use Rattle.vl_top.specs.Intake.{BeginsWith, IsIntake, batch_of, batches_of, outcomes_in, refusals_from}
-use Rattle.vl_top.specs.Program.{CanBeHeld, IsBeyond, input_limit}
+use Rattle.log_model.specs.History.{History, Numbered, batches_in}
 use Rattle.log_model.specs.Row.{Batch, Row, batch_limit, batch_weight}
-use Rattle.vl_top.specs.declared.stop.Limit.{Limit}
-use Rattle.vl_top.specs.declared.stop.Limit.TheVariants.{Long, Large, Full}
-use Rattle.vl_top.specs.declared.stop.Stop.{Stop}
-use Rattle.vl_top.specs.declared.stop.Stop.TheVariants.{Unreadable, Unwritable, Beyond, NoMemory}
-use Rattle.vl_top.specs.Stop.{limit_of}
+use Rattle.ingest_row.specs.Intake.{Outcome, rows_read}
+use Rattle.vl_top.specs.Groups.{BeginsWith, CanBeHeld, HaveOutcomes, batch_of, batches_of, outcomes_in, refusals_from, refusals_of}
+use Rattle.vl_top.specs.Program as model
+use Rattle.vl_top.specs.Program.{StopsBehind, input_limit}
+use Rattle.vl_top.specs.Run.{IsNamingCut}
+use Rattle.vl_top.specs.Interrupt.{limit_of}
+use Rattle.vl_top.specs.declared.interrupt.Limit.{Limit}
+use Rattle.vl_top.specs.declared.interrupt.Limit.TheVariants.{Long, Large, Full}
+use Rattle.vl_top.specs.declared.interrupt.Interrupt.{Interrupt}
+use Rattle.vl_top.specs.declared.interrupt.Interrupt.TheVariants.{Unreadable, Unwritable, Beyond, NoMemory}
 
--- The shelf stands for these batches. None is settled.
+-- The shelf stands for a history of these batches. None is settled.
 pub record IsHeld (held : Contents (List Numbered)) (batches : List Batch) : Type 0 where
-  pub stands : Stands (λ rows. rows) held (made_by None batches)
+  pub history : History
+  pub entered : batches_in history ≡ batches
+  pub stands : Stands (λ rows. rows) held history
   pub settled : held.settled ≡ 0
   pub days : held.days ≡ []
-
--- some front of the text was written
-abbrev pub AppendsFront : Option (List ℕ) → Option (List ℕ) → List ℕ → Type 0
-AppendsFront old new text = (len : ℕ) × Appends old new (take len text)
 
 -- why these rows are not committed
 abbrev pub IsTooMuch : Contents (List Numbered) → List Row → Limit → Type 0
@@ -30,7 +29,7 @@ IsTooMuch held rows Long = ⊥
 IsTooMuch held rows (Large weight) = (weight ≡ batch_weight rows) × (batch_limit < weight)
 IsTooMuch held rows Full = (length held.unsettled ≡ held_limit) × (0 < length rows) × (batch_weight rows ≤ batch_limit)
 
-abbrev pub RefusesRows : Contents (List Numbered) → List Row → Stop → Type 0
+abbrev pub RefusesRows : Contents (List Numbered) → List Row → Interrupt → Type 0
 RefusesRows held rows Unreadable = ⊥
 RefusesRows held rows Unwritable = ⊥
 RefusesRows held rows (Beyond limit) = IsTooMuch held rows limit
@@ -43,49 +42,42 @@ CommitsRows old new rows =
 
 -- a group whose lines have these outcomes was committed
 pub record TakesGroup (now : ℕ) (body : List ℕ) (group : List Outcome) (old new : Contents (List Numbered)) : Type 0 where
-  pub intake : IsIntake now body group
+  pub intake : HaveOutcomes now body group
   pub commits : CommitsRows old new (rows_read group)
 
--- Why the run stops at a group, where so many lines came before, and what was written of the names of its refused lines.
-abbrev pub StopsGroup : ℕ → List ℕ → ℕ → Contents (List Numbered) → Contents (List Numbered) → Option (List ℕ) → Option (List ℕ) → ℕ → ℕ → Stop → Type 0
-StopsGroup now body before old new err_old err_new faults_old faults_new Unreadable = ⊥
-StopsGroup now body before old new err_old err_new faults_old faults_new Unwritable =
-    Rose faults_old faults_new
-    × ((group : List Outcome) × TakesGroup now body group old new × AppendsFront err_old err_new (refusals_from (before + 1) group))
-StopsGroup now body before old new err_old err_new faults_old faults_new (Beyond limit) =
-    (err_new ≡ err_old) × ((group : List Outcome) × IsIntake now body group × IsTooMuch old (rows_read group) limit)
-StopsGroup now body before old new err_old err_new faults_old faults_new NoMemory = err_new ≡ err_old
+-- nothing was written
+abbrev pub IsUntold : Change → Type 0
+IsUntold sink = sink.bytes_after ≡ sink.bytes_before
 
--- The source gave this input, which begins with these groups, and they can be held.
-pub record IsBegun (now : ℕ) (left_old left_new : Option (List ℕ)) (input : List ℕ) (groups : List (List Outcome)) : Type 0 where
-  pub consumed : Consumes left_old left_new input
-  pub begins : BeginsWith now input (IsAtEnd left_new) groups
-  pub fits : CanBeHeld groups
+-- why the run stops at a group, where so many lines came before
+abbrev pub StopsGroup : ℕ → List ℕ → ℕ → Contents (List Numbered) → Contents (List Numbered) → Change → Interrupt → Type 0
+StopsGroup now body before old new errors Unreadable = ⊥
+StopsGroup now body before old new errors Unwritable =
+    (group : List Outcome) × TakesGroup now body group old new × IsCut errors [] (refusals_from (before + 1) group)
+StopsGroup now body before old new errors (Beyond limit) =
+    IsUntold errors × ((group : List Outcome) × HaveOutcomes now body group × IsTooMuch old (rows_read group) limit)
+StopsGroup now body before old new errors NoMemory = IsUntold errors
 
 -- The source gave all its input, the batches of its groups are held, and its refused lines are named.
-pub record IsLoaded (now : ℕ) (left_old left_new : Option (List ℕ)) (held : Contents (List Numbered)) (err_old err_new : Option (List ℕ)) : Type 0 where
-  pub input : List ℕ
+pub record IsLoaded (now : ℕ) (source errors : Change) (held : Contents (List Numbered)) : Type 0 where
   pub groups : List (List Outcome)
-  pub begun : IsBegun now left_old left_new input groups
-  pub ended : IsAtEnd left_new
-  pub within : length input ≤ input_limit
-  pub intake : IsIntake now input (outcomes_in groups)
+  pub begins : BeginsWith now source groups
+  pub all : begins.rest ≡ []
+  pub spent : IsSpent source
+  pub within : length begins.taken ≤ input_limit
+  pub fits : CanBeHeld groups
   pub holding : IsHeld held (batches_of groups)
-  pub named : Appends err_old err_new (refusals_from 1 (outcomes_in groups))
+  pub named : Took errors (refusals_of groups)
 
--- why the run stops while it loads, and what was written of the names of refused lines
-abbrev pub StopsLoad : ℕ → List ℕ → Type 0 → List (List Outcome) → ℕ → ℕ → Option (List ℕ) → Option (List ℕ) → ℕ → ℕ → Stop → Type 0
-StopsLoad now input ended groups source_old source_new err_old err_new faults_old faults_new Unreadable =
-    Rose source_old source_new × Appends err_old err_new (refusals_from 1 (outcomes_in groups))
-StopsLoad now input ended groups source_old source_new err_old err_new faults_old faults_new Unwritable =
-    Rose faults_old faults_new × AppendsFront err_old err_new (refusals_from 1 (outcomes_in groups))
-StopsLoad now input ended groups source_old source_new err_old err_new faults_old faults_new (Beyond limit) =
-    IsBeyond now input ended groups (limit_of limit) × Appends err_old err_new (refusals_from 1 (outcomes_in groups))
-StopsLoad now input ended groups source_old source_new err_old err_new faults_old faults_new NoMemory =
-    Appends err_old err_new (refusals_from 1 (outcomes_in groups))
-
-pub record IsStopped (now : ℕ) (left_old left_new : Option (List ℕ)) (source_old source_new : ℕ) (err_old err_new : Option (List ℕ)) (faults_old faults_new : ℕ) (stop : Stop) : Type 0 where
-  pub input : List ℕ
+-- Groups were taken in and their refused lines named. Then the run stopped, and did not say yet why.
+pub record StopsUntold (now : ℕ) (source errors : Change) (stop : model.Stop) : Type 0 where
   pub groups : List (List Outcome)
-  pub begun : IsBegun now left_old left_new input groups
-  pub stops : StopsLoad now input (IsAtEnd left_new) groups source_old source_new err_old err_new faults_old faults_new stop
+  pub behind : StopsBehind now source groups stop
+  pub named : Took errors (refusals_of groups)
+
+-- why the run stops while it loads
+abbrev pub StopsLoad : ℕ → Change → Change → Interrupt → Type 0
+StopsLoad now source errors Unreadable = StopsUntold now source errors model.unreadable
+StopsLoad now source errors Unwritable = IsNamingCut now source errors
+StopsLoad now source errors (Beyond limit) = StopsUntold now source errors (model.beyond (limit_of limit))
+StopsLoad now source errors NoMemory = StopsUntold now source errors model.no_memory

@@ -1,119 +1,109 @@
--- What one run of the program does to the objects of the outside: the source, the output, the error stream, the clock.
-use Rattle.std.specs.Prelude.{◌≡◌, ◌⊎◌, ℕ, ◌≤◌, List, ◌++◌, length, take, Option, Some}
-use Rattle.vl_io.specs.Bytes.{Appends, Consumes, IsAtEnd}
-use Rattle.vl_io.specs.Faults.{Rose}
+-- What one run of the program does to the objects of the outside.
+use Rattle.std.specs.Prelude.{◌≡◌, ◌⊎◌, ◌↔◌, ℕ, ◌+◌, ◌≤◌, List, [], ◌∷◌, ◌++◌, length, Option, Some, None}
+use Rattle.vl_io.specs.Change.{Change, Gave, HasFailed, IsCut, IsSpent, IsTold, Took}
+use Rattle.vl_io.specs.Lines.{piece_len}
 use Rattle.vl_io.specs.Moments.{FirstTold}
-use Rattle.ingest_row.specs.Intake.{Outcome}
-use Rattle.vl_top.specs.Intake.{outcomes_in, refusals_from}
-use Rattle.vl_top.specs.Program.{CanBeHeld, IsAnswer, IsStop, command_of, status_of, stop_text}
-use Rattle.vl_top.specs.Program as model
 use Rattle.log_model.specs.Query.{Query, query_of}
-use Rattle.vl_top.specs.Load.{AppendsFront, IsBegun, IsStopped}
-use Rattle.vl_top.specs.Stop.{limit_of}
+use Rattle.ingest_row.specs.Intake.{Outcome}
+use Rattle.vl_top.specs.Groups.{BeginsWith, CanBeHeld, outcomes_in, refusals_from, refusals_of}
+use Rattle.vl_top.specs.Status.{number_of}
 use Rattle.vl_top.specs.declared.status.Status.{Status}
-use Rattle.vl_top.specs.declared.status.Status.TheVariants as statuses
-use Rattle.vl_top.specs.declared.stop.Stop.{Stop}
-use Rattle.vl_top.specs.declared.stop.Stop.TheVariants as stops
+use Rattle.vl_top.specs.Program.{Command, pipe, IsAnswer, IsRefused, Limit, Stop, unreadable, beyond, no_memory, StopsBehind, command_of, refused_text, stop_text, usage_text}
 
--- the words ask for this query
-pub record IsQuery (words : List (List ℕ)) (query : Query) : Type 0 where
-  pub text : List ℕ
-  pub is_command : command_of words ≡ Some text
-  pub spelled : query_of text ≡ Some query
+-- a run: what the words are, what it does to each object, what the clock gave before and after, and the status
+pub record Run : Type 0 where
+  pub words : List (List ℕ)
+  pub source : Change
+  pub output : Change
+  pub errors : Change
+  pub moments_before : Option (List ℕ)
+  pub moments_after : Option (List ℕ)
+  pub status : ℕ
 
 -- The source gave an input to its end. The answer to it was written to the output, and its refused lines are named on the
 -- error stream.
-pub record IsAnswered (query : Query) (now : ℕ) (left_old left_new out_old out_new err_old err_new : Option (List ℕ)) : Type 0 where
+pub record IsAnswered (query : Query) (now : ℕ) (source output errors : Change) : Type 0 where
   pub input : List ℕ
   pub answer : List ℕ
   pub refusals : List ℕ
-  pub consumed : Consumes left_old left_new input
-  pub ended : IsAtEnd left_new
+  pub gave : Gave source input
+  pub spent : IsSpent source
   pub answered : IsAnswer query now input answer refusals
-  pub written : Appends out_old out_new answer
-  pub named : Appends err_old err_new refusals
+  pub written : Took output answer
+  pub named : Took errors refusals
 
--- The lines of the first groups are named only up to some place, and there is no answer.
-pub record IsNamingCut (now : ℕ) (left_old left_new out_old out_new err_old err_new : Option (List ℕ)) : Type 0 where
-  pub input : List ℕ
-  pub groups : List (List Outcome)
-  pub begun : IsBegun now left_old left_new input groups
-  pub unanswered : out_new ≡ out_old
-  pub named : AppendsFront err_old err_new (refusals_from 1 (outcomes_in groups))
-
--- all is as in `IsAnswered`, but the answer is written only up to some place
-pub record IsAnswerCut (query : Query) (now : ℕ) (left_old left_new out_old out_new err_old err_new : Option (List ℕ)) : Type 0 where
+-- The same, but the output failed, and took a proper prefix of the answer.
+pub record IsAnswerCut (query : Query) (now : ℕ) (source output errors : Change) : Type 0 where
   pub input : List ℕ
   pub answer : List ℕ
   pub refusals : List ℕ
-  pub consumed : Consumes left_old left_new input
-  pub ended : IsAtEnd left_new
+  pub gave : Gave source input
+  pub spent : IsSpent source
   pub answered : IsAnswer query now input answer refusals
-  pub written : AppendsFront out_old out_new answer
-  pub named : Appends err_old err_new refusals
+  pub written : IsCut output [] answer
+  pub named : Took errors refusals
 
-abbrev pub IsCut : Query → ℕ → Option (List ℕ) → Option (List ℕ) → Option (List ℕ) → Option (List ℕ) → Option (List ℕ) → Option (List ℕ) → Type 0
-IsCut query now left_old left_new out_old out_new err_old err_new =
-    IsNamingCut now left_old left_new out_old out_new err_old err_new ⊎ IsAnswerCut query now left_old left_new out_old out_new err_old err_new
-
--- The text was written, or a front of it and the object's count of faults rose.
-pub record IsSaid (old new : Option (List ℕ)) (faults_old faults_new : ℕ) (text : List ℕ) : Type 0 where
-  pub len : ℕ
-  pub front : Appends old new (take len text)
-  pub whole : (length text ≤ len) ⊎ Rose faults_old faults_new
-
--- The first groups were taken in and their refused lines named. Then the run stopped, and says why.
-pub record IsEnded (now : ℕ) (left_old left_new err_old err_new : Option (List ℕ)) (faults_old faults_new : ℕ) (status : ℕ) : Type 0 where
-  pub input : List ℕ
+-- The error stream failed while the refused lines of a group were named, right after it was taken in.
+pub record IsNamingCut (now : ℕ) (source errors : Change) : Type 0 where
   pub groups : List (List Outcome)
-  pub begun : IsBegun now left_old left_new input groups
-  pub stop : model.Stop
-  pub cause : IsStop now input (IsAtEnd left_new) groups stop
-  pub ends : status ≡ status_of stop
-  pub said : IsSaid err_old err_new faults_old faults_new (refusals_from 1 (outcomes_in groups) ++ stop_text stop)
+  pub group : List Outcome
+  pub begins : BeginsWith now source (groups ++ group ∷ [])
+  pub fits : CanBeHeld (groups ++ group ∷ [])
+  pub short : length begins.rest ≤ piece_len
+  pub named : IsCut errors (refusals_of groups) (refusals_from (length (outcomes_in groups) + 1) group)
 
--- The words ask for a query, the clock's first reading was `now`, and for them this holds.
-pub record ForQuery (words : List (List ℕ)) (moments_old moments_new : Option (List ℕ)) (holds : Query → ℕ → Type 0) : Type 0 where
+-- Groups were taken in and their refused lines named. Then the run stopped, and says why.
+pub record IsStopped (now : ℕ) (source errors : Change) (stop : Stop) : Type 0 where
+  pub groups : List (List Outcome)
+  pub behind : StopsBehind now source groups stop
+  pub said : IsTold errors (refusals_of groups) (stop_text stop)
+
+-- The text is that of a query, the clock's first reading was `now`, and for them this holds.
+pub record ForQuery (run : Run) (text : List ℕ) (holds : Query → ℕ → Type 0) : Type 0 where
   pub query : Query
-  pub asked : IsQuery words query
+  pub spelled : query_of text ≡ Some query
   pub now : ℕ
-  pub first : FirstTold moments_old moments_new now
+  pub first : FirstTold run.moments_before run.moments_after now
   pub facts : holds query now
 
--- What is said of a stop, and the status that it gives. That a stream can't be written to is not said.
-abbrev pub ReportsStop : Option (List ℕ) → Option (List ℕ) → ℕ → ℕ → Stop → Status → Type 0
-ReportsStop old new faults_old faults_new stops.Unwritable status = (status ≡ statuses.WriteFault) × (new ≡ old) × (faults_new ≡ faults_old)
-ReportsStop old new faults_old faults_new stops.Unreadable status =
-    (status ≡ statuses.ReadFault) × IsSaid old new faults_old faults_new (stop_text model.unreadable)
-ReportsStop old new faults_old faults_new (stops.Beyond limit) status =
-    ((status ≡ statuses.Limit) × IsSaid old new faults_old faults_new (stop_text (model.beyond (limit_of limit))))
-    ⊎ ((status ≡ statuses.NoMemory) × IsSaid old new faults_old faults_new (stop_text model.no_memory))
-ReportsStop old new faults_old faults_new stops.NoMemory status =
-    (status ≡ statuses.NoMemory) × IsSaid old new faults_old faults_new (stop_text model.no_memory)
+-- the command did all that it is to do
+abbrev pub IsDone : Run → Command → Type 0
+IsDone run (pipe text) = ForQuery run text (λ query now. IsAnswered query now run.source run.output run.errors)
 
--- Why loading and answering stop, and what was written. `source`, `output` and `stream` say that the counts of faults of the
--- source, the output and the error stream rose.
-abbrev pub StopsPipe : Query → ℕ → Option (List ℕ) → Option (List ℕ) → ℕ → ℕ → Option (List ℕ) → Option (List ℕ) → ℕ → ℕ → Option (List ℕ) → Option (List ℕ) → ℕ → ℕ → Stop → Type 0
-StopsPipe query now left_old left_new source_old source_new out_old out_new output_old output_new err_old err_new stream_old stream_new stops.Unwritable =
-    (Rose output_old output_new ⊎ Rose stream_old stream_new) × IsCut query now left_old left_new out_old out_new err_old err_new
-StopsPipe query now left_old left_new source_old source_new out_old out_new output_old output_new err_old err_new stream_old stream_new stops.Unreadable =
-    IsStopped now left_old left_new source_old source_new err_old err_new stream_old stream_new stops.Unreadable
-StopsPipe query now left_old left_new source_old source_new out_old out_new output_old output_new err_old err_new stream_old stream_new (stops.Beyond limit) =
-    IsStopped now left_old left_new source_old source_new err_old err_new stream_old stream_new (stops.Beyond limit)
-StopsPipe query now left_old left_new source_old source_new out_old out_new output_old output_new err_old err_new stream_old stream_new stops.NoMemory =
-    IsStopped now left_old left_new source_old source_new err_old err_new stream_old stream_new stops.NoMemory
+-- what the command writes was written only up to some place
+abbrev pub IsCutShort : Run → Command → Type 0
+IsCutShort run (pipe text) =
+    ForQuery run text (λ query now. IsAnswerCut query now run.source run.output run.errors ⊎ IsNamingCut now run.source run.errors)
 
--- how a query ends, by its status
-abbrev pub EndsQuery : Query → ℕ → Option (List ℕ) → Option (List ℕ) → ℕ → ℕ → Option (List ℕ) → Option (List ℕ) → ℕ → ℕ → Option (List ℕ) → Option (List ℕ) → ℕ → ℕ → Status → Type 0
-EndsQuery query now left_old left_new source_old source_new out_old out_new output_old output_new err_old err_new stream_old stream_new statuses.Done =
-    IsAnswered query now left_old left_new out_old out_new err_old err_new
-EndsQuery query now left_old left_new source_old source_new out_old out_new output_old output_new err_old err_new stream_old stream_new statuses.QueryRefused = ⊥
-EndsQuery query now left_old left_new source_old source_new out_old out_new output_old output_new err_old err_new stream_old stream_new statuses.Usage = ⊥
-EndsQuery query now left_old left_new source_old source_new out_old out_new output_old output_new err_old err_new stream_old stream_new statuses.ReadFault =
-    Rose source_old source_new × IsEnded now left_old left_new err_old err_new stream_old stream_new 3
-EndsQuery query now left_old left_new source_old source_new out_old out_new output_old output_new err_old err_new stream_old stream_new statuses.WriteFault =
-    (Rose output_old output_new ⊎ Rose stream_old stream_new) × IsCut query now left_old left_new out_old out_new err_old err_new
-EndsQuery query now left_old left_new source_old source_new out_old out_new output_old output_new err_old err_new stream_old stream_new statuses.Limit =
-    IsEnded now left_old left_new err_old err_new stream_old stream_new 8
-EndsQuery query now left_old left_new source_old source_new out_old out_new output_old output_new err_old err_new stream_old stream_new statuses.NoMemory =
-    IsEnded now left_old left_new err_old err_new stream_old stream_new 9
+-- the command stopped for this cause
+abbrev pub HasStopped : Run → Stop → Command → Type 0
+HasStopped run stop (pipe text) = ForQuery run text (λ query now. IsStopped now run.source run.errors stop)
+
+-- the words are a command for which this holds
+abbrev pub ForCommand : Run → (Command → Type 0) → Type 0
+ForCommand run holds = (command : Command) × (command_of run.words ≡ Some command) × holds command
+
+-- the words are a command that is not refused
+abbrev pub IsAsked : Run → Command → Type 0
+IsAsked run (pipe text) = (query : Query) × (query_of text ≡ Some query)
+
+-- the statuses that there are
+abbrev pub IsStatus : ℕ → Type 0
+IsStatus number = (status : Status) × (number ≡ number_of status)
+
+-- What each status says. Want of memory alone, 9, is free.
+pub record IsRun (run : Run) : Type 0 where
+  -- the answer is the naive evaluation of the query over the batches that the input is
+  pub done : run.status ≡ 0 → ForCommand run (IsDone run)
+  pub refused : (run.status ≡ 1) ↔ IsRefused run.words
+  pub usage : (run.status ≡ 2) ↔ (command_of run.words ≡ None)
+  pub read_fault : run.status ≡ 3 → ForCommand run (HasStopped run unreadable)
+  pub write_fault : run.status ≡ 4 → ForCommand run (IsCutShort run)
+  pub limit : run.status ≡ 8 → (limit : Limit) × ForCommand run (HasStopped run (beyond limit))
+  pub memory : run.status ≡ 9 → ForCommand run (HasStopped run no_memory)
+  pub no_other : IsStatus run.status
+  -- where nothing fails, a query is answered, or the input is beyond a limit, or memory runs out
+  pub complete : ForCommand run (IsAsked run) → ¬ HasFailed run.source → ¬ HasFailed run.output → ¬ HasFailed run.errors
+      → (run.status ≡ 0) ⊎ ((run.status ≡ 8) ⊎ (run.status ≡ 9))
+  pub said_refused : run.status ≡ 1 → IsTold run.errors [] refused_text
+  pub said_usage : run.status ≡ 2 → IsTold run.errors [] usage_text

@@ -1,6 +1,7 @@
 ghost use Rattle.std.specs.Prelude.{◌≡◌, ◌++◌, OnOk, IfOk, flat_map};
+ghost use Rattle.std.specs.List.{All};
 ghost use Rattle.log_model.specs.Core.{parts_of};
-ghost use Rattle.log_model.specs.History.{rows_in};
+ghost use Rattle.log_model.specs.History.{AreInOrder, rows_in};
 ghost use Rattle.log_model.specs.Print.{lines_text};
 ghost use Rattle.log_model.specs.Query.{evaluation};
 ghost use Rattle.vl_top.specs.Query.{meaning};
@@ -17,8 +18,9 @@ pub fn snapshot_lines(
     query: &Query,
     snapshot: &Snapshot<RowList>,
 ) -> Result<Vec<u8>, AllocError>
-    ensures { IfOk result (λ text. text.items
+    ensures lines { IfOk result (λ text. text.items
         ≡ lines_text (evaluation (meaning query.now) (flat_map rows_in (parts_of snapshot.now)))) }
+    ensures order { OnOk result (All AreInOrder (parts_of snapshot.now)) }
 {
     let mut printer = Printer::new(alloc)?;
     let mut text = Vec::new(alloc);

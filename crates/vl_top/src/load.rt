@@ -1,14 +1,14 @@
 //! The way of an input into the shelf.
 ghost use Rattle.std.specs.Prelude.{◌≡◌, ◌+◌, ◌^◌, ◌≤◌, ◌<◌, ◌≤ℤ◌, List, [], OnOk, IfErr, length, pos, unsigned_abs};
-ghost use Rattle.ingest_row.specs.Intake.{Outcome};
-ghost use Rattle.vl_top.specs.Intake.{refusals_from};
+ghost use Rattle.vl_io.specs.Change.{Took, change_of};
 ghost use Rattle.log_model.specs.Line.{lines_of};
 ghost use Rattle.log_model.specs.Row.{Batch as Rows, batch_weight};
-ghost use Rattle.vl_io.specs.Bytes.{Appends};
-ghost use Rattle.vl_top.specs.Load.{CommitsRows, IsHeld, IsLoaded, IsStopped, RefusesRows, StopsGroup, TakesGroup};
+ghost use Rattle.ingest_row.specs.Intake.{Outcome};
+ghost use Rattle.vl_top.specs.Groups.{refusals_from};
+ghost use Rattle.vl_top.specs.Load.{CommitsRows, IsHeld, IsLoaded, RefusesRows, StopsGroup, StopsLoad, TakesGroup};
 
 use crate::intake::take_in;
-use crate::stop::{Limit, Stop};
+use crate::interrupt::{Interrupt, Limit};
 use log_core::{CommitFault, Shelf};
 use std::alloc::Global;
 use vl_io::{Failed, GroupReader, Sink, Source, put_all};
@@ -27,14 +27,13 @@ pub fn load<S: Source, E: Sink>(
     src: &mut S,
     err: &mut E,
     shelf: &mut Shelf<RowList>,
-) -> Result<(), Stop>
+) -> Result<(), Interrupt>
     requires moment { pos 0 ≤ℤ now }
     requires fresh { IsHeld shelf.old [] }
-    ensures loaded { OnOk result (IsLoaded (unsigned_abs now) (S.left src.old) (S.left src.new)
-        shelf.new (E.written err.old) (E.written err.new)) }
-    ensures stopped { IfErr result (IsStopped (unsigned_abs now) (S.left src.old) (S.left src.new)
-        (S.faults src.old) (S.faults src.new) (E.written err.old) (E.written err.new)
-        (E.faults err.old) (E.faults err.new)) }
+    ensures loaded { OnOk result (IsLoaded (unsigned_abs now) (change_of S.left S.faults src.old src.new)
+        (change_of E.written E.faults err.old err.new) shelf.new) }
+    ensures stopped { IfErr result (StopsLoad (unsigned_abs now) (change_of S.left S.faults src.old src.new)
+        (change_of E.written E.faults err.old err.new)) }
     ensures faults { E.faults err.old ≤ E.faults err.new }
 {
     let mut reader = GroupReader::of(alloc, GROUP_LINES, INPUT_LIMIT)?;
@@ -54,28 +53,28 @@ fn take_group<E: Sink>(
     lines_before: u64,
     shelf: &mut Shelf<RowList>,
     err: &mut E,
-) -> Result<(), Stop>
+) -> Result<(), Interrupt>
     requires moment { pos 0 ≤ℤ now }
     requires numbers { lines_before + length body.now < 2 ^ 64 }
     requires lines { length (lines_of body.now) ≤ 1000 }
     requires held { (batches : List Rows) × IsHeld shelf.old batches }
     ensures taken { OnOk result ((group : List Outcome)
         × TakesGroup (unsigned_abs now) body.now group shelf.old shelf.new
-        × Appends (E.written err.old) (E.written err.new) (refusals_from (lines_before + 1) group)) }
+        × Took (change_of E.written E.faults err.old err.new) (refusals_from (lines_before + 1) group)) }
     ensures stopped { IfErr result (StopsGroup (unsigned_abs now) body.now lines_before shelf.old shelf.new
-        (E.written err.old) (E.written err.new) (E.faults err.old) (E.faults err.new)) }
+        (change_of E.written E.faults err.old err.new)) }
     ensures faults { E.faults err.old ≤ E.faults err.new }
 {
     let intake = take_in(alloc, now, body, lines_before)?;
     commit_rows(alloc, intake.rows, shelf)?;
     match put_all(err, intake.refusals.as_bytes()) {
         Ok(()) => Ok(()),
-        Err(Failed) => Err(Stop::Unwritable),
+        Err(Failed) => Err(Interrupt::Unwritable),
     }
 }
 
 /// Commits the rows as one batch, if there are any.
-fn commit_rows(alloc: Global, rows: Vec<Row>, shelf: &mut Shelf<RowList>) -> Result<(), Stop>
+fn commit_rows(alloc: Global, rows: Vec<Row>, shelf: &mut Shelf<RowList>) -> Result<(), Interrupt>
     requires held { (batches : List Rows) × IsHeld shelf.old batches }
     requires weight { batch_weight rows.items < 2 ^ 64 }
     ensures committed { OnOk result (CommitsRows shelf.old shelf.new rows.items) }
@@ -84,12 +83,12 @@ fn commit_rows(alloc: Global, rows: Vec<Row>, shelf: &mut Shelf<RowList>) -> Res
     let batch = match Batch::try_of(rows) {
         Ok(batch) => batch,
         Err((BatchFault::NoRows, _)) => return Ok(()),
-        Err((BatchFault::Large { weight }, _)) => return Err(Stop::Beyond(Limit::Large(weight))),
+        Err((BatchFault::Large { weight }, _)) => return Err(Interrupt::Beyond(Limit::Large(weight))),
     };
     match shelf.commit(alloc, RowList::from(batch)) {
         Ok(_) => Ok(()),
-        Err((CommitFault::Full { .. }, _)) => Err(Stop::Beyond(Limit::Full)),
+        Err((CommitFault::Full { .. }, _)) => Err(Interrupt::Beyond(Limit::Full)),
         Err((CommitFault::Spent, _)) => unreachable!(),
-        Err((CommitFault::Memory, _)) => Err(Stop::NoMemory),
+        Err((CommitFault::Memory, _)) => Err(Interrupt::NoMemory),
     }
 }

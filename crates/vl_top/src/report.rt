@@ -1,17 +1,18 @@
 //! What is said on the error stream where a run ends before all is done.
-ghost use Rattle.std.specs.Prelude.{◌≡◌};
+ghost use Rattle.std.specs.Prelude.{◌≡◌, []};
+ghost use Rattle.vl_io.specs.Change.{IsTold, change_of};
 ghost use Rattle.vl_top.specs.Program.{refused_text, usage_text};
-ghost use Rattle.vl_top.specs.Run.{IsSaid, ReportsStop};
+ghost use Rattle.vl_top.specs.Pipe.{ReportsInterrupt};
 
 use crate::status::Status;
-use crate::stop::Stop;
+use crate::interrupt::Interrupt;
 use std::alloc::Global;
 use vl_io::{Sink, put_all};
 
 /// The words are no command.
 pub fn report_usage<E: Sink>(err: &mut E) -> Status
     ensures status { result ≡ Status.Usage }
-    ensures said { IsSaid (E.written err.old) (E.written err.new) (E.faults err.old) (E.faults err.new) usage_text }
+    ensures said { IsTold (change_of E.written E.faults err.old err.new) [] usage_text }
 {
     say(err, "usage: pipe, load, query, trial or serve\n");
     Status::Usage
@@ -20,7 +21,7 @@ pub fn report_usage<E: Sink>(err: &mut E) -> Status
 /// The query is refused.
 pub fn report_refused<E: Sink>(err: &mut E) -> Status
     ensures status { result ≡ Status.QueryRefused }
-    ensures said { IsSaid (E.written err.old) (E.written err.new) (E.faults err.old) (E.faults err.new) refused_text }
+    ensures said { IsTold (change_of E.written E.faults err.old err.new) [] refused_text }
 {
     say(err, "query: NotBuilt\n");
     Status::QueryRefused
@@ -28,37 +29,37 @@ pub fn report_refused<E: Sink>(err: &mut E) -> Status
 
 /// There is no memory.
 pub fn report_no_memory<E: Sink>(err: &mut E) -> Status
-    ensures { ReportsStop (E.written err.old) (E.written err.new) (E.faults err.old) (E.faults err.new) Stop.NoMemory result }
+    ensures { ReportsInterrupt (change_of E.written E.faults err.old err.new) Interrupt.NoMemory result }
 {
     say(err, "no memory\n");
     Status::NoMemory
 }
 
-/// A run stopped. Where there is no memory to say why, that is what is said. That a stream can't be written to is not
+/// A run is interrupted. Where there is no memory to say why, that is what is said. That a stream can't be written to is not
 /// said.
-pub fn report_stop<E: Sink>(alloc: Global, stop: Stop, err: &mut E) -> Status
-    ensures { ReportsStop (E.written err.old) (E.written err.new) (E.faults err.old) (E.faults err.new) stop result }
+pub fn report_interrupt<E: Sink>(alloc: Global, interrupt: Interrupt, err: &mut E) -> Status
+    ensures { ReportsInterrupt (change_of E.written E.faults err.old err.new) interrupt result }
 {
-    match stop {
-        Stop::Unwritable => Status::WriteFault,
-        Stop::Unreadable => {
+    match interrupt {
+        Interrupt::Unwritable => Status::WriteFault,
+        Interrupt::Unreadable => {
             say(err, "read fault\n");
             Status::ReadFault
         }
-        Stop::Beyond(limit) => match limit.text(alloc) {
+        Interrupt::Beyond(limit) => match limit.text(alloc) {
             Ok(text) => {
                 say(err, text.as_str());
                 Status::Limit
             }
             Err(_) => report_no_memory(err),
         },
-        Stop::NoMemory => report_no_memory(err),
+        Interrupt::NoMemory => report_no_memory(err),
     }
 }
 
 /// Writes the text to the error stream, as far as that takes it.
 fn say<E: Sink>(err: &mut E, text: &str)
-    ensures { IsSaid (E.written err.old) (E.written err.new) (E.faults err.old) (E.faults err.new) text.now }
+    ensures { IsTold (change_of E.written E.faults err.old err.new) [] text.now }
 {
     let _ = put_all(err, text.as_bytes());
 }

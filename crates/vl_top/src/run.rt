@@ -1,19 +1,17 @@
-ghost use Rattle.std.specs.Prelude.{◌≡◌, ◌≢◌, ◌⊎◌, ◌↔◌, ◌≤◌, ◌≤ℤ◌, ℕ, OnOk, IfErr, None, map, pos, unsigned_abs};
+ghost use Rattle.std.specs.Prelude.{◌≡◌, ◌≢◌, ◌⊎◌, ◌≤◌, ◌≤ℤ◌, ℕ, OnOk, IfErr, map, pos, unsigned_abs};
+ghost use Rattle.vl_io.specs.Change.{change_of};
 ghost use Rattle.vl_io.specs.Moments.{FirstTold};
-ghost use Rattle.vl_io.specs.Faults.{Rose};
-ghost use Rattle.vl_top.specs.Program.{command_of, IsRefused, refused_text, usage_text};
-ghost use Rattle.log_model.specs.Query.{Query as Asked};
+ghost use Rattle.vl_top.specs.Pipe.{EndsPipe, StopsPipe};
 ghost use Rattle.vl_top.specs.Query.{meaning};
-ghost use Rattle.vl_top.specs.Run.{EndsQuery, ForQuery, IsAnswered, IsCut, IsEnded, IsQuery, IsSaid, StopsPipe};
-ghost use Rattle.vl_top.specs.Status.{number_of};
+ghost use Rattle.vl_top.specs.Run.{IsAnswered, IsRun};
 
 use crate::answer::snapshot_lines;
 use crate::command::query_text;
+use crate::interrupt::Interrupt;
 use crate::load::load;
 use crate::query::Query;
-use crate::report::{report_refused, report_stop, report_usage};
+use crate::report::{report_interrupt, report_refused, report_usage};
 use crate::status::Status;
-use crate::stop::Stop;
 use log_core::Shelf;
 use std::alloc::Global;
 use vl_io::{Clock, Failed, Sink, Source, put_all};
@@ -30,45 +28,21 @@ pub fn run<R: AllocGlobal, S: Source, O: Sink, E: Sink, C: Clock>(
     err: &mut E,
     clock: &mut C,
 ) -> u8
-    // The answer is the naive evaluation of the query over the batches that the input is.
-    ensures done { result ≡ 0 → ForQuery (map (λ word. word.now) words.now) (C.moments clock.old) (C.moments clock.new)
-        (λ query now. IsAnswered query now (S.left src.old) (S.left src.new)
-        (O.written out.old) (O.written out.new) (E.written err.old) (E.written err.new)) }
+    // What each status says: the answer of 0, and the cause of each other one.
+    ensures run { IsRun (record {
+      words = map (λ word. word.now) words.now;
+      source = change_of S.left S.faults src.old src.new;
+      output = change_of O.written O.faults out.old out.new;
+      errors = change_of E.written E.faults err.old err.new;
+      moments_before = C.moments clock.old;
+      moments_after = C.moments clock.new;
+      status = result;
+    }) }
 
-    // Each other status has its cause. Want of memory alone, 9, is free.
-    ensures refused { (result ≡ 1) ↔ IsRefused (map (λ word. word.now) words.now) }
-    ensures usage { (result ≡ 2) ↔ (command_of (map (λ word. word.now) words.now) ≡ None) }
-    ensures read_fault { result ≡ 3 → Rose (S.faults src.old) (S.faults src.new) }
-    ensures write_fault { result ≡ 4
-        → Rose (O.faults out.old) (O.faults out.new) ⊎ Rose (E.faults err.old) (E.faults err.new) }
-    ensures cut { result ≡ 4 → ForQuery (map (λ word. word.now) words.now) (C.moments clock.old) (C.moments clock.new)
-        (λ query now. IsCut query now (S.left src.old) (S.left src.new)
-        (O.written out.old) (O.written out.new) (E.written err.old) (E.written err.new)) }
-    ensures unreadable { result ≡ 3 → ForQuery (map (λ word. word.now) words.now) (C.moments clock.old) (C.moments clock.new)
-        (λ query now. IsEnded now (S.left src.old) (S.left src.new)
-        (E.written err.old) (E.written err.new) (E.faults err.old) (E.faults err.new) 3) }
-    ensures limit { result ≡ 8 → ForQuery (map (λ word. word.now) words.now) (C.moments clock.old) (C.moments clock.new)
-        (λ query now. IsEnded now (S.left src.old) (S.left src.new)
-        (E.written err.old) (E.written err.new) (E.faults err.old) (E.faults err.new) 8) }
-    ensures no_memory { result ≡ 9 → ForQuery (map (λ word. word.now) words.now) (C.moments clock.old) (C.moments clock.new)
-        (λ query now. IsEnded now (S.left src.old) (S.left src.new)
-        (E.written err.old) (E.written err.new) (E.faults err.old) (E.faults err.new) 9) }
-    ensures no_other { (status : Status) × (result ≡ number_of status) }
-
-    // Where nothing fails, a query is answered, or the input is beyond a limit, or memory runs out.
-    ensures complete { (query : Asked) → IsQuery (map (λ word. word.now) words.now) query
-        → ¬ Rose (S.faults src.old) (S.faults src.new) → ¬ Rose (O.faults out.old) (O.faults out.new)
-        → ¬ Rose (E.faults err.old) (E.faults err.new)
-        → (result ≡ 0) ⊎ ((result ≡ 8) ⊎ (result ≡ 9)) }
-
-    // A refused query or command is refused before anything is read.
+    // What is refused is refused before anything is read.
     ensures unread { (result ≡ 1) ⊎ (result ≡ 2) → src.new ≡ src.old }
-    ensures said_refused { result ≡ 1 → IsSaid
-        (E.written err.old) (E.written err.new) (E.faults err.old) (E.faults err.new) refused_text }
-    ensures said_usage { result ≡ 2 → IsSaid
-        (E.written err.old) (E.written err.new) (E.faults err.old) (E.faults err.new) usage_text }
 
-    // Where it is not done, nothing was written to the output.
+    // Only an answer is written to the output.
     ensures untouched { result ≢ 0 → result ≢ 4 → out.new ≡ out.old }
 {
     let Some(text) = query_text(words) else {
@@ -90,15 +64,14 @@ fn answer<S: Source, O: Sink, E: Sink, C: Clock>(
     clock: &mut C,
 ) -> Status
     ensures ends { (now : ℕ) × FirstTold (C.moments clock.old) (C.moments clock.new) now
-        × EndsQuery (meaning query.now) now (S.left src.old) (S.left src.new) (S.faults src.old) (S.faults src.new)
-        (O.written out.old) (O.written out.new) (O.faults out.old) (O.faults out.new)
-        (E.written err.old) (E.written err.new) (E.faults err.old) (E.faults err.new) result }
+        × EndsPipe (meaning query.now) now (change_of S.left S.faults src.old src.new)
+        (change_of O.written O.faults out.old out.new) (change_of E.written E.faults err.old err.new) result }
     ensures untouched { result ≢ Status.Done → result ≢ Status.WriteFault → out.new ≡ out.old }
 {
     let now = clock.now();
     match pipe(alloc, query, now, src, out, err) {
         Ok(()) => Status::Done,
-        Err(stop) => report_stop(alloc, stop, err),
+        Err(interrupt) => report_interrupt(alloc, interrupt, err),
     }
 }
 
@@ -110,14 +83,15 @@ fn pipe<S: Source, O: Sink, E: Sink>(
     src: &mut S,
     out: &mut O,
     err: &mut E,
-) -> Result<(), Stop>
+) -> Result<(), Interrupt>
     requires { pos 0 ≤ℤ now }
-    ensures done { OnOk result (IsAnswered (meaning query.now) (unsigned_abs now) (S.left src.old) (S.left src.new)
-        (O.written out.old) (O.written out.new) (E.written err.old) (E.written err.new)) }
-    ensures stopped { IfErr result (StopsPipe (meaning query.now) (unsigned_abs now) (S.left src.old) (S.left src.new)
-        (S.faults src.old) (S.faults src.new) (O.written out.old) (O.written out.new) (O.faults out.old) (O.faults out.new)
-        (E.written err.old) (E.written err.new) (E.faults err.old) (E.faults err.new)) }
-    ensures untouched { IfErr result (λ stop. stop ≢ Stop.Unwritable → out.new ≡ out.old) }
+    ensures done { OnOk result (IsAnswered (meaning query.now) (unsigned_abs now)
+        (change_of S.left S.faults src.old src.new) (change_of O.written O.faults out.old out.new)
+        (change_of E.written E.faults err.old err.new)) }
+    ensures stopped { IfErr result (StopsPipe (meaning query.now) (unsigned_abs now)
+        (change_of S.left S.faults src.old src.new) (change_of O.written O.faults out.old out.new)
+        (change_of E.written E.faults err.old err.new)) }
+    ensures untouched { IfErr result (λ interrupt. interrupt ≢ Interrupt.Unwritable → out.new ≡ out.old) }
     ensures faults { E.faults err.old ≤ E.faults err.new }
 {
     let mut shelf = Shelf::fresh(alloc)?;
@@ -125,6 +99,6 @@ fn pipe<S: Source, O: Sink, E: Sink>(
     let lines = snapshot_lines(alloc, query, &shelf.look()?)?;
     match put_all(out, lines.as_slice()) {
         Ok(()) => Ok(()),
-        Err(Failed) => Err(Stop::Unwritable),
+        Err(Failed) => Err(Interrupt::Unwritable),
     }
 }

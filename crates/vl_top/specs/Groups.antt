@@ -1,23 +1,24 @@
 -- What an input of the program gives: rows, in batches, and the names of its refused lines.
 use Rattle.std.specs.Prelude.{◌≡◌, ◌⊎◌, ℕ, ◌+◌, pos, ◌<◌, ◌≤◌, List, [], ◌∷◌, ◌++◌, length, flat_map, codes, decimal, string_bytes}
-use Rattle.std.specs.List.{AllZip}
+use Rattle.std.specs.List.{AllByRecursion, AllZip}
+use Rattle.vl_io.specs.Change.{Change, Gave, IsSpent}
+use Rattle.log_model.specs.Core.{held_limit}
 use Rattle.log_model.specs.Line.{lines_of}
-use Rattle.log_model.specs.Row.{Row, Batch}
+use Rattle.log_model.specs.Row.{Row, Batch, batch_limit, batch_weight}
 use Rattle.ingest_row.specs.Ingest.{plain}
-use Rattle.ingest_row.specs.Intake as body
-use Rattle.ingest_row.specs.Intake.{Outcome, refused_from, rows_read}
+use Rattle.ingest_row.specs.Intake.{Outcome, Gives, refused_from, rows_read}
 use Rattle.ingest_row.specs.Refusal.{kind_text}
 use Rattle.ingest_row.specs.declared.body.LineFault.{LineFault}
 use Rattle.ingest_row.specs.declared.kind.LineKind.{LineKind}
 use Rattle.vl_top.specs.declared.intake.Group.{Group}
 
 -- what becomes of a line that comes in at the moment `now`, with nothing else asked for
-abbrev pub Gives : ℕ → List ℕ → Outcome → Type 0
-Gives now line outcome = body.Gives plain (pos now) line outcome
+abbrev pub HasOutcome : ℕ → List ℕ → Outcome → Type 0
+HasOutcome now line outcome = Gives plain (pos now) line outcome
 
 -- each line of the input has its outcome, in order
-abbrev pub IsIntake : ℕ → List ℕ → List Outcome → Type 0
-IsIntake now input outcomes = AllZip (Gives now) (lines_of input) outcomes
+abbrev pub HaveOutcomes : ℕ → List ℕ → List Outcome → Type 0
+HaveOutcomes now input outcomes = AllZip (HasOutcome now) (lines_of input) outcomes
 
 -- names the line with this number
 abbrev pub refusal_text : ℕ → LineKind → List ℕ
@@ -36,6 +37,10 @@ AreGroups (group ∷ groups) over =
 abbrev pub outcomes_in : List (List Outcome) → List Outcome
 outcomes_in groups = flat_map (λ group. group) groups
 
+-- names the refused lines of the groups
+abbrev pub refusals_of : List (List Outcome) → List ℕ
+refusals_of groups = refusals_from 1 (outcomes_in groups)
+
 -- rows that came together are one batch, if there are any
 abbrev pub batch_of : List Row → List Batch
 batch_of [] = []
@@ -45,13 +50,24 @@ batch_of (row ∷ rows) = (row ∷ rows) ∷ []
 abbrev pub batches_of : List (List Outcome) → List Batch
 batches_of groups = flat_map (λ group. batch_of (rows_read group)) groups
 
--- The first lines of the input have these outcomes, in groups. `ended` says that no more input comes.
-pub record BeginsWith (now : ℕ) (input : List ℕ) (ended : Type 0) (groups : List (List Outcome)) : Type 0 where
-  pub lines : List (List ℕ)
-  pub later : List (List ℕ)
-  pub cut : lines_of input ≡ lines ++ later
-  pub given : AllZip (Gives now) lines (outcomes_in groups)
-  pub grouped : AreGroups groups (later ≡ [] × ended)
+-- the batches of these groups can be held
+pub record CanBeHeld (groups : List (List Outcome)) : Type 0 where
+  pub few : length (batches_of groups) ≤ held_limit
+  pub light : AllByRecursion (λ group. batch_weight (rows_read group) ≤ batch_limit) groups
+
+-- nothing, or whole lines
+abbrev pub EndsLine : List ℕ → Type 0
+EndsLine bytes = (bytes ≡ []) ⊎ ((text : List ℕ) × (bytes ≡ text ++ 10 ∷ []))
+
+-- The source gave the lines of these groups first. They are whole: only the last one of an input may lack its line feed.
+pub record BeginsWith (now : ℕ) (source : Change) (groups : List (List Outcome)) : Type 0 where
+  pub taken : List ℕ
+  -- what it gave behind them
+  pub rest : List ℕ
+  pub gave : Gave source (taken ++ rest)
+  pub whole : EndsLine taken ⊎ ((rest ≡ []) × IsSpent source)
+  pub given : HaveOutcomes now taken (outcomes_in groups)
+  pub grouped : AreGroups groups ((rest ≡ []) × IsSpent source)
 
 -- the names of these lines, where so many came before
 abbrev pub names_after : ℕ → List LineFault → List ℕ
@@ -60,6 +76,6 @@ names_after before faults = flat_map (λ fault. refusal_text (before + fault.lin
 -- The lines of a group have these outcomes. These are its rows, and the text that names its refused lines, where so many
 -- lines came before.
 pub record IsTaken (now : ℕ) (body : List ℕ) (before : ℕ) (outcomes : List Outcome) (group : Group) : Type 0 where
-  pub given : IsIntake now body outcomes
+  pub given : HaveOutcomes now body outcomes
   pub rows : group.rows.items ≡ rows_read outcomes
   pub refusals : string_bytes group.refusals ≡ refusals_from (before + 1) outcomes

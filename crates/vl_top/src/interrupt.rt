@@ -16,7 +16,7 @@ pub enum Limit {
 }
 
 impl Limit {
-    ghost use Rattle.vl_top.specs.Stop.{limit_of};
+    ghost use Rattle.vl_top.specs.Interrupt.{limit_of};
 
     /// What is said of it on the error stream.
     pub fn text(self, alloc: Global) -> Result<String, AllocError>
@@ -32,7 +32,7 @@ impl Limit {
 
 /// Why a run ends before all is done.
 #[derive(Clone, Copy, Debug, PartialEq, Eq)]
-pub enum Stop {
+pub enum Interrupt {
     /// The source failed.
     Unreadable,
     /// The output or the error stream failed.
@@ -43,26 +43,26 @@ pub enum Stop {
     NoMemory,
 }
 
-impl From<AllocError> for Stop {
-    ghost use Rattle.vl_top.specs.declared.stop.Stop.TheVariants.{NoMemory};
+impl From<AllocError> for Interrupt {
+    ghost use Rattle.vl_top.specs.declared.interrupt.Interrupt.TheVariants.{NoMemory};
 
-    ghost from_gives = { λ _ stop. stop ≡ NoMemory };
+    ghost from_gives = { λ _ interrupt. interrupt ≡ NoMemory };
 
-    fn from(_: AllocError) -> Stop {
-        Stop::NoMemory
+    fn from(_: AllocError) -> Interrupt {
+        Interrupt::NoMemory
     }
 }
 
-impl From<ReadFault> for Stop {
-    ghost use Rattle.vl_top.specs.Stop.{stop_at};
+impl From<ReadFault> for Interrupt {
+    ghost use Rattle.vl_top.specs.Interrupt.{interrupt_at};
 
-    ghost from_gives = { λ fault stop. stop ≡ stop_at fault };
+    ghost from_gives = { λ fault interrupt. interrupt ≡ interrupt_at fault };
 
-    fn from(fault: ReadFault) -> Stop {
+    fn from(fault: ReadFault) -> Interrupt {
         match fault {
-            ReadFault::Failed => Stop::Unreadable,
-            ReadFault::Long => Stop::Beyond(Limit::Long),
-            ReadFault::Memory => Stop::NoMemory,
+            ReadFault::Failed => Interrupt::Unreadable,
+            ReadFault::Long => Interrupt::Beyond(Limit::Long),
+            ReadFault::Memory => Interrupt::NoMemory,
         }
     }
 }
