@@ -1,5 +1,6 @@
 -- How a line of JSON becomes a row (VictoriaLogs, "Data ingestion": HTTP parameters).
-use Rattle.std.specs.Prelude.{◌≡◌, ◌⊎◌, ℕ, ℤ, Bool, ◌≤◌, ◌||◌, List, [], ◌∷◌, length, filter, fold, bytes_eq, codes, unsigned_abs, None, not, IsTrue, IsFalse, if◌then◌else◌}
+use Rattle.std.specs.Prelude.{◌≡◌, ◌⊎◌, ℕ, ℤ, Bool, ◌≤◌, ◌||◌, List, [], ◌∷◌, length, filter, fold, bytes_eq, codes}
+use Rattle.std.specs.Prelude.{unsigned_abs, None, not, IsTrue, IsFalse, if◌then◌else◌}
 use Rattle.log_model.specs.Field.{Field, is_empty, field_value, set_field, set_all, without}
 use Rattle.log_model.specs.Row.{Row}
 use Rattle.log_model.specs.MomentText.{SpellsMoment, IsMomentInRange}
@@ -41,7 +42,8 @@ says_now text = is_empty text || bytes_eq text (codes "0")
 
 -- the moment of a row whose line has this text for it and came in at the moment `now`
 abbrev pub IsTimeOf : ℤ → List ℕ → ℤ → Type 0
-IsTimeOf now text time = (IsTrue (says_now text) × (time ≡ now)) ⊎ (IsFalse (says_now text) × SpellsMoment text time × IsMomentInRange time)
+IsTimeOf now text time =
+    (IsTrue (says_now text) × (time ≡ now)) ⊎ (IsFalse (says_now text) × SpellsMoment text time × IsMomentInRange time)
 
 -- the field of this name becomes the message
 abbrev pub moved : List Field → List ℕ → List Field
@@ -66,7 +68,8 @@ row_fields options fields = completed options (kept options fields)
 
 -- the row of this moment and these fields, whose labels are those with these names
 abbrev pub row_at : List (List ℕ) → ℤ → List Field → Row
-row_at names time fields = record { moment = unsigned_abs time; labels = labels_of names fields; fields = stored fields }
+row_at names time fields =
+    record { moment = unsigned_abs time; labels = labels_of names fields; fields = stored fields }
 
 -- the row that these fields make, of a line that came in at the moment `now`
 pub record IsRowOf (options : Options) (now : ℤ) (fields : List Field) (row : Row) : Type 0 where
@@ -75,8 +78,8 @@ pub record IsRowOf (options : Options) (now : ℤ) (fields : List Field) (row : 
   pub faultless : row_fault time (row_fields options fields) ≡ None
   pub is_row : row ≡ row_at options.stream_fields time (row_fields options fields)
 
--- The line is not too long, and an object that says these fields. Of members with one name the later counts, and an empty
--- value is a missing field.
+-- The line is not too long, and an object that says these fields. Of members with one name the later counts, and an
+-- empty value is a missing field.
 pub record Says (line : List ℕ) (fields : List Field) : Type 0 where
   pub short : length line ≤ 1_048_576
   pub members : List Field

@@ -7,7 +7,9 @@ use Rattle.jsonline_in.specs.Faults.{IsFault}
 use Rattle.jsonline_in.specs.declared.fault.JsonFault.TheVariants as json
 use Rattle.ingest_row.specs.Ingest.{Options, Says, IsTimeOf, time_text, row_fields}
 use Rattle.ingest_row.specs.declared.kind.LineKind.{LineKind}
-use Rattle.ingest_row.specs.declared.kind.LineKind.TheVariants.{LineLong, NotUtf8, NotObject, TooDeep, NotJson, BadTime, NameLong, ManyFields, RowLarge, Empty, Memory}
+use Rattle.ingest_row.specs.declared.kind.LineKind.TheVariants.{LineLong, NotUtf8, NotObject, TooDeep, NotJson}
+use Rattle.ingest_row.specs.declared.kind.LineKind.TheVariants.{BadTime, NameLong, ManyFields, RowLarge, Empty}
+use Rattle.ingest_row.specs.declared.kind.LineKind.TheVariants.{Memory}
 
 abbrev pub IsShort : List ℕ → Type 0
 IsShort line = length line ≤ 1_048_576
@@ -43,7 +45,8 @@ pub record HasRowFault (kind : LineKind) (options : Options) (now : ℤ) (fields
 
 -- what keeps the fields from being a row
 abbrev pub IsFieldsFault : LineKind → Options → ℤ → List Field → Type 0
-IsFieldsFault kind options now fields = ((kind ≡ BadTime) × SaysNoTime options now fields) ⊎ HasRowFault kind options now fields
+IsFieldsFault kind options now fields =
+    ((kind ≡ BadTime) × SaysNoTime options now fields) ⊎ HasRowFault kind options now fields
 
 -- The line says no fields, or such as make no row. That memory ran out says nothing of it.
 abbrev pub IsRefused : LineKind → Options → ℤ → List ℕ → Type 0

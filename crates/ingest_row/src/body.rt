@@ -1,13 +1,13 @@
 //! From a body to its rows, and to the lines that are none.
 ghost use Rattle.std.specs.Prelude.{◌≡◌, ◌≤ℤ◌, [], ◌∷◌, ◌++◌, List, pos, IfOk, OnOk};
-ghost use Rattle.ingest_row.specs.Intake.{Gives, IsTaken, Outcome as Fate, outcome_of, refused_from, rows_read};
+ghost use Rattle.ingest_row.specs.Intake.{IsOutcome, IsTaken, Outcome, outcome_of, refused_from, rows_read};
 
 use crate::kind::LineKind;
 use crate::line::{ROOM, row_with_room};
 use crate::lines::{is_blank, next_line};
 use crate::options::Options;
 use std::alloc::{AllocError, Global};
-use vl_row::Row;
+use vl_row::{Items, Row};
 
 /// A line that gives no row: its number, counted from 1, and why.
 #[derive(Clone, Copy, Debug, PartialEq, Eq)]
@@ -19,13 +19,13 @@ pub struct LineFault {
 /// The rows of a body, and the lines that gave none, both in their order.
 #[derive(Drop)]
 pub struct Intake {
-    pub rows: Vec<Row>,
-    pub refused: Vec<LineFault>,
+    pub rows: Items<Row>,
+    pub refused: Items<LineFault>,
 }
 
 /// What becomes of a line.
 #[derive(Drop)]
-enum Outcome {
+enum LineOutcome {
     PassedOver,
     Read(Row),
     Refused(LineKind),
@@ -33,27 +33,29 @@ enum Outcome {
 
 impl Intake {
     fn new(alloc: Global) -> Intake
-        ensures rows { result.rows.items ≡ [] }
-        ensures refused { result.refused.items ≡ [] }
+        ensures rows { result.rows ≡ [] }
+        ensures refused { result.refused ≡ [] }
     {
         Intake {
-            rows: Vec::new(alloc),
-            refused: Vec::new(alloc),
+            rows: Items::of(Vec::new(alloc)),
+            refused: Items::of(Vec::new(alloc)),
         }
     }
 
     /// Takes in what became of the line with this number.
-    fn add(&mut self, number: u64, outcome: Outcome) -> Result<(), AllocError>
-        ensures rows { OnOk result (self.new.rows.items ≡ self.old.rows.items ++ rows_read (outcome_of outcome ∷ [])) }
-        ensures refused { OnOk result (self.new.refused.items
-            ≡ self.old.refused.items ++ refused_from number (outcome_of outcome ∷ [])) }
+    fn add(&mut self, number: u64, outcome: LineOutcome) -> Result<(), AllocError>
+        ensures rows { OnOk result (self.new.rows ≡ self.old.rows ++ rows_read (outcome_of outcome ∷ [])) }
+        ensures refused { OnOk result (self.new.refused
+            ≡ self.old.refused ++ refused_from number (outcome_of outcome ∷ [])) }
     {
         match outcome {
-            Outcome::PassedOver => {}
-            Outcome::Read(row) => self.rows.push(row)?,
-            Outcome::Refused(kind) => self.refused.push(LineFault { line: number, kind })?,
+            LineOutcome::PassedOver => Ok(()),
+            LineOutcome::Read(row) => self.rows.push(row).map_err(|refused| refused.0),
+            LineOutcome::Refused(kind) => {
+                let fault = LineFault { line: number, kind };
+                self.refused.push(fault).map_err(|refused| refused.0)
+            }
         }
-        Ok(())
     }
 }
 
@@ -64,17 +66,17 @@ fn read_line(
     now: i64,
     line: &[u8],
     room: usize,
-) -> Result<Outcome, AllocError>
+) -> Result<LineOutcome, AllocError>
     requires { pos 0 ≤ℤ now }
-    ensures { IfOk result (λ outcome. Gives o.now now line.now (outcome_of outcome)) }
+    ensures { IfOk result (λ outcome. IsOutcome o.now now line.now (outcome_of outcome)) }
 {
     if is_blank(line) {
-        return Ok(Outcome::PassedOver);
+        return Ok(LineOutcome::PassedOver);
     }
     match row_with_room(alloc, o, now, line, room) {
-        Ok(row) => Ok(Outcome::Read(row)),
+        Ok(row) => Ok(LineOutcome::Read(row)),
         Err(kind) if kind == LineKind::Memory => Err(AllocError),
-        Err(kind) => Ok(Outcome::Refused(kind)),
+        Err(kind) => Ok(LineOutcome::Refused(kind)),
     }
 }
 
@@ -87,7 +89,7 @@ pub fn batch_of_body(
     body: &[u8],
 ) -> Result<Intake, AllocError>
     requires { pos 0 ≤ℤ now }
-    ensures { IfOk result (λ intake. (outcomes : List Fate) × IsTaken o.now now body.now outcomes intake) }
+    ensures { IfOk result (λ intake. (outcomes : List Outcome) × IsTaken o.now now body.now outcomes intake) }
 {
     let mut intake = Intake::new(alloc);
     let mut number = 0;
@@ -96,7 +98,7 @@ pub fn batch_of_body(
     while let Some((line, after)) = next_line(rest) {
         number += 1;
         let outcome = read_line(alloc, o, now, line, room)?;
-        if let Outcome::Read(row) = &outcome {
+        if let LineOutcome::Read(row) = &outcome {
             // The field of the moment is no field of the row.
             room = row.fields().len() + 1;
         }

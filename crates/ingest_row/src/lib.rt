@@ -1,4 +1,5 @@
-//! Lines of JSON as rows: which fields they have, when they were, what their message is, and to which stream they belong.
+//! Lines of JSON as rows: which fields they have, when they were, what their message is, and to which stream they
+//! belong.
 #![tactic(auto)]
 
 mod body;

@@ -4,7 +4,8 @@ ghost use Rattle.std.specs.List.{list_all};
 ghost use Rattle.log_model.specs.Field.{Field as Pair, field_value, set_all, without};
 ghost use Rattle.log_model.specs.Row.{Row as Event};
 ghost use Rattle.vl_row.specs.Faults.{row_fault};
-ghost use Rattle.ingest_row.specs.Ingest.{IsRowOf, IsRowOfLine, IsTimeOf, Says, completed, is_named, moved, row_at, says_now, with_message};
+ghost use Rattle.ingest_row.specs.Ingest.{IsRowOf, IsRowOfLine, IsTimeOf, Says, completed, is_named, moved, row_at};
+ghost use Rattle.ingest_row.specs.Ingest.{says_now, with_message};
 ghost use Rattle.ingest_row.specs.Refusal.{IsRefused, IsFieldsFault, IsLineFault, IsRowFault};
 
 use crate::kind::LineKind;
@@ -20,9 +21,10 @@ const LINE_LIMIT: usize = 1_048_576;
 /// How many fields are expected of a line.
 pub(crate) const ROOM: usize = 16;
 
-/// The row of a line that came in at the moment `now`, in nanoseconds since 1970. The line is one object of JSON. What is
-/// ignored is left out, then the field of the moment, which says it as text; the message is moved to its name, and
-/// what is to be added is set.
+/// The row of a line that came in at the moment `now`, in nanoseconds since 1970. The line is one object of JSON.
+///
+/// Fields that are ignored are left out. The field of the moment is taken out; where it is missing, empty or `0`, the
+/// moment is `now`. The message is moved to its name, and what is to be added is set.
 pub fn row_of_line(alloc: Global, o: &Options, now: i64, line: &[u8]) -> Result<Row, LineKind>
     requires { pos 0 ≤ℤ now }
     ensures read { IfOk result (λ row. IsRowOfLine o.now now line.now row) }

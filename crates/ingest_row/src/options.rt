@@ -12,7 +12,7 @@ use vl_row::{Field, Items, Text};
 #[derive(Drop)]
 pub struct Options {
     pub(crate) stream_fields: Items<Text>,
-    /// `_time`, unless another name is given.
+    /// `_time`, unless another name is given, be it empty.
     pub(crate) time_field: Option<Text>,
     pub(crate) message_fields: Items<Text>,
     pub(crate) ignored_fields: Items<Text>,
@@ -58,7 +58,7 @@ impl Options {
         self.stream_fields.as_slice()
     }
 
-    /// The name of the field that says a row's moment.
+    /// The name of the field that says a row's moment. Where it is empty, no line has that field.
     pub fn time_field(&self) -> &str
         ensures { result.now ≡ self.now.time_field }
     {

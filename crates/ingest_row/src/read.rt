@@ -1,7 +1,6 @@
 //! From the arguments of a request to what they ask for.
-ghost use Rattle.std.specs.Prelude.{◌≡◌, map, unwrap_or, codes, IfOk, IfErr, Some, None};
-ghost use Rattle.log_model.specs.Field.{field_value};
-ghost use Rattle.ingest_row.specs.Asked.{extra_of, extras_of, options_of, pieces, time_field_of};
+ghost use Rattle.std.specs.Prelude.{◌≡◌, map, option_map, IfOk, IfErr, Some, None};
+ghost use Rattle.ingest_row.specs.Asked.{argument, extra_of, extras_of, list_argument, options_of, pieces};
 
 use crate::fault::OptionFault;
 use crate::options::Options;
@@ -11,7 +10,8 @@ use vl_row::{Field, Items, Text};
 impl Options {
     /// What the arguments of a request ask for. `_stream_fields`, `_msg_field`, `ignore_fields` and `extra_fields` are
     /// lists: they are cut at commas, empty pieces are dropped, and nothing is trimmed. `_time_field` is one name, and
-    /// `_time` where it is empty. Of a repeated argument the first counts, and other arguments are passed over.
+    /// `_time` where it is missing; an empty one is that of no field. Of a repeated argument the first counts. Other
+    /// arguments are passed over.
     ///
     /// A piece of `extra_fields` is cut at its first `=` into a name and a value, which may be empty. The fault is
     /// `BadExtra` where one has no `=` or no name before it.
@@ -20,11 +20,11 @@ impl Options {
         ensures read { IfOk result (λ options. options_of pairs.now ≡ Some options) }
         ensures bad { IfErr result (λ fault. fault ≡ OptionFault.BadExtra → options_of pairs.now ≡ None) }
     {
-        let stream_fields = names(alloc, argument(pairs, "_stream_fields"))?;
+        let stream_fields = names(alloc, list(pairs, "_stream_fields"))?;
         let time_field = time_field(alloc, argument(pairs, "_time_field"))?;
-        let message_fields = names(alloc, argument(pairs, "_msg_field"))?;
-        let ignored_fields = names(alloc, argument(pairs, "ignore_fields"))?;
-        let Some(extra_fields) = extras(alloc, argument(pairs, "extra_fields"))? else {
+        let message_fields = names(alloc, list(pairs, "_msg_field"))?;
+        let ignored_fields = names(alloc, list(pairs, "ignore_fields"))?;
+        let Some(extra_fields) = extras(alloc, list(pairs, "extra_fields"))? else {
             return Err(OptionFault::BadExtra);
         };
         Ok(Options {
@@ -37,16 +37,26 @@ impl Options {
     }
 }
 
-/// The value of the first argument of this name, empty where there is none.
-fn argument<'a>(pairs: &'a [Field], name: &str) -> &'a str
-    ensures { result.now ≡ field_value pairs.now name.now }
+/// The value of the first argument of this name.
+fn argument<'a>(pairs: &'a [Field], name: &str) -> Option<&'a str>
+    ensures { option_map (λ text. text.now) result ≡ argument pairs.now name.now }
 {
     for pair in pairs {
         if name == pair.name() {
-            return pair.value();
+            return Some(pair.value());
         }
     }
-    ""
+    None
+}
+
+/// The list that the first argument of this name says, empty where there is none.
+fn list<'a>(pairs: &'a [Field], name: &str) -> &'a str
+    ensures { result.now ≡ list_argument pairs.now name.now }
+{
+    match argument(pairs, name) {
+        Some(list) => list,
+        None => "",
+    }
 }
 
 /// The pieces of a list that are not empty.
@@ -69,14 +79,14 @@ fn names(alloc: Global, list: &str) -> Result<Items<Text>, AllocError>
     Ok(Items::of(names))
 }
 
-/// The name of the moment's field, if one is given.
-fn time_field(alloc: Global, text: &str) -> Result<Option<Text>, AllocError>
-    ensures { IfOk result (λ given. unwrap_or given (codes "_time") ≡ time_field_of text.now) }
+/// The name that an argument says, if it is given.
+fn time_field(alloc: Global, given: Option<&str>) -> Result<Option<Text>, AllocError>
+    ensures { IfOk result (λ name. name ≡ option_map (λ text. text.now) given.entry) }
 {
-    if text.is_empty() {
-        return Ok(None);
+    match given {
+        Some(name) => Ok(Some(Text::try_of(alloc, name)?)),
+        None => Ok(None),
     }
-    Ok(Some(Text::try_of(alloc, text)?))
 }
 
 /// The fields that a list says, if each of its pieces is one.
