@@ -1,11 +1,12 @@
 -- The answer over one part after another.
-use Rattle.std.proofs.Common.{◌≡◌, ℕ, zero, suc, ◌+◌, List, [], ◌∷◌, ◌++◌, map, filter, flat_map, take, Some, sym, ap, ◌∙◌, add-one, refl}
+use Rattle.std.proofs.Common.{◌≡◌, ℕ, zero, suc, ◌+◌, ◌<◌, List, [], ◌∷◌, ◌++◌, map, filter, flat_map, take, get_or, Some, sym, ap, subst, ◌∙◌, add-one, below_more, refl}
 use Rattle.std.proofs.lemmas.Grind.{flat_map-append}
 use Rattle.std.proofs.lemmas.List.{map-append}
 use Rattle.std.proofs.lemmas.List.Elements.{filter-append}
 use Rattle.std.proofs.lemmas.Option.{none-some}
 use Rattle.std.specs.List.{slice_get}
-use Rattle.log_model.specs.History.{Numbered, rows_in}
+use Rattle.std.specs.Prelude.{Option}
+use Rattle.log_model.specs.History.{AreInOrder, Numbered, rows_in}
 use Rattle.log_model.specs.Print.{line_text, lines_text}
 use Rattle.log_model.specs.Query.{Query, evaluation, holds}
 use Rattle.log_model.specs.Row.{Row, record_of}
@@ -47,3 +48,18 @@ lines-written query parts i part rows old new is same before written =
     written ∙ ap (λ text. text ++ lines_text (evaluation query rows)) before
     ∙ ap (λ rs. lines_text (evaluation query (flat_map rows_in (take i parts))) ++ lines_text (evaluation query rs)) same
     ∙ sym (lines-part query parts i part is)
+
+-- the first parts are in order
+abbrev pub OrderedBelow : ℕ → List (List Numbered) → Type 0
+OrderedBelow i parts = (k : ℕ) → k < i → (d : List Numbered) → AreInOrder (get_or parts k d)
+
+part-at : {X : Type 0} (parts : List X) (i : ℕ) (part d : X) → slice_get parts i ≡ Some part → get_or parts i d ≡ part
+part-at [] i part d is = absurd (none-some part is)
+part-at (p ∷ ps) zero part d is = let same : Some p ≡ Some part = is in cc
+part-at (p ∷ ps) (suc i) part d is = part-at ps i part d is
+
+pub order-more : (parts : List (List Numbered)) (i : ℕ) (part rows : List Numbered) → slice_get parts i ≡ Some part → rows ≡ part → AreInOrder rows
+    → OrderedBelow i parts → OrderedBelow (i + 1) parts
+order-more parts i part rows is same ordered before =
+    below_more (λ k. (d : List Numbered) → AreInOrder (get_or parts k d)) i before
+    (λ d. subst AreInOrder (same ∙ sym (part-at parts i part d is)) ordered)

@@ -3,9 +3,9 @@ use Rattle.std.proofs.Common.{◌≡◌, ◌⊎◌, inl, inr, ℕ, suc, ◌+◌,
 use Rattle.std.proofs.lemmas.Grind.{flat_map-append}
 use Rattle.std.specs.List.{AllByRecursion, AllZip}
 use Rattle.ingest_row.specs.Intake.{Outcome, passed_over, read, refused, rows_read}
-use Rattle.vl_top.specs.Intake.{AreGroups, BeginsWith, Gives, IsIntake, batch_of, batches_of, outcomes_in, refusals_from, refusal_text}
+use Rattle.vl_top.specs.Groups.{AreGroups, EndsLine, HasOutcome, HaveOutcomes, batch_of, batches_of, outcomes_in, refusals_from, refusals_of, refusal_text}
 use Rattle.log_model.specs.Line.{lines_of}
-use Rattle.vl_top.proofs.LineLemmas.{EndsLine, lines_of-after}
+use Rattle.vl_top.proofs.LineLemmas.{lines_of-after}
 
 pub append_nil : {X : Type 0} (xs : List X) → xs ++ [] ≡ xs
 append_nil [] = refl
@@ -45,7 +45,7 @@ refusals_from-append number (refused kind ∷ os) more =
 
 -- the names of the refused lines of one group more
 pub refusals-more : (groups : List (List Outcome)) (group : List Outcome) (before : ℕ) → before ≡ length (outcomes_in groups)
-    → refusals_from 1 (outcomes_in (groups ++ group ∷ [])) ≡ refusals_from 1 (outcomes_in groups) ++ refusals_from (before + 1) group
+    → refusals_of (groups ++ group ∷ []) ≡ refusals_of groups ++ refusals_from (before + 1) group
 refusals-more groups group before same =
     ap (refusals_from 1) (outcomes-more groups group) ∙ refusals_from-append 1 (outcomes_in groups) group
     ∙ ap (λ n. refusals_from 1 (outcomes_in groups) ++ refusals_from n group) (omega (arith, same))
@@ -73,18 +73,8 @@ AreGroups-weaken [] a b f are = tt
 AreGroups-weaken (g ∷ gs) a b f are = (are.0, are.1, weaken f are.2, AreGroups-weaken gs a b f are.3)
 
 -- one group more
-pub intake-more : (now : ℕ) (taken body : List ℕ) (groups : List (List Outcome)) (group : List Outcome) → EndsLine taken → IsIntake now taken (outcomes_in groups) → IsIntake now body group
-    → IsIntake now (taken ++ body) (outcomes_in (groups ++ group ∷ []))
+pub intake-more : (now : ℕ) (taken body : List ℕ) (groups : List (List Outcome)) (group : List Outcome) → EndsLine taken → HaveOutcomes now taken (outcomes_in groups) → HaveOutcomes now body group
+    → HaveOutcomes now (taken ++ body) (outcomes_in (groups ++ group ∷ []))
 intake-more now taken body groups group ends before here =
-    subst (IsIntake now (taken ++ body)) (sym (outcomes-more groups group))
-    (subst (λ ls. AllZip (Gives now) ls (outcomes_in groups ++ group)) (sym (lines_of-after taken body ends)) (AllZip-append (Gives now) (lines_of taken) (outcomes_in groups) (lines_of body) group before here))
-
--- whole groups, and whatever comes after them
-pub begins_whole : (now : ℕ) (taken rest : List ℕ) (ended : Type 0) (groups : List (List Outcome)) → EndsLine taken → AreWhole groups → IsIntake now taken (outcomes_in groups) → BeginsWith now (taken ++ rest) ended groups
-begins_whole now taken rest ended groups ends whole given = record {
-  lines = lines_of taken;
-  later = lines_of rest;
-  cut = lines_of-after taken rest ends;
-  given = given;
-  grouped = AreGroups-whole groups (lines_of rest ≡ [] × ended) whole;
-}
+    subst (HaveOutcomes now (taken ++ body)) (sym (outcomes-more groups group))
+    (subst (λ ls. AllZip (HasOutcome now) ls (outcomes_in groups ++ group)) (sym (lines_of-after taken body ends)) (AllZip-append (HasOutcome now) (lines_of taken) (outcomes_in groups) (lines_of body) group before here))

@@ -4,10 +4,7 @@ use Rattle.std.proofs.lemmas.List.Sums.{sum_by-cons}
 use Rattle.std.specs.Prelude.{count_by}
 use Rattle.log_model.specs.Line.{lines_of, onto}
 use Rattle.vl_io.specs.Lines.{AreLines, is_feed}
-
--- nothing, or whole lines
-abbrev pub EndsLine : List ℕ → Type 0
-EndsLine bytes = (bytes ≡ []) ⊎ ((front : List ℕ) × (bytes ≡ front ++ 10 ∷ []))
+use Rattle.vl_top.specs.Groups.{EndsLine}
 
 some_lines : (x : ℕ) (xs : List ℕ) → 0 < length (lines_of (x ∷ xs))
 unfolding lines_of

@@ -1,64 +1,76 @@
 -- The loop that takes an input in, group by group.
-use Rattle.std.proofs.Common.{◌≡◌, ◌⊎◌, inl, inr, ℕ, ◌+◌, ◌-◌, ◌<◌, ◌≤◌, Bool, true, false, List, [], ◌∷◌, ◌++◌, length, take, None, Option, Ok, Err, refl, sym, ap, subst, ◌∙◌, arith, append_assoc, length-append}
-use Rattle.std.proofs.lemmas.List.{length-map}
+use Rattle.std.proofs.Common.{◌≡◌, ◌⊎◌, inl, inr, ℕ, suc, ◌+◌, ◌-◌, ◌<◌, ◌≤◌, Bool, true, false, List, [], ◌∷◌, ◌++◌, length, take, None, max, Option, Ok, Err, refl, sym, ap, subst, ◌∙◌, arith, append_assoc, length-append}
+use Rattle.std.proofs.Math.Seq.{take-append_seam}
+use Rattle.std.proofs.lemmas.List.{take_all, take-append-le}
 use Rattle.std.specs.List.{AllZip}
-use Rattle.std.specs.Prelude.{IfErr, IsErrAnd, Result}
-use Rattle.std.proofs.Math.Seq.{take-append-add}
+use Rattle.std.specs.Prelude.{IfErr, IsErrAnd, Result, count_by}
 use Rattle.vl_io.specs.Bytes.{Appends, Consumes, IsAtEnd}
+use Rattle.vl_io.specs.Change.{Change, Gave, HasFailed, IsCut, IsSpent, Took}
 use Rattle.vl_io.specs.Faults.{Rose}
-use Rattle.vl_io.specs.Lines.{Advances, IsGroup, IsOver, Reading, bytes_read}
+use Rattle.vl_io.specs.Lines.{Advances, AreFewer, AreLines, FallsShort, IsGroup, IsOver, IsTooLong, Reading, bytes_read, is_feed, piece_len}
 use Rattle.vl_io.proofs.Laws.{Appends-nil, Appends-trans, Consumes-nil, Consumes-trans, Rose-earlier}
 use Rattle.log_model.specs.Core.{Contents, held_limit}
-use Rattle.log_model.specs.History.{Entry, Numbered}
-use Rattle.ingest_row.specs.Intake.{Outcome, rows_read}
-use Rattle.vl_top.specs.Intake.{AreGroups, BeginsWith, Gives, IsIntake, batches_of, outcomes_in, refusals_from}
+use Rattle.log_model.specs.History.{Numbered}
 use Rattle.log_model.specs.Line.{lines_of}
-use Rattle.vl_top.specs.Program.{CanBeHeld, IsBeyond, input_limit}
 use Rattle.log_model.specs.Row.{Batch, batch_limit, batch_weight}
-use Rattle.vl_top.specs.Load.{AppendsFront, IsBegun, IsHeld, IsLoaded, IsStopped, IsTooMuch, StopsGroup, StopsLoad, TakesGroup}
-use Rattle.vl_top.specs.Stop.{limit_of, stop_at}
+use Rattle.log_model.proofs.Lines.{lines_le, lines_of-none}
+use Rattle.ingest_row.specs.Intake.{Outcome, rows_read}
+use Rattle.vl_top.specs.Groups.{AreGroups, BeginsWith, CanBeHeld, EndsLine, HasOutcome, HaveOutcomes, batches_of, outcomes_in, refusals_from, refusals_of}
+use Rattle.vl_top.specs.Program as model
+use Rattle.vl_top.specs.Program.{AreFew, HaveNoGroup, IsBeyond, IsCause, StopsBehind, input_limit}
+use Rattle.vl_top.specs.Load.{IsHeld, IsLoaded, IsTooMuch, StopsGroup, StopsLoad, StopsUntold, TakesGroup}
+use Rattle.vl_top.specs.Interrupt.{limit_of, interrupt_at}
 use Rattle.vl_io.specs.declared.transfer.ReadFault.{ReadFault}
 use Rattle.vl_io.specs.declared.transfer.ReadFault.TheVariants as faults
-use Rattle.vl_top.specs.declared.stop.Limit.{Limit}
-use Rattle.vl_top.specs.declared.stop.Limit.TheVariants.{Long, Large, Full}
-use Rattle.vl_top.specs.declared.stop.Stop.{Stop}
-use Rattle.vl_top.specs.declared.stop.Stop.TheVariants.{Unreadable, Unwritable, Beyond, NoMemory}
-use Rattle.vl_top.proofs.GroupLemmas.{append_nil, AllByRecursion-more, AllZip-length, AreGroups-more, AreGroups-weaken, AreWhole, batches-more, begins_whole, intake-more, outcomes-more, refusals-more}
-use Rattle.log_model.proofs.Lines.{lines_le, lines_of-none}
-use Rattle.vl_top.proofs.LineLemmas.{EndsLine, length-lines_of, lines_few, lines_of-after, lines_some}
+use Rattle.vl_top.specs.declared.interrupt.Limit.{Limit}
+use Rattle.vl_top.specs.declared.interrupt.Limit.TheVariants.{Long, Large, Full}
+use Rattle.vl_top.specs.declared.interrupt.Interrupt.{Interrupt}
+use Rattle.vl_top.specs.declared.interrupt.Interrupt.TheVariants.{Unreadable, Unwritable, Beyond, NoMemory}
+use Rattle.vl_top.proofs.GroupLemmas.{append_nil, AllByRecursion-more, AllZip-length, AreGroups-more, AreGroups-weaken, AreGroups-whole, AreWhole, batches-more, intake-more, outcomes-more, refusals-more}
+use Rattle.vl_top.proofs.HeldLemmas.{held_all, held_few}
+use Rattle.vl_top.proofs.LineLemmas.{length-lines_of, lines_few, lines_some}
+
+abbrev pub change : Option (List ℕ) → Option (List ℕ) → ℕ → ℕ → Change
+change before after faults_before faults_after =
+    record { bytes_before = before; bytes_after = after; faults_before = faults_before; faults_after = faults_after }
 
 -- what is so at the start of each turn
-pub record Loading (now : ℕ) (left_old left_new err_old err_new : Option (List ℕ)) (reader : Reading) (shelf : Contents (List Numbered)) (lines : ℕ) : Type 0 where
+pub record Loading (now : ℕ) (source errors : Change) (reader : Reading) (shelf : Contents (List Numbered)) (lines : ℕ) : Type 0 where
   pub taken : List ℕ
   pub groups : List (List Outcome)
-  pub consumed : Consumes left_old left_new (taken ++ reader.ahead)
+  pub gave : Gave source (taken ++ reader.ahead)
   pub passed : reader.passed + length reader.group ≡ length taken
   pub group_lines : reader.lines ≡ 1000
   pub limit : reader.limit ≡ input_limit
   pub within : bytes_read reader ≤ input_limit
-  pub given : IsIntake now taken (outcomes_in groups)
+  pub ahead : length reader.ahead ≤ piece_len
+  pub given : HaveOutcomes now taken (outcomes_in groups)
   pub grouped : AreGroups groups (reader.ended ≡ true)
   pub open_ends : reader.ended ≡ false → EndsLine taken
   pub open_whole : reader.ended ≡ false → AreWhole groups
   pub open_lines : reader.ended ≡ false → lines ≡ length (outcomes_in groups)
-  pub over : reader.ended ≡ true → IsAtEnd left_new × (reader.ahead ≡ [])
+  pub over : reader.ended ≡ true → IsSpent source × (reader.ahead ≡ [])
   pub few : lines ≤ length taken + 1000
   pub fits : CanBeHeld groups
   pub held : IsHeld shelf (batches_of groups)
-  pub named : Appends err_old err_new (refusals_from 1 (outcomes_in groups))
+  pub named : Took errors (refusals_of groups)
+  pub source_stays : source.faults_before ≤ source.faults_after
+  pub errors_stay : errors.faults_before ≤ errors.faults_after
 
-pub loading_starts : (now : ℕ) (left err : Option (List ℕ)) (reader : Reading) (shelf : Contents (List Numbered))
-    → reader ≡ record { lines = 1000; limit = input_limit; passed = 0; group = []; ahead = []; ended = false } → IsHeld shelf [] → Loading now left left err err reader shelf 0
-loading_starts now left err reader shelf fresh held =
-    subst (λ r. Loading now left left err err r shelf 0) (sym fresh) (record {
+pub loading_starts : (now : ℕ) (left : Option (List ℕ)) (s : ℕ) (err : Option (List ℕ)) (f : ℕ) (reader : Reading) (shelf : Contents (List Numbered))
+    → reader ≡ record { lines = 1000; limit = input_limit; passed = 0; group = []; ahead = []; ended = false } → IsHeld shelf []
+    → Loading now (change left left s s) (change err err f f) reader shelf 0
+loading_starts now left s err f reader shelf fresh held =
+    subst (λ r. Loading now (change left left s s) (change err err f f) r shelf 0) (sym fresh) (record {
       taken = [];
       groups = [];
-      consumed = Consumes-nil left;
+      gave = Consumes-nil left;
       passed = refl;
       group_lines = refl;
       limit = refl;
       within = omega arith;
-      given = subst (λ ls. AllZip (Gives now) ls []) (sym lines_of-none) tt;
+      ahead = omega arith;
+      given = subst (λ ls. AllZip (HasOutcome now) ls []) (sym lines_of-none) tt;
       grouped = tt;
       open_ends = λ _. inl refl;
       open_whole = λ _. tt;
@@ -68,6 +80,8 @@ loading_starts now left err reader shelf fresh held =
       fits = record { few = omega arith; light = tt };
       held = held;
       named = Appends-nil err;
+      source_stays = omega arith;
+      errors_stay = omega arith;
     })
 
 -- what holds of an error holds of what it became
@@ -91,24 +105,33 @@ record Sizes (next : Reading) (group : List Outcome) : Type 0 where
   some : 0 < length group
   few : length group ≤ 1000
   full : (length group ≡ 1000) ⊎ (next.ended ≡ true)
+  feeds : count_by is_feed next.group ≤ 1000
   open_full : next.ended ≡ false → length group ≡ 1000
-  open_ends : next.ended ≡ false → (front : List ℕ) × (next.group ≡ front ++ 10 ∷ [])
+  open_ends : next.ended ≡ false → (text : List ℕ) × (next.group ≡ text ++ 10 ∷ [])
 
-sizes : (now : ℕ) (next : Reading) (group : List Outcome) → next.lines ≡ 1000 → IsGroup next → IsIntake now next.group group → Sizes next group
+sizes : (now : ℕ) (next : Reading) (group : List Outcome) → next.lines ≡ 1000 → IsGroup next → HaveOutcomes now next.group group → Sizes next group
 sizes now next group lines (inl whole) given =
-    let full : length group ≡ 1000 = omega (arith, AllZip-length (Gives now) (lines_of next.group) group given, length-lines_of next.lines next.group whole, lines) in
-    record { some = omega (arith, full); few = omega (arith, full); full = inl full; open_full = λ _. full; open_ends = λ _. (whole.front, whole.ends) }
+    let full : length group ≡ 1000 = omega (arith, AllZip-length (HasOutcome now) (lines_of next.group) group given, length-lines_of next.lines next.group whole, lines) in
+    record {
+      some = omega (arith, full);
+      few = omega (arith, full);
+      full = inl full;
+      feeds = omega (arith, whole.feeds, lines);
+      open_full = λ _. full;
+      open_ends = λ _. (whole.front, whole.ends);
+    }
 sizes now next group lines (inr short) given =
-    let same = AllZip-length (Gives now) (lines_of next.group) group given in
+    let same = AllZip-length (HasOutcome now) (lines_of next.group) group given in
     record {
       some = omega (arith, same, lines_some next.group short.0);
       few = omega (arith, same, lines_few next.group, short.1, lines);
       full = inr short.3;
+      feeds = omega (arith, short.1, lines);
       open_full = λ e. let ended = short.3 in cc;
       open_ends = λ e. let ended = short.3 in cc;
     }
 
-ends_more : (taken body : List ℕ) → (front : List ℕ) × (body ≡ front ++ 10 ∷ []) → EndsLine (taken ++ body)
+ends_more : (taken body : List ℕ) → (text : List ℕ) × (body ≡ text ++ 10 ∷ []) → EndsLine (taken ++ body)
 ends_more taken body ends = inr (taken ++ ends.0, ap (λ l. taken ++ l) ends.1 ∙ sym (append_assoc taken ends.0 (10 ∷ [])))
 
 -- A group has some bytes, so less is left.
@@ -122,14 +145,6 @@ pub lines_at_most : (next : Reading) → next.lines ≡ 1000 → IsGroup next �
 lines_at_most next lines (inl whole) = omega (arith, length-lines_of next.lines next.group whole, lines)
 lines_at_most next lines (inr short) = omega (arith, lines_few next.group, short.1, lines)
 
--- all that was read, where the next group stands behind what was taken in
-joined : (taken group ahead before piece : List ℕ) → group ++ ahead ≡ before ++ piece → (taken ++ before) ++ piece ≡ (taken ++ group) ++ ahead
-joined taken group ahead before piece e = append_assoc taken before piece ∙ ap (λ l. taken ++ l) (sym e) ∙ sym (append_assoc taken group ahead)
-
-held_few : (shelf : Contents (List Numbered)) (batches : List Batch) → IsHeld shelf batches → length batches ≤ held_limit
-held_few shelf batches held =
-    omega (arith, held.settled, held.stands.counted, held.stands.few, length-map {B = Entry} batches (λ (batch : Batch). record { batch = batch; maker = None }))
-
 fits_more : (shelf : Contents (List Numbered)) (groups : List (List Outcome)) (group : List Outcome) → CanBeHeld groups → batch_weight (rows_read group) ≤ batch_limit
     → IsHeld shelf (batches_of (groups ++ group ∷ [])) → CanBeHeld (groups ++ group ∷ [])
 fits_more shelf groups group fits light held = record {
@@ -137,53 +152,61 @@ fits_more shelf groups group fits light held = record {
   light = AllByRecursion-more (λ g. batch_weight (rows_read g) ≤ batch_limit) groups group fits.light light;
 }
 
-held_all : (shelf : Contents (List Numbered)) (batches : List Batch) → IsHeld shelf batches → length shelf.unsettled ≡ held_limit → length batches ≡ held_limit
-held_all shelf batches held full =
-    omega (arith, held.settled, held.stands.counted, full, length-map {B = Entry} batches (λ (batch : Batch). record { batch = batch; maker = None }))
+-- whole groups, and whatever comes behind them
+begins_whole : (now : ℕ) (source : Change) (taken rest : List ℕ) (groups : List (List Outcome)) → Gave source (taken ++ rest) → EndsLine taken → AreWhole groups
+    → HaveOutcomes now taken (outcomes_in groups) → BeginsWith now source groups
+begins_whole now source taken rest groups gave ends whole given = record {
+  taken = taken;
+  rest = rest;
+  gave = gave;
+  whole = inl ends;
+  given = given;
+  grouped = AreGroups-whole groups ((rest ≡ []) × IsSpent source) whole;
+}
 
-no_lines : (bytes : List ℕ) → bytes ≡ [] → lines_of bytes ≡ []
-no_lines bytes none = ap lines_of none ∙ lines_of-none
+-- what was read behind the groups, where the next one is of these bytes
+behind : (taken group ahead before piece : List ℕ) → group ++ ahead ≡ before ++ piece → (taken ++ before) ++ piece ≡ taken ++ (group ++ ahead)
+behind taken group ahead before piece e = append_assoc taken before piece ∙ ap (λ l. taken ++ l) (sym e)
 
-cut_more : (ended : Bool) (bytes ahead : List ℕ) → (ended ≡ false → EndsLine bytes) → (ended ≡ true → ahead ≡ []) → lines_of (bytes ++ ahead) ≡ lines_of bytes ++ lines_of ahead
-cut_more false bytes ahead ends none = lines_of-after bytes ahead (ends refl)
-cut_more true bytes ahead ends none =
-    subst (λ rest. lines_of (bytes ++ rest) ≡ lines_of bytes ++ lines_of rest) (sym (none refl))
-    (ap lines_of (append_nil bytes) ∙ sym (append_nil (lines_of bytes)) ∙ ap (λ l. lines_of bytes ++ l) (sym lines_of-none))
+module _ (now : ℕ) (left0 left1 left2 : Option (List ℕ)) (s0 s1 s2 : ℕ) (err0 err1 err2 : Option (List ℕ)) (f0 f1 f2 : ℕ) (reader next : Reading)
+    (old new : Contents (List Numbered)) (lines : ℕ) where
+  abbrev Before : Type 0
+  Before = Loading now (change left0 left1 s0 s1) (change err0 err1 f0 f1) reader old lines
 
--- a whole text, and then a front of another
-front_after : (a b c : Option (List ℕ)) (first second : List ℕ) → Appends a b first → AppendsFront b c second → AppendsFront a c (first ++ second)
-front_after a b c first second p q =
-    (length first + q.0, subst (Appends a c) (sym (take-append-add first second q.0)) (Appends-trans a b c first (take q.0 second) p q.1))
+  gave_more : (l : Before) → (advanced : Advanced left1 left2 reader next) → Consumes left0 left2 (l.taken ++ (next.group ++ next.ahead))
+  gave_more l advanced =
+      subst (Consumes left0 left2) (behind l.taken next.group next.ahead reader.ahead advanced.0 advanced.2.joined) (Consumes-trans left0 left1 left2 _ _ l.gave advanced.1)
 
-module _ (now : ℕ) (left0 left1 left2 err0 err1 err2 : Option (List ℕ)) (reader next : Reading) (old new : Contents (List Numbered)) (lines : ℕ) where
-  -- the input up to the next group, and what was read behind it
-  consumed_more : Loading now left0 left1 err0 err1 reader old lines → (advanced : Advanced left1 left2 reader next) → (taken : List ℕ) → Consumes left0 left1 (taken ++ reader.ahead)
-      → Consumes left0 left2 ((taken ++ next.group) ++ next.ahead)
-  consumed_more l advanced taken consumed =
-      subst (Consumes left0 left2) (joined taken next.group next.ahead reader.ahead advanced.0 advanced.2.joined) (Consumes-trans left0 left1 left2 _ _ consumed advanced.1)
+  gave_group : (l : Before) → (advanced : Advanced left1 left2 reader next) → Consumes left0 left2 ((l.taken ++ next.group) ++ next.ahead)
+  gave_group l advanced = subst (Consumes left0 left2) (sym (append_assoc l.taken next.group next.ahead)) (gave_more l advanced)
 
-  held_more : (groups : List (List Outcome)) (group : List Outcome) → IsHeld old (batches_of groups) → TakesGroup now next.group group old new → IsHeld new (batches_of (groups ++ group ∷ []))
-  held_more groups group held takes = subst (IsHeld new) (sym (batches-more groups group)) (takes.commits.1 (batches_of groups) held)
+  held_group : (groups : List (List Outcome)) (group : List Outcome) → IsHeld old (batches_of groups) → TakesGroup now next.group group old new → IsHeld new (batches_of (groups ++ group ∷ []))
+  held_group groups group held takes = subst (IsHeld new) (sym (batches-more groups group)) (takes.commits.1 (batches_of groups) held)
+
+  ahead_more : (l : Before) → length next.ahead ≤ max (length reader.ahead) piece_len → length next.ahead ≤ piece_len
+  ahead_more l few = omega (arith, l.ahead)
 
   -- one group more
-  pub loading_more : Loading now left0 left1 err0 err1 reader old lines → reader.ended ≡ false → Advanced left1 left2 reader next → IsGroup next → (next.ended ≡ true → IsAtEnd left2 × (next.ahead ≡ []))
+  pub loading_more : (l : Before) → reader.ended ≡ false → Advanced left1 left2 reader next → length next.ahead ≤ max (length reader.ahead) piece_len
+      → IsGroup next → (next.ended ≡ true → IsAtEnd left2 × (next.ahead ≡ [])) → s1 ≤ s2 → f1 ≤ f2
       → (group : List Outcome) × TakesGroup now next.group group old new × Appends err1 err2 (refusals_from (lines + 1) group)
-      → Loading now left0 left2 err0 err2 next new (lines + 1000)
-  loading_more l goes_on advanced is_group at_end (group, takes, named) =
+      → Loading now (change left0 left2 s0 s2) (change err0 err2 f0 f2) next new (lines + 1000)
+  loading_more l goes_on advanced few is_group at_end source_stays errors_stay (group, takes, named) =
       let advances = advanced.2 in
       let same_lines : next.lines ≡ 1000 = advances.lines ∙ l.group_lines in
       let size = sizes now next group same_lines is_group takes.intake in
-      let taken_lines = AllZip-length (Gives now) (lines_of l.taken) (outcomes_in l.groups) l.given in
+      let taken_lines = AllZip-length (HasOutcome now) (lines_of l.taken) (outcomes_in l.groups) l.given in
       let before : lines ≡ length (outcomes_in l.groups) = l.open_lines goes_on in
-      let held = held_more l.groups group l.held takes in
+      let held = held_group l.groups group l.held takes in
       record {
         taken = l.taken ++ next.group;
         groups = l.groups ++ group ∷ [];
-        consumed = consumed_more l advanced l.taken l.consumed;
+        gave = gave_group l advanced;
         passed = omega (arith, advances.passed, l.passed, length-append l.taken next.group);
         group_lines = same_lines;
         limit = advances.limit ∙ l.limit;
         within = omega (arith, advances.within, advances.limit, l.limit);
+        ahead = ahead_more l few;
         given = intake-more now l.taken next.group l.groups group (l.open_ends goes_on) l.given takes.intake;
         grouped = AreGroups-more l.groups group (next.ended ≡ true) (l.open_whole goes_on) size.some size.few size.full;
         open_ends = λ e. ends_more l.taken next.group (size.open_ends e);
@@ -194,155 +217,248 @@ module _ (now : ℕ) (left0 left1 left2 err0 err1 err2 : Option (List ℕ)) (rea
         fits = fits_more new l.groups group l.fits takes.commits.0 held;
         held = held;
         named = subst (Appends err0 err2) (sym (refusals-more l.groups group lines before)) (Appends-trans err0 err1 err2 _ _ l.named named);
+        source_stays = omega (arith, l.source_stays);
+        errors_stay = omega (arith, l.errors_stay);
       }
 
   -- the input up to the groups before
-  begun_before : (l : Loading now left0 left1 err0 err1 reader old lines) → reader.ended ≡ false → Advanced left1 left2 reader next
-      → IsBegun now left0 left2 ((l.taken ++ next.group) ++ next.ahead) l.groups
-  begun_before l goes_on advanced = record {
-    consumed = consumed_more l advanced l.taken l.consumed;
-    begins = subst (λ input. BeginsWith now input (IsAtEnd left2) l.groups) (sym (append_assoc l.taken next.group next.ahead))
-        (begins_whole now l.taken (next.group ++ next.ahead) (IsAtEnd left2) l.groups (l.open_ends goes_on) (l.open_whole goes_on) l.given);
-    fits = l.fits;
-  }
+  begins_before : (l : Before) → reader.ended ≡ false → Advanced left1 left2 reader next → BeginsWith now (change left0 left2 s0 s2) l.groups
+  begins_before l goes_on advanced =
+      begins_whole now (change left0 left2 s0 s2) l.taken (next.group ++ next.ahead) l.groups (gave_more l advanced) (l.open_ends goes_on) (l.open_whole goes_on) l.given
 
   -- the input with the next group
-  begins_with : (l : Loading now left0 left1 err0 err1 reader old lines) → reader.ended ≡ false → Advanced left1 left2 reader next → IsGroup next
-      → (next.ended ≡ true → IsAtEnd left2 × (next.ahead ≡ [])) → (group : List Outcome) → IsIntake now next.group group
-      → BeginsWith now ((l.taken ++ next.group) ++ next.ahead) (IsAtEnd left2) (l.groups ++ group ∷ [])
+  begins_with : (l : Before) → reader.ended ≡ false → Advanced left1 left2 reader next → IsGroup next
+      → (next.ended ≡ true → IsAtEnd left2 × (next.ahead ≡ [])) → (group : List Outcome) → HaveOutcomes now next.group group
+      → BeginsWith now (change left0 left2 s0 s2) (l.groups ++ group ∷ [])
   begins_with l goes_on advanced is_group at_end group given =
       let size = sizes now next group (advanced.2.lines ∙ l.group_lines) is_group given in
       record {
-        lines = lines_of (l.taken ++ next.group);
-        later = lines_of next.ahead;
-        cut = cut_more next.ended (l.taken ++ next.group) next.ahead (λ e. ends_more l.taken next.group (size.open_ends e)) (λ e. (at_end e).1);
+        taken = l.taken ++ next.group;
+        rest = next.ahead;
+        gave = gave_group l advanced;
+        whole = ends next.ended size.open_ends at_end;
         given = intake-more now l.taken next.group l.groups group (l.open_ends goes_on) l.given given;
-        grouped = AreGroups-more l.groups group (lines_of next.ahead ≡ [] × IsAtEnd left2) (l.open_whole goes_on) size.some size.few (last size.full);
+        grouped = AreGroups-more l.groups group ((next.ahead ≡ []) × IsAtEnd left2) (l.open_whole goes_on) size.some size.few (last size.full);
       }
     where
-      last : (length group ≡ 1000) ⊎ (next.ended ≡ true) → (length group ≡ 1000) ⊎ (lines_of next.ahead ≡ [] × IsAtEnd left2)
-      last (inl full) = inl full
-      last (inr e) = inr (no_lines next.ahead (at_end e).1, (at_end e).0)
+      ends : (ended : Bool) → (ended ≡ false → (text : List ℕ) × (next.group ≡ text ++ 10 ∷ [])) → (ended ≡ true → IsAtEnd left2 × (next.ahead ≡ []))
+          → EndsLine (l.taken ++ next.group) ⊎ ((next.ahead ≡ []) × IsAtEnd left2)
+      ends false closes over = inl (ends_more l.taken next.group (closes refl))
+      ends true closes over = inr ((over refl).1, (over refl).0)
 
-  -- the run stops at the next group
-  pub stops_at_group : (f0 f1 f2 s0 s2 : ℕ) → f0 ≤ f1 → Loading now left0 left1 err0 err1 reader old lines → reader.ended ≡ false → Advanced left1 left2 reader next → IsGroup next
-      → (next.ended ≡ true → IsAtEnd left2 × (next.ahead ≡ [])) → (stop : Stop) → StopsGroup now next.group lines old new err1 err2 f1 f2 stop
-      → IsStopped now left0 left2 s0 s2 err0 err2 f0 f2 stop
-  stops_at_group f0 f1 f2 s0 s2 stays l goes_on advanced is_group at_end Unreadable h = absurd h
-  stops_at_group f0 f1 f2 s0 s2 stays l goes_on advanced is_group at_end Unwritable (rose, (group, takes, front)) =
-      let held = held_more l.groups group l.held takes in
-      record {
-        input = (l.taken ++ next.group) ++ next.ahead;
-        groups = l.groups ++ group ∷ [];
-        begun = record {
-          consumed = consumed_more l advanced l.taken l.consumed;
-          begins = begins_with l goes_on advanced is_group at_end group takes.intake;
-          fits = fits_more new l.groups group l.fits takes.commits.0 held;
-        };
-        stops = (
-          Rose-earlier f0 f1 f2 stays rose,
-          subst (AppendsFront err0 err2) (sym (refusals-more l.groups group lines (l.open_lines goes_on))) (front_after err0 err1 err2 _ _ l.named front),
-        );
-      }
-  stops_at_group f0 f1 f2 s0 s2 stays l goes_on advanced is_group at_end (Beyond limit) (same, (group, given, much)) = record {
-    input = (l.taken ++ next.group) ++ next.ahead;
-    groups = l.groups;
-    begun = begun_before l goes_on advanced;
-    stops = (beyond limit much (begins_with l goes_on advanced is_group at_end group given), subst (λ e. Appends err0 e (refusals_from 1 (outcomes_in l.groups))) (sym same) l.named);
+      last : (length group ≡ 1000) ⊎ (next.ended ≡ true) → (length group ≡ 1000) ⊎ ((next.ahead ≡ []) × IsAtEnd left2)
+      last (inl full) = inl full
+      last (inr e) = inr ((at_end e).1, (at_end e).0)
+
+  few_behind : (l : Before) → Advanced left1 left2 reader next → length next.ahead ≤ piece_len → IsGroup next → AreFew (next.group ++ next.ahead)
+  few_behind l advanced short is_group = record {
+    group = next.group;
+    ahead = next.ahead;
+    parts = refl;
+    lines = feeds is_group;
+    short = short;
   }
     where
-      beyond : (limit : Limit) → IsTooMuch old (rows_read group) limit → BeginsWith now ((l.taken ++ next.group) ++ next.ahead) (IsAtEnd left2) (l.groups ++ group ∷ [])
-          → IsBeyond now ((l.taken ++ next.group) ++ next.ahead) (IsAtEnd left2) l.groups (limit_of limit)
+      feeds : IsGroup next → count_by is_feed next.group ≤ 1000
+      feeds (inl whole) = omega (arith, whole.feeds, advanced.2.lines, l.group_lines)
+      feeds (inr few) = omega (arith, few.1, advanced.2.lines, l.group_lines)
+
+  -- the run stops at the next group
+  pub stops_at_group : (l : Before) → reader.ended ≡ false → Advanced left1 left2 reader next → length next.ahead ≤ max (length reader.ahead) piece_len
+      → IsGroup next → (next.ended ≡ true → IsAtEnd left2 × (next.ahead ≡ [])) → (interrupt : Interrupt)
+      → StopsGroup now next.group lines old new (change err1 err2 f1 f2) interrupt
+      → StopsLoad now (change left0 left2 s0 s2) (change err0 err2 f0 f2) interrupt
+  unfolding begins_with begins_before begins_whole
+  stops_at_group l goes_on advanced few is_group at_end Unreadable h = absurd h
+  stops_at_group l goes_on advanced few is_group at_end Unwritable (group, takes, cut) =
+      let before : lines ≡ length (outcomes_in l.groups) = l.open_lines goes_on in
+      let held = held_group l.groups group l.held takes in
+      record {
+        groups = l.groups;
+        group = group;
+        begins = begins_with l goes_on advanced is_group at_end group takes.intake;
+        fits = fits_more new l.groups group l.fits takes.commits.0 held;
+        short = ahead_more l few;
+        named = subst (λ n. IsCut (change err0 err2 f0 f2) (refusals_of l.groups) (refusals_from (n + 1) group)) before (record {
+          len = cut.len;
+          proper = cut.proper;
+          took = Appends-trans err0 err1 err2 _ _ l.named cut.took;
+          failed = Rose-earlier f0 f1 f2 l.errors_stay cut.failed;
+        });
+      }
+  stops_at_group l goes_on advanced few is_group at_end (Beyond limit) (same, (group, given, much)) = record {
+    groups = l.groups;
+    behind = record {
+      begins = begins_before l goes_on advanced;
+      fits = l.fits;
+      few = few_behind l advanced (ahead_more l few) is_group;
+      cause = beyond limit much (begins_with l goes_on advanced is_group at_end group given);
+    };
+    named = subst (λ e. Appends err0 e (refusals_of l.groups)) (sym same) l.named;
+  }
+    where
+      beyond : (limit : Limit) → IsTooMuch old (rows_read group) limit → BeginsWith now (change left0 left2 s0 s2) (l.groups ++ group ∷ [])
+          → IsBeyond now (change left0 left2 s0 s2) l.groups (begins_before l goes_on advanced) (limit_of limit)
       beyond Long h begins = absurd h
       beyond (Large weight) h begins = (group, begins, h.0, h.1)
       beyond Full h begins = (group, begins, held_all old (batches_of l.groups) l.held h.0, h.1, h.2)
-  stops_at_group f0 f1 f2 s0 s2 stays l goes_on advanced is_group at_end NoMemory same = record {
-    input = (l.taken ++ next.group) ++ next.ahead;
+  stops_at_group l goes_on advanced few is_group at_end NoMemory same = record {
     groups = l.groups;
-    begun = begun_before l goes_on advanced;
-    stops = subst (λ e. Appends err0 e (refusals_from 1 (outcomes_in l.groups))) (sym same) l.named;
-  }
-
-module _ (now : ℕ) (left0 left1 left2 err0 err1 : Option (List ℕ)) (reader : Reading) (shelf : Contents (List Numbered)) (lines : ℕ) where
-  -- the run stops where the next group is read
-  pub stops_reading : (s0 s1 s2 f0 f2 : ℕ) → s0 ≤ s1 → Loading now left0 left1 err0 err1 reader shelf lines → reader.ended ≡ false → (fault : ReadFault)
-      → (fault ≡ faults.Long → (piece : List ℕ) × Consumes left1 left2 piece × (reader.limit < bytes_read reader + length piece))
-      → (fault ≡ faults.Failed → Rose s1 s2) → (piece : List ℕ) × Consumes left1 left2 piece
-      → IsStopped now left0 left2 s0 s2 err0 err1 f0 f2 (stop_at fault)
-  stops_reading s0 s1 s2 f0 f2 stays l goes_on fault long failed taken = record {
-    input = (l.taken ++ reader.ahead) ++ (piece fault long taken).0;
-    groups = l.groups;
-    begun = record {
-      consumed = Consumes-trans left0 left1 left2 _ _ l.consumed (piece fault long taken).1;
-      begins = subst (λ input. BeginsWith now input (IsAtEnd left2) l.groups) (sym (append_assoc l.taken reader.ahead (piece fault long taken).0))
-          (begins_whole now l.taken (reader.ahead ++ (piece fault long taken).0) (IsAtEnd left2) l.groups (l.open_ends goes_on) (l.open_whole goes_on) l.given);
+    behind = record {
+      begins = begins_before l goes_on advanced;
       fits = l.fits;
+      few = few_behind l advanced (ahead_more l few) is_group;
+      cause = tt;
     };
-    stops = cause fault long failed taken;
+    named = subst (λ e. Appends err0 e (refusals_of l.groups)) (sym same) l.named;
   }
-    where
-      piece : (fault : ReadFault) → (fault ≡ faults.Long → (piece : List ℕ) × Consumes left1 left2 piece × (reader.limit < bytes_read reader + length piece))
-          → (piece : List ℕ) × Consumes left1 left2 piece → (piece : List ℕ) × Consumes left1 left2 piece
-      piece faults.Long long taken = ((long refl).0, (long refl).1)
-      piece faults.Failed long taken = taken
-      piece faults.Memory long taken = taken
 
-      cause : (fault : ReadFault) → (long : fault ≡ faults.Long → (piece : List ℕ) × Consumes left1 left2 piece × (reader.limit < bytes_read reader + length piece))
-          → (fault ≡ faults.Failed → Rose s1 s2) → (taken : (piece : List ℕ) × Consumes left1 left2 piece)
-          → StopsLoad now ((l.taken ++ reader.ahead) ++ (piece fault long taken).0) (IsAtEnd left2) l.groups s0 s2 err0 err1 f0 f2 (stop_at fault)
-      cause faults.Long long failed taken =
-          (omega (arith, (long refl).2, l.limit, l.passed, length-append (l.taken ++ reader.ahead) (long refl).0, length-append l.taken reader.ahead), l.named)
-      cause faults.Failed long failed taken = (Rose-earlier s0 s1 s2 stays (failed refl), l.named)
-      cause faults.Memory long failed taken = l.named
+module _ (now : ℕ) (left0 left1 left2 : Option (List ℕ)) (s0 s1 s2 : ℕ) (err0 err1 : Option (List ℕ)) (f0 f1 : ℕ) (reader : Reading)
+    (shelf : Contents (List Numbered)) (lines : ℕ) where
+  abbrev Until : Type 0
+  Until = Loading now (change left0 left1 s0 s1) (change err0 err1 f0 f1) reader shelf lines
+
+  abbrev Source : Change
+  Source = change left0 left2 s0 s2
+
+  begins_until : (l : Until) → reader.ended ≡ false → (piece : List ℕ) → Consumes left1 left2 piece → BeginsWith now Source l.groups
+  begins_until l goes_on piece consumed =
+      begins_whole now Source l.taken (reader.ahead ++ piece) l.groups
+      (subst (Consumes left0 left2) (append_assoc l.taken reader.ahead piece) (Consumes-trans left0 left1 left2 _ _ l.gave consumed))
+      (l.open_ends goes_on) (l.open_whole goes_on) l.given
+
+  no_group : (l : Until) → (piece : List ℕ) → AreFewer reader.lines (reader.ahead ++ piece) → HaveNoGroup (reader.ahead ++ piece)
+  no_group l piece fewer = omega (arith, fewer, l.group_lines)
+
+  few_short : (l : Until) → (piece : List ℕ) → AreFewer reader.lines (reader.ahead ++ piece) → AreFew (reader.ahead ++ piece)
+  few_short l piece fewer = record {
+    group = reader.ahead ++ piece;
+    ahead = [];
+    parts = sym (append_nil (reader.ahead ++ piece));
+    lines = omega (arith, fewer, l.group_lines);
+    short = omega arith;
+  }
+
+  few_long : (l : Until) → (piece more : List ℕ) → length more ≡ 1 → AreFewer reader.lines (reader.ahead ++ piece) → AreFew (reader.ahead ++ (piece ++ more))
+  few_long l piece more one fewer = record {
+    group = reader.ahead ++ piece;
+    ahead = more;
+    parts = sym (append_assoc reader.ahead piece more);
+    lines = omega (arith, fewer, l.group_lines);
+    short = omega arith;
+  }
+
+  -- what lies within the limit is all that was read but for the last byte
+  within : (l : Until) → (piece more : List ℕ) → bytes_read reader + length piece ≡ reader.limit → take (input_limit - length l.taken) (reader.ahead ++ (piece ++ more)) ≡ reader.ahead ++ piece
+  within l piece more all =
+      let len : input_limit - length l.taken ≡ length (reader.ahead ++ piece) = omega (arith, all, l.limit, l.passed, length-append reader.ahead piece) in
+      ap (λ n. take n (reader.ahead ++ (piece ++ more))) len
+      ∙ ap (take (length (reader.ahead ++ piece))) (sym (append_assoc reader.ahead piece more))
+      ∙ take-append_seam (reader.ahead ++ piece) more
+
+  -- the run stops where the next group is read
+  pub stops_reading : (l : Until) → reader.ended ≡ false → (fault : ReadFault) → (fault ≡ faults.Long → IsTooLong reader left1 left2)
+      → ((fault ≡ faults.Long → ⊥) → FallsShort reader left1 left2) → (fault ≡ faults.Failed → Rose s1 s2)
+      → StopsLoad now Source (change err0 err1 f0 f1) (interrupt_at fault)
+  unfolding begins_until begins_whole
+  stops_reading l goes_on faults.Long long short failed =
+      let too = long refl in
+      record {
+        groups = l.groups;
+        behind = record {
+          begins = begins_until l goes_on (too.piece ++ too.more) too.consumed;
+          fits = l.fits;
+          few = few_long l too.piece too.more too.one too.fewer;
+          cause = (
+            omega (arith, too.all, too.one, l.limit, l.passed, length-append l.taken (reader.ahead ++ (too.piece ++ too.more)), length-append reader.ahead (too.piece ++ too.more), length-append too.piece too.more),
+            subst HaveNoGroup (sym (within l too.piece too.more too.all)) (no_group l too.piece too.fewer),
+          );
+        };
+        named = l.named;
+      }
+  stops_reading l goes_on faults.Failed long short failed =
+      let few = short (λ e. cc) in
+      record {
+        groups = l.groups;
+        behind = record {
+          begins = begins_until l goes_on few.piece few.consumed;
+          fits = l.fits;
+          few = few_short l few.piece few.fewer;
+          cause = (Rose-earlier s0 s1 s2 l.source_stays (failed refl), no_group l few.piece few.fewer);
+        };
+        named = l.named;
+      }
+  stops_reading l goes_on faults.Memory long short failed =
+      let few = short (λ e. cc) in
+      record {
+        groups = l.groups;
+        behind = record {
+          begins = begins_until l goes_on few.piece few.consumed;
+          fits = l.fits;
+          few = few_short l few.piece few.fewer;
+          cause = tt;
+        };
+        named = l.named;
+      }
 
   at_end : (ended : Bool) → (ended ≡ true → IsAtEnd left1) → (ended ≡ false → IsAtEnd left2) → (ended ≡ true → left2 ≡ left1) → IsAtEnd left2
   at_end true before now same = subst IsAtEnd (sym (same refl)) (before refl)
   at_end false before now same = now refl
+
+  ends_all : (ended : Bool) (bytes rest : List ℕ) → (ended ≡ false → EndsLine bytes) → rest ≡ [] → IsAtEnd left2 → EndsLine bytes ⊎ ((rest ≡ []) × IsAtEnd left2)
+  ends_all true bytes rest closes none end = inr (none, end)
+  ends_all false bytes rest closes none end = inl (closes refl)
 
   both_none : (xs ys : List ℕ) → [] ≡ xs ++ ys → (xs ≡ []) × (ys ≡ [])
   both_none [] ys e = (refl, sym e)
   both_none (x ∷ xs) ys e = cc
 
   -- the input is taken in whole
-  pub loaded : (next : Reading) → Loading now left0 left1 err0 err1 reader shelf lines → Advanced left1 left2 reader next → IsOver next
-      → (reader.ended ≡ false → next.ended ≡ true → IsAtEnd left2 × (next.ahead ≡ [])) → (reader.ended ≡ true → left2 ≡ left1) → IsLoaded now left0 left2 shelf err0 err1
-  loaded next l advanced over ended idle =
+  pub loaded : (l : Until) → (next : Reading) → Advanced left1 left2 reader next → IsOver next
+      → (reader.ended ≡ false → next.ended ≡ true → IsAtEnd left2 × (next.ahead ≡ [])) → (reader.ended ≡ true → left2 ≡ left1)
+      → IsLoaded now Source (change err0 err1 f0 f1) shelf
+  loaded l next advanced over ended idle =
       let advances = advanced.2 in
       let left_over : [] ≡ reader.ahead ++ advanced.0 = sym (ap (λ g. g ++ next.ahead) over.group ∙ over.ahead) ∙ advances.joined in
       let none = both_none reader.ahead advanced.0 left_over in
       let end : IsAtEnd left2 = at_end reader.ended (λ e. (l.over e).0) (λ e. (ended e over.ended).0) idle in
-      let all : (l.taken ++ reader.ahead) ++ advanced.0 ≡ l.taken =
-      ap (λ p. (l.taken ++ reader.ahead) ++ p) none.1 ∙ append_nil (l.taken ++ reader.ahead) ∙ ap (λ a. l.taken ++ a) none.0 ∙ append_nil l.taken in
+      let all : (l.taken ++ reader.ahead) ++ advanced.0 ≡ l.taken ++ [] =
+      ap (λ p. (l.taken ++ reader.ahead) ++ p) none.1 ∙ append_nil (l.taken ++ reader.ahead) ∙ ap (λ a. l.taken ++ a) none.0 in
       record {
-        input = l.taken;
         groups = l.groups;
-        begun = record {
-          consumed = subst (Consumes left0 left2) all (Consumes-trans left0 left1 left2 _ _ l.consumed advanced.1);
-          begins = record {
-            lines = lines_of l.taken;
-            later = [];
-            cut = sym (append_nil (lines_of l.taken));
-            given = l.given;
-            grouped = AreGroups-weaken l.groups (reader.ended ≡ true) ([] ≡ [] × IsAtEnd left2) (λ _. (refl, end)) l.grouped;
-          };
-          fits = l.fits;
+        begins = record {
+          taken = l.taken;
+          rest = [];
+          gave = subst (Consumes left0 left2) all (Consumes-trans left0 left1 left2 _ _ l.gave advanced.1);
+          whole = ends_all reader.ended l.taken [] l.open_ends refl end;
+          given = l.given;
+          grouped = AreGroups-weaken l.groups (reader.ended ≡ true) _ (λ _. (refl, end)) l.grouped;
         };
-        ended = end;
+        all = refl;
+        spent = end;
         within = omega (arith, l.passed, l.within);
-        intake = l.given;
+        fits = l.fits;
         holding = l.held;
         named = l.named;
       }
 
 -- the run stops before anything is read
-pub stops_unread : (now : ℕ) (left err : Option (List ℕ)) (s0 s2 f0 f2 : ℕ) → IsStopped now left left s0 s2 err err f0 f2 NoMemory
-stops_unread now left err s0 s2 f0 f2 = record {
-  input = [];
+pub stops_unread : (now : ℕ) (left : Option (List ℕ)) (s0 s1 : ℕ) (err : Option (List ℕ)) (f0 f1 : ℕ)
+    → StopsUntold now (change left left s0 s1) (change err err f0 f1) model.no_memory
+stops_unread now left s0 s1 err f0 f1 = record {
   groups = [];
-  begun = record {
-    consumed = Consumes-nil left;
-    begins = record { lines = []; later = []; cut = lines_of-none; given = tt; grouped = tt };
+  behind = record {
+    begins = record {
+      taken = [];
+      rest = [];
+      gave = Consumes-nil left;
+      whole = inl (inl refl);
+      given = subst (λ ls. AllZip (HasOutcome now) ls []) (sym lines_of-none) tt;
+      grouped = tt;
+    };
     fits = record { few = omega arith; light = tt };
+    few = record { group = []; ahead = []; parts = refl; lines = omega arith; short = omega arith };
+    cause = tt;
   };
-  stops = Appends-nil err;
+  named = Appends-nil err;
 }

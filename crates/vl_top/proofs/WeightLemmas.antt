@@ -10,7 +10,7 @@ use Rattle.vl_row.specs.declared.row.RowFault.TheVariants.{TimeRange, NameLong, 
 use Rattle.vl_row.specs.Faults.{fields_fault, is_long_named, row_fault, size_fault, stored}
 use Rattle.ingest_row.specs.Ingest.{plain, row_fields}
 use Rattle.ingest_row.specs.Intake.{Outcome, passed_over, read, refused, rows_read}
-use Rattle.vl_top.specs.Intake.{Gives}
+use Rattle.vl_top.specs.Groups.{HasOutcome}
 
 -- what was not chosen
 passed : {A : Type 0} (test : Bool) (fault : A) (others : Option A) → cond test (Some fault) others ≡ None → (test ≡ false) × (others ≡ None)
@@ -30,13 +30,13 @@ light_fields time fields none =
     light_size (list_any is_long_named (stored fields)) (length (stored fields)) (weight (stored fields)) kept
 
 -- a row of a line is as light as every row
-light_row : (now : ℕ) (line : List ℕ) (row : Row) → Gives now line (read row) → weight row.fields ≤ 262_144
+light_row : (now : ℕ) (line : List ℕ) (row : Row) → HasOutcome now line (read row) → weight row.fields ≤ 262_144
 light_row now line row given =
     let made = given.1.is_row in
     subst (λ (r : Row). weight r.fields ≤ 262_144) (sym made.is_row) (light_fields made.time (row_fields plain given.1.fields) made.faultless)
 
 -- no more than each line may
-pub rows_light : (now : ℕ) (lines : List (List ℕ)) (outcomes : List Outcome) → AllZip (Gives now) lines outcomes → batch_weight (rows_read outcomes) ≤ 262_144 * length lines
+pub rows_light : (now : ℕ) (lines : List (List ℕ)) (outcomes : List Outcome) → AllZip (HasOutcome now) lines outcomes → batch_weight (rows_read outcomes) ≤ 262_144 * length lines
 rows_light now [] [] all = omega arith
 rows_light now [] (o ∷ os) all = absurd all
 rows_light now (line ∷ lines) [] all = absurd all

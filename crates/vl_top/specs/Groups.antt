@@ -6,7 +6,7 @@ use Rattle.log_model.specs.Core.{held_limit}
 use Rattle.log_model.specs.Line.{lines_of}
 use Rattle.log_model.specs.Row.{Row, Batch, batch_limit, batch_weight}
 use Rattle.ingest_row.specs.Ingest.{plain}
-use Rattle.ingest_row.specs.Intake.{Outcome, Gives, refused_from, rows_read}
+use Rattle.ingest_row.specs.Intake.{Outcome, IsOutcome, refused_from, rows_read}
 use Rattle.ingest_row.specs.Refusal.{kind_text}
 use Rattle.ingest_row.specs.declared.body.LineFault.{LineFault}
 use Rattle.ingest_row.specs.declared.kind.LineKind.{LineKind}
@@ -14,7 +14,7 @@ use Rattle.vl_top.specs.declared.intake.Group.{Group}
 
 -- what becomes of a line that comes in at the moment `now`, with nothing else asked for
 abbrev pub HasOutcome : ℕ → List ℕ → Outcome → Type 0
-HasOutcome now line outcome = Gives plain (pos now) line outcome
+HasOutcome now line outcome = IsOutcome plain (pos now) line outcome
 
 -- each line of the input has its outcome, in order
 abbrev pub HaveOutcomes : ℕ → List ℕ → List Outcome → Type 0

@@ -1,16 +1,62 @@
 //! Duvonka, a log database: what the program does. `run` carries the theorem.
 #![tactic(auto)]
+ghost use Rattle.std.specs.Prelude.{◌≡◌, ◌≢◌, ◌⊎◌, map};
+ghost use Rattle.vl_io.specs.Change.{change_of};
+ghost use Rattle.vl_top.specs.Run.{IsRun};
 
 mod answer;
 mod command;
 mod intake;
 mod interrupt;
 mod load;
+mod pipe;
 mod query;
 mod report;
-mod run;
 mod status;
 
 pub use report::{report_no_memory, report_usage};
-pub use run::run;
 pub use status::Status;
+
+use command::query_text;
+use pipe::answer_query;
+use query::Query;
+use report::report_refused;
+use vl_io::{Clock, Sink, Source};
+
+/// Does what the words ask for, and answers the status that the process ends with.
+///
+/// `pipe QUERY` reads the query, then the source to its end in groups of 1,000 lines, and writes the lines of the rows
+/// that hold.
+pub fn run<R: AllocGlobal, S: Source, O: Sink, E: Sink, C: Clock>(
+    rt: &R,
+    words: &[&str],
+    src: &mut S,
+    out: &mut O,
+    err: &mut E,
+    clock: &mut C,
+) -> u8
+    // What each status says: the answer of 0, and the cause of each other one.
+    ensures run { IsRun (record {
+      words = map (λ word. word.now) words.now;
+      source = change_of S.left S.faults src.old src.new;
+      output = change_of O.written O.faults out.old out.new;
+      errors = change_of E.written E.faults err.old err.new;
+      moments_before = C.moments clock.old;
+      moments_after = C.moments clock.new;
+      status = result;
+    }) }
+
+    // What is refused is refused before anything is read.
+    ensures unread { (result ≡ 1) ⊎ (result ≡ 2) → src.new ≡ src.old }
+
+    // Only an answer is written to the output.
+    ensures untouched { result ≢ 0 → result ≢ 4 → out.new ≡ out.old }
+{
+    let Some(text) = query_text(words) else {
+        return report_usage(err).number();
+    };
+    let Some(query) = Query::read(text) else {
+        return report_refused(err).number();
+    };
+    answer_query(rt.alloc(), &query, src, out, err, clock).number()
+}

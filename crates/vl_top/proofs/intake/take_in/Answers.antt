@@ -7,7 +7,7 @@ pub names_after-requires : goal.names_after-requires
 names_after-requires c =
     let fits : FitsSigned w64 c.args.now = c.ranges.now in
     let taken = simp to_z-of_z at c.in_ok-intake.ensures in
-    rw c.as_slice.ensures.value (numbers c.args.now c.args.body.now c.args.lines_before c.in_ok-intake.intake taken.0
+    rw c.as_slice.ensures (numbers c.args.now c.args.body.now c.args.lines_before c.in_ok-intake.intake taken.0
     (is_given _ _ _ _ _ c.plain.ensures c.requires.moment taken.1) c.requires.numbers)
 
 pub returns : goal.returns
@@ -15,4 +15,4 @@ returns c =
     let fits : FitsSigned w64 c.args.now = c.ranges.now in
     let taken = simp to_z-of_z at c.in_ok-intake.ensures in
     is_taken c.args.now c.args.body.now c.args.lines_before c.in_ok-intake.intake taken.0 _
-    (is_given _ _ _ _ _ c.plain.ensures c.requires.moment taken.1) refl (rw c.as_slice.ensures.value at c.in_ok-refusals.ensures)
+    (is_given _ _ _ _ _ c.plain.ensures c.requires.moment taken.1) c.into_vec.ensures (rw c.as_slice.ensures at c.in_ok-refusals.ensures)

@@ -1,7 +1,6 @@
-use Rattle.std.proofs.Common.{◌<◌, length, ap, ◌∙◌, subst, arith}
-use Rattle.log_model.specs.History.{rows_in}
+use Rattle.std.proofs.Common.{◌<◌, length, ap, subst, arith}
+use Rattle.log_model.specs.History.{AreRowsOf}
 use Rattle.log_model.specs.Row.{batch_weight}
-use Rattle.log_model.proofs.Numbering.{rows_in_numbered}
 use Rattle.vl_top.proofs.HeldLemmas.{held_more}
 use Rattle.vl_top.proofs.load.commit_rows.Goals as goal
 
@@ -11,5 +10,5 @@ returns-in-Ok-commit-clause-committed c =
     let some : 0 < length c.args.rows.items = subst (λ rows. 0 < length rows) same c.in-Ok.ensures.rules.some in (
       omega (arith, c.in-Ok.ensures.rules.light, ap batch_weight same),
       λ batches held. held_more c.args.shelf.now c.commit.new.self c.from.result c.args.rows.items batches some
-          (ap rows_in c.from.ensures.0 ∙ rows_in_numbered 0 0 c.in-Ok.batch ∙ same) c.in-Ok-commit.ensures.goes held,
+          (subst (AreRowsOf c.from.result) same c.from.ensures.1) c.in-Ok-commit.ensures.goes held,
     )

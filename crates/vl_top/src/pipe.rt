@@ -1,61 +1,23 @@
-ghost use Rattle.std.specs.Prelude.{◌≡◌, ◌≢◌, ◌⊎◌, ◌≤◌, ◌≤ℤ◌, ℕ, OnOk, IfErr, map, pos, unsigned_abs};
+//! A query over the input.
+ghost use Rattle.std.specs.Prelude.{◌≡◌, ◌≢◌, ◌≤◌, ◌≤ℤ◌, ℕ, OnOk, IfErr, pos, unsigned_abs};
 ghost use Rattle.vl_io.specs.Change.{change_of};
 ghost use Rattle.vl_io.specs.Moments.{FirstTold};
 ghost use Rattle.vl_top.specs.Pipe.{EndsPipe, StopsPipe};
 ghost use Rattle.vl_top.specs.Query.{meaning};
-ghost use Rattle.vl_top.specs.Run.{IsAnswered, IsRun};
+ghost use Rattle.vl_top.specs.Run.{IsAnswered};
 
 use crate::answer::snapshot_lines;
-use crate::command::query_text;
 use crate::interrupt::Interrupt;
 use crate::load::load;
 use crate::query::Query;
-use crate::report::{report_interrupt, report_refused, report_usage};
+use crate::report::report_interrupt;
 use crate::status::Status;
 use log_core::Shelf;
 use std::alloc::Global;
 use vl_io::{Clock, Failed, Sink, Source, put_all};
 
-/// Does what the words ask for, and answers the status that the process ends with.
-///
-/// `pipe QUERY` reads the query, then the source to its end in groups of 1,000 lines, and writes the lines of the rows
-/// that hold.
-pub fn run<R: AllocGlobal, S: Source, O: Sink, E: Sink, C: Clock>(
-    rt: &R,
-    words: &[&str],
-    src: &mut S,
-    out: &mut O,
-    err: &mut E,
-    clock: &mut C,
-) -> u8
-    // What each status says: the answer of 0, and the cause of each other one.
-    ensures run { IsRun (record {
-      words = map (λ word. word.now) words.now;
-      source = change_of S.left S.faults src.old src.new;
-      output = change_of O.written O.faults out.old out.new;
-      errors = change_of E.written E.faults err.old err.new;
-      moments_before = C.moments clock.old;
-      moments_after = C.moments clock.new;
-      status = result;
-    }) }
-
-    // What is refused is refused before anything is read.
-    ensures unread { (result ≡ 1) ⊎ (result ≡ 2) → src.new ≡ src.old }
-
-    // Only an answer is written to the output.
-    ensures untouched { result ≢ 0 → result ≢ 4 → out.new ≡ out.old }
-{
-    let Some(text) = query_text(words) else {
-        return report_usage(err).number();
-    };
-    let Some(query) = Query::read(text) else {
-        return report_refused(err).number();
-    };
-    answer(rt.alloc(), &query, src, out, err, clock).number()
-}
-
 /// Loads the input and writes the answer, or says why not.
-fn answer<S: Source, O: Sink, E: Sink, C: Clock>(
+pub fn answer_query<S: Source, O: Sink, E: Sink, C: Clock>(
     alloc: Global,
     query: &Query,
     src: &mut S,

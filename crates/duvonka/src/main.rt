@@ -1,25 +1,11 @@
-//! Duvonka, a log database: the program.
+//! Duvonka, a log database: the program. What it does is `vl_top::run`.
 #![tactic(auto)]
 
-mod answer;
-mod command;
-mod intake;
-mod load;
-mod query;
-mod report;
-mod run;
-mod status;
-mod stop;
-#[cfg(test)]
-mod tests;
-
-use report::{report_no_memory, report_usage};
-use run::run;
-use status::Status;
 use std::env;
 use std::io::ErrorKind;
 use std::process::ExitCode;
 use vl_io::{InputSource, OutputSink, SystemClock};
+use vl_top::{Status, report_no_memory, report_usage, run};
 
 fn main(rt: HostRuntime) -> ExitCode {
     let mut err = OutputSink::new(rt.stderr());

@@ -1,21 +1,12 @@
-//! The program over objects in memory. Below it, the crates that it stands on: a crate with tests is proved twice, so theirs are here.
+//! The program over objects in memory.
 //!
 //! The expected texts are worked by hand from the rules in `docs/`.
-mod ingest_tests;
-mod line_tests;
-mod moment_tests;
-mod option_tests;
-mod outside_tests;
-mod record_tests;
-mod row_tests;
-mod shelf_tests;
-mod stream_tests;
-mod word_tests;
 
-use crate::run::run;
+
 use std::alloc::AllocError;
 use std::test::Fail;
 use vl_io::{MemClock, MemSink, MemSource};
+use vl_top::run;
 
 /// Which calls of each object fail, counted from 0.
 #[derive(Clone, Copy)]

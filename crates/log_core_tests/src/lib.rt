@@ -1,0 +1,5 @@
+//! The shared state (`log_core`), and the limits of what it holds.
+#![tactic(auto)]
+
+#[cfg(test)]
+mod tests;

@@ -1,0 +1,5 @@
+//! Sources, sinks and clocks (`vl_io`).
+#![tactic(auto)]
+
+#[cfg(test)]
+mod tests;

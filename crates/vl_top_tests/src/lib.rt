@@ -1,0 +1,5 @@
+//! The program over objects in memory.
+#![tactic(auto)]
+
+#[cfg(test)]
+mod tests;
