@@ -8,7 +8,7 @@ use Rattle.std.specs.Option.{option_map_or}
 use Rattle.std.specs.declared.cmp.Ordering.{Ordering}
 use Rattle.std.specs.declared.cmp.Ordering.TheVariants.{Equal}
 use Rattle.std.specs.Ordering.{is_lt, int_cmp, nat_cmp, on, then_cmp}
-use Rattle.std.specs.Str.{all_ascii_digits}
+use Rattle.std.specs.List.{list_all}
 use Rattle.std.specs.Str.Parse.{signed_digits_value}
 use Rattle.log_model.specs.Field.{bytes_cmp}
 
@@ -39,7 +39,7 @@ has_shape (mark ∷ marks) (byte ∷ bytes) = (if mark == 100 then is_ascii_digi
 abbrev pub is_shortest_fraction : List ℕ → Bool
 is_shortest_fraction [] = true
 is_shortest_fraction (byte ∷ digits) =
-    (byte == 46) && (all_ascii_digits digits && (nat_le 1 (length digits) && (nat_le (length digits) 9 && not (slice_index digits (length digits - 1) == 48))))
+    (byte == 46) && (list_all is_ascii_digit digits && (nat_le 1 (length digits) && (nat_le (length digits) 9 && not (slice_index digits (length digits - 1) == 48))))
 
 -- A text of a moment in UTC, without its final `Z`: date and time of day with the shortest fraction of a second.
 abbrev pub is_moment_stem : List ℕ → Bool
