@@ -90,7 +90,8 @@ fn write_object(
     writer.end_object()
 }
 
-/// Writes the members of the row's record: the computed fields go between the stored ones, none of which has their names.
+/// Writes the members of the row's record: the computed fields go between the stored ones, none of which has their
+/// names.
 fn write_record(
     writer: &mut Writer,
     row: &Row,

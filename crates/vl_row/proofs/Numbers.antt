@@ -1,6 +1,6 @@
 -- The texts that are parsed as numbers are those of integers.
-use Rattle.std.proofs.Common.{◌==◌, eqb-true, ◌≡◌, ◌≢◌, ℕ, zero, suc, ◌+◌, ◌-◌, ◌^◌, ◌<◌, ◌≤◌, ◌⊎◌, inl, inr, ◌||◌, Bool, true, false, cond, List, [], ◌∷◌, ◌++◌, length, take, drop, get_or, bytes_eq, codes, ℤ, pos, negsuc, neg_ℤ, FitsSigned, Option, Some, None, Result, Ok, Err, MatchOption, IfSome, IfNone, refl, sym, ap, subst, ◌∙◌, arith}
-use Rattle.std.proofs.lemmas.Bool.{or_cases, or_left, or_right, ne_eqb, eq-eqb, cases_eq}
+use Rattle.std.proofs.Common.{◌==◌, eqb-true, ◌≡◌, ℕ, zero, suc, ◌^◌, ◌<◌, ◌≤◌, inl, inr, Bool, true, false, cond, List, [], ◌∷◌, get_or, bytes_eq, codes, ℤ, pos, negsuc, neg_ℤ, FitsSigned, Option, Some, None, Result, Ok, Err, MatchOption, IfSome, IfNone, refl, sym, ap, subst, ◌∙◌, arith}
+use Rattle.std.proofs.lemmas.Bool.{or_cases, or_right, ne_eqb}
 use Rattle.std.proofs.lemmas.Bool.Decides.{nat_tests}
 use Rattle.std.proofs.lemmas.Fmt.{decimal_digit, first_decimal, decimal-digits_value, parse-signed_decimal, decimal_is_IsNumeral}
 use Rattle.std.proofs.lemmas.Int.{ints}
@@ -9,7 +9,7 @@ use Rattle.std.proofs.lemmas.Str.Parse.{numerals_by_value, tells_digits, digit_a
 use Rattle.std.specs.Fmt.{decimal, signed_decimal}
 use Rattle.std.specs.Int.{w64, is_in_range}
 use Rattle.std.specs.Result.{result_ok}
-use Rattle.std.specs.Str.Parse.{ParsesSigned, IsNumeral, AllDigits, digits_value, signed_digits_value, without_leading_sign}
+use Rattle.std.specs.Str.Parse.{ParsesSigned, IsNumeral, digits_value, signed_digits_value, without_leading_sign}
 use Rattle.log_model.specs.Order.{IsIntegerText, number_of}
 use Rattle.log_model.proofs.ValueOrder.{number_of-some, number_of-is, unsigned, unsigned_value}
 use Rattle.vl_row.specs.Keys.{begins_number}

@@ -1,8 +1,10 @@
-ghost use Rattle.std.specs.Prelude.{◌≡◌, ◌==◌, ◌-◌, ◌&&◌, ℤ, IfSome, IfNone, if◌then◌else◌, length, nat_le, not, slice_index};
+ghost use Rattle.std.specs.Prelude.{◌≡◌, ◌==◌, ◌-◌, ◌&&◌, ℤ, IfSome, IfNone, if◌then◌else◌, length, nat_le, not};
+ghost use Rattle.std.specs.Prelude.{slice_index};
 ghost use Rattle.std.specs.Char.{is_ascii_digit};
 ghost use Rattle.std.specs.List.{list_all};
 ghost use Rattle.std.specs.Option.{option_map};
-ghost use Rattle.log_model.specs.Order.{IsIntegerText, IsLinearOrder, has_shape, is_moment_stem, is_shortest_fraction, key_cmp, key_of, moment_stem_of, number_of, value_cmp};
+ghost use Rattle.log_model.specs.Order.{AreKeys, IsIntegerText, IsLinearOrder, key_cmp, key_of, number_of, value_cmp};
+ghost use Rattle.log_model.specs.Order.{has_shape, is_moment_stem, is_shortest_fraction, moment_stem_of};
 ghost use Rattle.vl_row.specs.Keys.{begins_number, key_from};
 
 use std::cmp::Ordering;
@@ -55,12 +57,12 @@ pub fn value_order(a: &str, b: &str) -> Ordering
     order_of(key_of(a), key_of(b))
 }
 
-/// Value order is a linear order: it is total, and only a text is equal to itself. This does nothing; its contract is
-/// what sorts, searches and maps need.
+/// What value order promises. This does nothing: its contract is the law that sorts, searches and maps need. The order
+/// is linear: it is total, and only a text is equal to itself.
 pub fn value_order_law()
-    ensures { IsLinearOrder value_cmp }
-{
-}
+    ensures keys { AreKeys key_of }
+    ensures linear { IsLinearOrder value_cmp }
+{}
 
 #[tactic(auto, unfolding(log_model::specs::Order::key_of))]
 fn key_of(s: &str) -> Key<'_>

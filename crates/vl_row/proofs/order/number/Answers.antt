@@ -1,6 +1,5 @@
-use Rattle.std.proofs.Common.{◌≡◌, ◌∙◌, ap, sym, subst, true, false, ℤ, List, Option, Some, None, MatchOption}
+use Rattle.std.proofs.Common.{sym, subst, true, false, ℤ, Option, None, MatchOption}
 use Rattle.log_model.specs.Order.{IsIntegerText}
-use Rattle.vl_row.specs.Keys.{begins_number}
 use Rattle.vl_row.proofs.Numbers.{answered, begins_is, missing_of, no_number, parsed, some_of}
 use Rattle.vl_row.proofs.order.number.Goals as goal
 
