@@ -6,11 +6,7 @@ mod line_tests;
 mod moment_tests;
 mod option_tests;
 mod outside_tests;
-mod record_tests;
-mod row_tests;
 mod shelf_tests;
-mod stream_tests;
-mod word_tests;
 
 use crate::run::run;
 use std::alloc::AllocError;
