@@ -3,6 +3,9 @@ use Rattle.std.proofs.Common.{◌≡◌, ℕ, suc, ◌-◌, ◌^◌, ◌<◌, �
 use Rattle.std.proofs.lemmas.Bool.{and_parts, and_from, ne_eqb}
 use Rattle.std.proofs.lemmas.Fmt.{digits_decimal, digits_value-decimal, decimal_nonempty}
 use Rattle.std.proofs.lemmas.Int.{ints}
+use Rattle.std.proofs.Common.{length-append, ◌∷◌, [], ◌+◌, drop}
+use Rattle.std.proofs.Math.Seq.{take-append_seam}
+use Rattle.std.specs.Option.{option_map_or}
 use Rattle.std.proofs.lemmas.Map.Text.{is_eq-slice_cmp}
 use Rattle.std.proofs.lemmas.Slice.Eq.{bytes_eq-Decides}
 use Rattle.std.proofs.lemmas.Str.Parse.{numerals_by_value, tells_digits, digit_at, without_leading_plus_none}
@@ -16,7 +19,7 @@ use Rattle.std.specs.Fmt.{decimal, signed_decimal}
 use Rattle.std.specs.Int.{w64}
 use Rattle.std.specs.Str.Parse.{digits_value, signed_digits_value, without_leading_plus, without_leading_sign}
 use Rattle.log_model.specs.Field.{bytes_cmp}
-use Rattle.log_model.specs.Order.{IsIntegerText, number_of, IsMomentText, moment_stem_of, Key, number, moment, other, key_of, rank, integer_of, bytes_of, key_cmp, value_cmp, IsLinearOrder}
+use Rattle.log_model.specs.Order.{IsIntegerText, number_of, IsMomentText, moment_stem_of, Key, number, moment, other, AreKeys, key_of, rank, integer_of, bytes_of, key_cmp, value_cmp, IsLinearOrder}
 
 -- ---- numbers
 
@@ -102,6 +105,88 @@ chosen text None None is_number is_moment = rw (is_number, is_moment) refl
 
 pub text_of-key : (text : List ℕ) → text_of (key_of text) ≡ text
 text_of-key text = chosen text (number_of text) (moment_stem_of text) refl refl
+
+-- a text that ends in no digit is no number
+last_is : (front : List ℕ) (x : ℕ) → get_or (front ++ x ∷ []) (length front) 0 ≡ x
+last_is [] x = refl
+last_is (y ∷ ys) x = last_is ys x
+
+positive-small : (n : ℕ) → FitsSigned w64 (pos n) → n < 2 ^ 64
+positive-small n fits = omega (arith, ints)
+
+negative-small : (n : ℕ) → FitsSigned w64 (negsuc n) → suc n < 2 ^ 64
+negative-small n fits = omega (arith, ints)
+
+decimal-digit_at : (n : ℕ) → n < 2 ^ 64 → (i : ℕ) → i < length (decimal n) → get_or (decimal n) i 0 ≤ 57
+decimal-digit_at n small i within = (digit_at (decimal n) i (digits_decimal (numerals_by_value _ tells_digits) n small) within).1
+
+ends_in_digit : (digits front : List ℕ) (x : ℕ) → ((i : ℕ) → i < length digits → get_or digits i 0 ≤ 57) → digits ≡ front ++ x ∷ [] → x ≤ 57
+ends_in_digit digits front x each e =
+    let whole : length digits ≡ length front + 1 = ap length e ∙ length-append front (x ∷ []) in
+    let last : get_or digits (length front) 0 ≡ x = ap (λ (bs : List ℕ). get_or bs (length front) 0) e ∙ last_is front x in
+    omega (arith, each (length front) (omega arith))
+
+signed_ends : (digits front : List ℕ) (x : ℕ) → ((i : ℕ) → i < length digits → get_or digits i 0 ≤ 57) → 45 ∷ digits ≡ front ++ x ∷ [] → x ≤ 57
+signed_ends digits [] x each e = let first : 45 ≡ x = ap (λ (bs : List ℕ). get_or bs 0 0) e in omega arith
+signed_ends digits (y ∷ front) x each e = ends_in_digit digits front x each (ap (drop 1) e)
+
+integer_ends : (z : ℤ) (front : List ℕ) (x : ℕ) → FitsSigned w64 z → signed_decimal z ≡ front ++ x ∷ [] → x ≤ 57
+integer_ends (pos n) front x fits e = ends_in_digit (decimal n) front x (decimal-digit_at n (positive-small n fits)) e
+integer_ends (negsuc n) front x fits e = signed_ends (decimal (suc n)) front x (decimal-digit_at (suc n) (negative-small n fits)) e
+
+missing : {X : Type 0} (o : Option X) → ((x : X) → o ≡ Some x → ⊥) → o ≡ None
+missing None h = refl
+missing (Some x) h = absurd (h x refl)
+
+moment_no_number : (text stem : List ℕ) → IsMomentText text stem → number_of text ≡ None
+moment_no_number text stem h = missing (number_of text) (λ z e.
+    let is = number_of-some text z e in
+    absurd (not_below (integer_ends z stem 90 is.fits (sym is.spelled ∙ h.spelled))))
+  where
+    not_below : 90 ≤ 57 → ⊥
+    not_below h = omega arith
+
+front_of : (front : List ℕ) → take (length (front ++ codes "Z") - 1) (front ++ codes "Z") ≡ front
+front_of front =
+    let short : length (front ++ codes "Z") - 1 ≡ length front = omega (arith, length-append front (codes "Z")) in
+    rw short (take-append_seam front (codes "Z"))
+
+pub moment_stem_of-is : (text stem : List ℕ) → IsMomentText text stem → moment_stem_of text ≡ Some stem
+unfolding moment_stem_of
+moment_stem_of-is text stem h =
+    let same : take (length text - 1) text ≡ stem = rw h.spelled (front_of stem) in
+    let tests = and_from _ _ ((bytes_eq-Decides text (stem ++ codes "Z")).1 h.spelled) h.shape in
+    rw same (rw tests refl)
+
+key_cases : (text : List ℕ) (n : Option ℤ) (m : Option (List ℕ)) → number_of text ≡ n → moment_stem_of text ≡ m → key_of text ≡ option_map_or number n (option_map_or moment m (other text))
+unfolding key_of
+key_cases text n m is_number is_moment = rw (is_number, is_moment) refl
+
+key_is : (text : List ℕ) → key_of text ≡ option_map_or number (number_of text) (option_map_or moment (moment_stem_of text) (other text))
+unfolding key_of
+key_is text = refl
+
+number_key : (text : List ℕ) (n : Option ℤ) (m : Option (List ℕ)) (z : ℤ) → option_map_or number n (option_map_or moment m (other text)) ≡ number z → n ≡ Some z
+number_key text (Some n) m z e = cc
+number_key text None (Some m) z e = absurd cc
+number_key text None None z e = absurd cc
+
+moment_key : (text : List ℕ) (n : Option ℤ) (m : Option (List ℕ)) (stem : List ℕ) → option_map_or number n (option_map_or moment m (other text)) ≡ moment stem → m ≡ Some stem
+moment_key text (Some n) m stem e = absurd cc
+moment_key text None (Some m) stem e = cc
+moment_key text None None stem e = absurd cc
+
+other_key : (text : List ℕ) (n : Option ℤ) (m : Option (List ℕ)) (bytes : List ℕ) → option_map_or number n (option_map_or moment m (other text)) ≡ other bytes → bytes ≡ text
+other_key text (Some n) m bytes e = absurd cc
+other_key text None (Some m) bytes e = absurd cc
+other_key text None None bytes e = cc
+
+pub key_of-keys : AreKeys key_of
+key_of-keys = record {
+  numbers = λ text z. (λ e. number_of-some text z (number_key text _ _ z (sym (key_is text) ∙ e)), λ h. key_cases text (Some z) (moment_stem_of text) (number_of-is text z h) refl);
+  moments = λ text stem. (λ e. moment_stem_of-some text stem (moment_key text _ _ stem (sym (key_is text) ∙ e)), λ h. key_cases text None (Some stem) (moment_no_number text stem h) (moment_stem_of-is text stem h));
+  others = λ text bytes e. other_key text _ _ bytes (sym (key_is text) ∙ e);
+}
 
 -- ---- the order
 

@@ -1,5 +1,7 @@
 -- The order of values: numbers first, by value; then the texts of moments, and last all other texts, both by bytes.
-use Rattle.std.specs.Prelude.{◌≡◌, ℕ, Bool, true, false, ◌&&◌, ◌-◌, ◌^◌, ◌==◌, ◌↔◌, not, nat_le, List, [], ◌∷◌, ◌++◌, length, take, drop, slice_index, bytes_eq, codes, IsTrue, ℤ, pos, neg_ℤ, int_le, int_lt, FitsSigned, Option, Some, None, if◌then◌else◌}
+use Rattle.std.specs.Prelude.{◌≡◌, ℕ, Bool, true, false, ◌&&◌, ◌-◌, ◌^◌, ◌==◌, ◌↔◌, not, nat_le, List, [], ◌∷◌, ◌++◌}
+use Rattle.std.specs.Prelude.{length, take, drop, slice_index, bytes_eq, codes, IsTrue, ℤ, pos, neg_ℤ, int_le, int_lt}
+use Rattle.std.specs.Prelude.{FitsSigned, Option, Some, None, if◌then◌else◌}
 use Rattle.std.specs.Char.{is_ascii_digit}
 use Rattle.std.specs.Cmp.{IsTotalOrder, IsStrictWeakOrder}
 use Rattle.std.specs.Fmt.{signed_decimal}
@@ -8,7 +10,7 @@ use Rattle.std.specs.Option.{option_map_or}
 use Rattle.std.specs.declared.cmp.Ordering.{Ordering}
 use Rattle.std.specs.declared.cmp.Ordering.TheVariants.{Equal}
 use Rattle.std.specs.Ordering.{is_lt, int_cmp, nat_cmp, on, then_cmp}
-use Rattle.std.specs.Str.{all_ascii_digits}
+use Rattle.std.specs.List.{list_all}
 use Rattle.std.specs.Str.Parse.{signed_digits_value}
 use Rattle.log_model.specs.Field.{bytes_cmp}
 
@@ -23,7 +25,8 @@ pub record IsIntegerText (text : List ℕ) (integer : ℤ) : Type 0 where
 unfoldable pub number_of : List ℕ → Option ℤ
 number_of text =
     let integer = signed_digits_value 10 text in
-    if bytes_eq text (signed_decimal integer) && (int_le (neg_ℤ (pos (2 ^ 63))) integer && int_lt integer (pos (2 ^ 63)))
+    if bytes_eq text (signed_decimal integer)
+    && (int_le (neg_ℤ (pos (2 ^ 63))) integer && int_lt integer (pos (2 ^ 63)))
     then Some integer else None
 
 -- ---- texts of moments
@@ -33,13 +36,15 @@ abbrev pub has_shape : List ℕ → List ℕ → Bool
 has_shape [] [] = true
 has_shape [] (byte ∷ bytes) = false
 has_shape (mark ∷ marks) [] = false
-has_shape (mark ∷ marks) (byte ∷ bytes) = (if mark == 100 then is_ascii_digit byte else byte == mark) && has_shape marks bytes
+has_shape (mark ∷ marks) (byte ∷ bytes) =
+    (if mark == 100 then is_ascii_digit byte else byte == mark) && has_shape marks bytes
 
 -- nothing, or a point and one to nine digits of which the last is not 0
 abbrev pub is_shortest_fraction : List ℕ → Bool
 is_shortest_fraction [] = true
 is_shortest_fraction (byte ∷ digits) =
-    (byte == 46) && (all_ascii_digits digits && (nat_le 1 (length digits) && (nat_le (length digits) 9 && not (slice_index digits (length digits - 1) == 48))))
+    (byte == 46) && (list_all is_ascii_digit digits
+    && (nat_le 1 (length digits) && (nat_le (length digits) 9 && not (slice_index digits (length digits - 1) == 48))))
 
 -- A text of a moment in UTC, without its final `Z`: date and time of day with the shortest fraction of a second.
 abbrev pub is_moment_stem : List ℕ → Bool
@@ -65,6 +70,13 @@ pub data Key : Type 0 where
 
 unfoldable pub key_of : List ℕ → Key
 key_of text = option_map_or number (number_of text) (option_map_or moment (moment_stem_of text) (other text))
+
+-- The key of a text is its integer where it is the text of one, its stem where it is the text of a moment, and else the
+-- text.
+pub record AreKeys (keys : List ℕ → Key) : Type 0 where
+  pub numbers : (text : List ℕ) (integer : ℤ) → (keys text ≡ number integer) ↔ IsIntegerText text integer
+  pub moments : (text stem : List ℕ) → (keys text ≡ moment stem) ↔ IsMomentText text stem
+  pub others : (text bytes : List ℕ) → keys text ≡ other bytes → bytes ≡ text
 
 -- the place of a key's kind
 abbrev pub rank : Key → ℕ

@@ -1,12 +1,10 @@
 //! The plain program: what the crate computes, in the plainest way. It is slow, and there to be compared with.
 ghost use Rattle.std.specs.Prelude.{◌≡◌, [], ◌∷◌, ◌++◌, cond, IfOk, OnOk, OnErr, string_bytes};
-ghost use Rattle.json.specs.Print.{quoted};
 ghost use Rattle.log_model.specs.Print.{line_text, member_text};
 ghost use Rattle.log_model.specs.Row.{record_of};
 
-use serde_json::Value;
 use std::alloc::{AllocError, Global};
-use stream_label::{label_text, stream_id};
+use stream_label::{label_text, push_quoted, stream_id};
 use time_text::write_moment;
 use vl_row::{Field, FieldList, Row, Text};
 
@@ -65,12 +63,4 @@ fn push_member(
     push_quoted(alloc, field.name(), out)?;
     out.push(':')?;
     push_quoted(alloc, field.value(), out)
-}
-
-fn push_quoted(alloc: Global, text: &str, out: &mut String) -> Result<(), AllocError>
-    ensures { OnOk result (string_bytes out.new ≡ string_bytes out.old ++ quoted text.now) }
-{
-    let value = Value::String(String::from_str(alloc, text)?);
-    let printed = value.to_string(alloc)?;
-    out.push_str(printed.as_str())
 }

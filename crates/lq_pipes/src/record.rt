@@ -9,6 +9,7 @@ use crate::members::{write_members, write_members_through};
 use crate::printed_stream::PrintedStream;
 use json::Writer;
 use std::alloc::{AllocError, Global};
+use std::marker::Model;
 use time_text::write_moment;
 use vl_row::{Row, Stream, Text};
 
@@ -16,15 +17,26 @@ use vl_row::{Row, Stream, Text};
 const LINE_BYTES: usize = 1024;
 
 /// Prints rows. It keeps the text and the id of the last row's stream, since the next row is mostly of the same one.
+///
+/// A contract sees it as the list of that stream's labels.
 #[derive(Drop)]
 pub struct Printer {
     stream: PrintedStream,
 }
 
+impl Model for Printer {
+    ghost use Rattle.std.specs.Prelude.{List};
+    ghost use Rattle.log_model.specs.Field.{Field as Pair};
+
+    ghost Value = { List Pair };
+
+    ghost view = { λ p. p.stream };
+}
+
 impl Printer {
-    /// A printer that has printed no row yet.
+    /// A printer that has printed no row yet: it keeps the stream without labels.
     pub fn new(alloc: Global) -> Result<Printer, AllocError>
-        ensures { IfOk result (λ printer. printer.stream ≡ []) }
+        ensures { IfOk result (λ printer. printer ≡ []) }
     {
         let stream = PrintedStream::of(alloc, Stream::new(alloc))?;
         Ok(Printer { stream })
@@ -47,7 +59,7 @@ impl Printer {
 
     /// Has the text and the id of this stream.
     fn turn_to(&mut self, alloc: Global, stream: &Stream) -> Result<(), AllocError>
-        ensures { OnOk result (self.new.stream ≡ stream.now) }
+        ensures { OnOk result (self.new ≡ stream.now) }
     {
         if self.stream.labels().is_same(stream) {
             return Ok(());
@@ -90,7 +102,8 @@ fn write_object(
     writer.end_object()
 }
 
-/// Writes the members of the row's record: the computed fields go between the stored ones, none of which has their names.
+/// Writes the members of the row's record: the computed fields go between the stored ones, none of which has their
+/// names.
 fn write_record(
     writer: &mut Writer,
     row: &Row,

@@ -1,16 +1,17 @@
 -- Lists of fields that are sorted by name: where a name stands, and what stays sorted.
-use Rattle.std.proofs.Common.{◌≡◌, ℕ, zero, suc, ◌+◌, ◌<◌, ◌≤◌, Bool, true, false, cond, List, [], ◌∷◌, ◌++◌, length, get_or, take, drop, set, insert, remove, filter, slice_get, Some, None, refl, sym, ap, ◌∙◌, IsTrue, bytes_eq, arith, add-one, unwrap_or}
-use Rattle.std.specs.List.{AllByRecursion, list_all}
-use Rattle.std.specs.List.Sorted.{IsStrictlySortedBy}
+use Rattle.std.proofs.Common.{◌≡◌, ℕ, zero, suc, ◌+◌, ◌<◌, ◌≤◌, Bool, true, false, cond, List, [], ◌∷◌, ◌++◌, length, get_or, take, drop, set, insert, remove, filter, slice_get, Some, None, Result, Ok, Err, MatchResult, IfOk, IfErr, refl, sym, ap, ◌∙◌, IsTrue, bytes_eq, arith, add-one, unwrap_or}
+use Rattle.std.specs.List.{AllByRecursion, AllWithin, list_all}
+use Rattle.std.specs.List.Sorted.{IsBinarySearchResult, IsNonDecreasingBy, IsSearchInRange, IsStrictlySortedBy}
 use Rattle.std.specs.declared.cmp.Ordering.TheVariants.{Less, Equal, Greater}
-use Rattle.std.specs.Ordering.{ordering_reverse, is_eq, match_ordering}
+use Rattle.std.specs.Ordering.{ordering_index, ordering_reverse, is_eq, match_ordering}
+use Rattle.std.specs.declared.cmp.Ordering.{Ordering}
 use Rattle.std.specs.Map.{keys_of, lookup}
 use Rattle.std.specs.BTreeMap.{insert_entry}
 use Rattle.std.proofs.lemmas.Bool.{and_from, and_parts}
 use Rattle.std.proofs.lemmas.Bool.Decides.{nat_tests}
 use Rattle.std.proofs.lemmas.Cmp.{nat_list_cmp_total, tied_itself}
 use Rattle.std.proofs.lemmas.Map.Text.{is_eq-slice_cmp}
-use Rattle.std.proofs.lemmas.List.{drop_all, length-take-le, set_at, set_split}
+use Rattle.std.proofs.lemmas.List.{drop_all, get_or_default, length-take-le, set_at, set_split}
 use Rattle.std.proofs.lemmas.Option.{none-some, same_Some}
 use Rattle.std.proofs.lemmas.Slice.Eq.{bytes_eq-Decides}
 use Rattle.log_model.specs.Field.{Field, IsFieldList, bytes_cmp, field_value, is_filled, set_field, without}
@@ -184,7 +185,7 @@ get_at [] i x l is = absurd (omega arith)
 get_at (e ∷ es) zero x l is = ap Some (sym is)
 get_at (e ∷ es) (suc i) x l is = get_at es i x (omega arith) is
 
--- what a binary search has found
+-- where no field has the name
 pub gap : (fields : List Field) (name : List ℕ) (i : ℕ) → i ≤ length fields → AllBelow (take i fields) name → AllAbove (drop i fields) name → IsGapAt fields name i
 gap fields name i l b a = record {
   inside = l;
@@ -279,11 +280,50 @@ pub IsFieldList-filter : (p : Field → Bool) (fields : List Field) → IsFieldL
 IsFieldList-filter p fields rules =
     record { ordered = order_filter p fields rules.ordered; filled = all_pass is_filled (filter p fields) (all_filter (λ f. is_filled f ≡ true) p fields (filled_each fields rules)) }
 
--- where a binary search ends
-pub gap_between : (fields : List Field) (name : List ℕ) (low high : ℕ) → low ≤ high → high ≤ low → high ≤ length fields → AllBelow (take low fields) name → AllAbove (drop high fields) name → IsGapAt fields name low
-gap_between fields name low high up down l b a =
-    let same : high ≡ low = omega arith in
-    gap fields name low (omega arith) b (rw same at a)
+-- ---- binary search
+
+ordering_index-le : (o : Ordering) → ordering_index o ≤ 2
+ordering_index-le Less = omega arith
+ordering_index-le Equal = omega arith
+ordering_index-le Greater = omega arith
+
+-- names that rise are not sorted before a name after which they came
+rises : (x y name : List ℕ) (o : Ordering) → bytes_cmp x y ≡ Less → bytes_cmp y name ≡ o → ordering_index (bytes_cmp x name) ≤ ordering_index o
+rises x y name Less h e = rw (nat_list_cmp_total.trans x y name h e) (omega arith)
+rises x y name Equal h e = rw (rw (same_name y name e) at h) (omega arith)
+rises x y name Greater h e = ordering_index-le (bytes_cmp x name)
+
+searchable : (fields : List Field) (name : List ℕ) → IsInOrder fields → IsNonDecreasingBy (λ field. ordering_index (bytes_cmp field.0 name)) fields
+searchable [] name s i j d up within = absurd (omega arith)
+searchable (e ∷ es) name s zero zero d up within = omega arith
+searchable (e ∷ es) name s zero (suc j) d up within =
+    let inside : j < length es = omega arith in
+    let x = get_or es j d in
+    rises e.0 x.0 name (bytes_cmp x.0 name) (key_at e es j x s inside (get_or_default es j d x inside)) refl
+searchable (e ∷ es) name s (suc i) zero d up within = absurd (omega arith)
+searchable (e ∷ es) name s (suc i) (suc j) d up within = searchable es name (order_rest e es s) i j d (omega arith) (omega arith)
+
+below_from_each : (fields : List Field) (name : List ℕ) (i : ℕ) → i ≤ length fields → AllWithin (λ field. bytes_cmp field.0 name ≡ Less) fields 0 i → AllBelow (take i fields) name
+below_from_each fields name zero l h = tt
+below_from_each [] name (suc i) l h = absurd (omega arith)
+below_from_each (e ∷ es) name (suc i) l h = (h 0 e (omega arith) (omega arith), below_from_each es name i (omega arith) (λ k d low high. h (suc k) d (omega arith) (omega arith)))
+
+above_from_each : (fields : List Field) (name : List ℕ) (i : ℕ) → AllWithin (λ field. bytes_cmp field.0 name ≡ Greater) fields i (length fields) → AllAbove (drop i fields) name
+above_from_each [] name zero h = tt
+above_from_each [] name (suc i) h = tt
+above_from_each (e ∷ es) name zero h =
+    (less_from_greater e.0 name (h 0 e (omega arith) (omega arith)), above_from_each es name zero (λ k d low high. h (suc k) d (omega arith) (omega arith)))
+above_from_each (e ∷ es) name (suc i) h = above_from_each es name i (λ k d low high. h (suc k) d (omega arith) (omega arith))
+
+-- what a binary search has found
+pub searched : (fields : List Field) (name : List ℕ) (r : Result ℕ ℕ) → IsInOrder fields → IsSearchInRange r (length fields) → IsBinarySearchResult (λ field. bytes_cmp field.0 name) fields r → MatchResult r (IsAt fields name) (IsGapAt fields name)
+searched fields name (Ok i) s within h =
+    let blank : Field = ([], []) in
+    let x = get_or fields i blank in
+    place_at fields name i x s within (get_or_default fields i blank x within) (h blank)
+searched fields name (Err i) s within h =
+    let parts = h (searchable fields name s) in
+    gap fields name i within (below_from_each fields name i within parts.0) (above_from_each fields name i parts.1)
 
 -- a name above the last one stands behind all
 pub gap_at_end : (fields : List Field) (name : List ℕ) (i : ℕ) (x : Field) → IsInOrder fields → i + 1 ≡ length fields → x ≡ get_or fields i x → bytes_cmp x.0 name ≡ Less → IsGapAt fields name (length fields)
@@ -315,3 +355,13 @@ set_field-filled fields name (byte ∷ bytes) l = refl
 
 pub set-insert : {X : Type 0} (xs : List X) (i : ℕ) (y z : X) → i ≤ length xs → set (insert xs i y) i z ≡ insert xs i z
 set-insert xs i y z l = set_at (take i xs) y (drop i xs) z i (length-take-le i xs l)
+
+-- ---- one side of an answer
+
+pub if_ok : {T E : Type 0} (r : Result T E) (P : T → Type 0) (Q : E → Type 0) → MatchResult r P Q → IfOk r P
+if_ok (Ok x) P Q h = h
+if_ok (Err e) P Q h = tt
+
+pub if_err : {T E : Type 0} (r : Result T E) (P : T → Type 0) (Q : E → Type 0) → MatchResult r P Q → IfErr r Q
+if_err (Ok x) P Q h = tt
+if_err (Err e) P Q h = h

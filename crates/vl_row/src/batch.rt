@@ -43,7 +43,8 @@ impl Batch {
     /// A batch of these rows. A refusal gives them back.
     pub fn try_of(rows: Vec<Row>) -> Result<Batch, (BatchFault, Vec<Row>)>
         ensures ok { IfOk result (λ batch. (batch_fault rows.items ≡ None) × (batch ≡ rows.items)) }
-        ensures err { IfErr result (λ refused. (batch_fault rows.items ≡ Some refused.0) × (refused.1.items ≡ rows.items)) }
+        ensures err { IfErr result (λ refused. (batch_fault rows.items ≡ Some refused.0)
+            × (refused.1.items ≡ rows.items)) }
         ensures rules { IfOk result IsBatch }
     {
         if rows.is_empty() {

@@ -1,4 +1,5 @@
-ghost use Rattle.std.specs.Prelude.{◌≡◌, ◌≤◌, ◌&&◌, not, insert, vec_len, ◌<◌, ◌+◌, ◌-◌, ◌^◌, min, [], length, slice_get, IfOk, IfErr, IsTrue, OnOk, OnErr, Some, ◌↔◌};
+ghost use Rattle.std.specs.Prelude.{◌≡◌, ◌≤◌, ◌&&◌, not, insert, vec_len, ◌<◌, ◌+◌, ◌-◌, ◌^◌, min, [], length};
+ghost use Rattle.std.specs.Prelude.{slice_get, IfOk, IfErr, IsTrue, OnOk, OnErr, Some, ◌↔◌};
 ghost use Rattle.std.specs.BTreeMap.{insert_entry};
 ghost use Rattle.log_model.specs.Field.{IsFieldList, bytes_cmp, field_value, is_reserved, set_field, without};
 ghost use Rattle.vl_row.specs.Names.{is_among};
@@ -271,17 +272,7 @@ fn place_in(fields: &[Field], name: &str) -> Result<usize, usize>
     ensures found { IfOk result (IsAt fields.now name.now) }
     ensures missing { IfErr result (IsGapAt fields.now name.now) }
 {
-    let mut low = 0;
-    let mut high = fields.len();
-    while low < high {
-        let middle = low + (high - low) / 2;
-        match fields[middle].name().cmp(name) {
-            Ordering::Less => low = middle + 1,
-            Ordering::Equal => return Ok(middle),
-            Ordering::Greater => high = middle,
-        }
-    }
-    Err(low)
+    fields.binary_search_by(|field| field.name().cmp(name))
 }
 
 /// The same, for a name that mostly comes after all others.

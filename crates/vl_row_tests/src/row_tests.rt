@@ -1,7 +1,7 @@
-//! Texts, fields, rows and batches (`vl_row`).
+//! Texts, fields, streams, rows and batches.
 use std::alloc::{AllocError, Global};
 use std::test::Fail;
-use vl_row::{Batch, BatchFault, FieldList, Row, RowFault, Text};
+use vl_row::{Batch, BatchFault, FieldList, Items, Numbered, Row, RowFault, Text};
 
 fn list_of(alloc: Global, fields: &[(&str, &str)]) -> Result<FieldList, AllocError> {
     let mut list = FieldList::with_room(alloc, fields.len())?;
@@ -49,22 +49,7 @@ fn fields_like(
     Ok(list)
 }
 
-/// Whether the list shows so, and finds its fields.
-fn finds_fields(alloc: Global) -> Result<bool, AllocError> {
-    let mut list = list_of(alloc, &SET)?;
-    let set = shown(alloc, &list)?.as_str() == "Z=4 a=5 b=1 é=3 "
-        && list.get("a") == "5"
-        && list.get("c").is_empty()
-        && list.place_of("b") == Ok(2)
-        && list.place_of("c") == Err(3)
-        && list.len() == 4;
-    list.remove("b");
-    list.remove("c");
-    let copy = list.try_copy(alloc)?;
-    Ok(set && !list.is_empty() && shown(alloc, &copy)?.as_str() == "Z=4 a=5 é=3 ")
-}
-
-const SET: [(&str, &str); 7] = [
+const SET: &[(&str, &str)] = &[
     ("b", "1"),
     ("a", "2"),
     ("é", "3"),
@@ -74,9 +59,38 @@ const SET: [(&str, &str); 7] = [
     ("c", ""),
 ];
 
+/// Whether the fields are sorted, and each name has its last value.
+fn is_sorted(alloc: Global) -> Result<bool, AllocError> {
+    let list = list_of(alloc, SET)?;
+    Ok(shown(alloc, &list)?.as_str() == "Z=4 a=5 b=1 é=3 ")
+}
+
+/// Whether fields are found, and missing ones are not.
+fn finds_fields(alloc: Global) -> Result<bool, AllocError> {
+    let list = list_of(alloc, SET)?;
+    Ok(
+        list.get("a") == "5"
+            && list.get("c").is_empty()
+            && list.place_of("b") == Ok(2)
+            && list.place_of("c") == Err(3)
+            && list.len() == 4
+            && !list.is_empty(),
+    )
+}
+
+/// Whether a field is removed, and a copy shows the others.
+fn removes_fields(alloc: Global) -> Result<bool, AllocError> {
+    let mut list = list_of(alloc, SET)?;
+    list.remove("b");
+    list.remove("c");
+    Ok(shown(alloc, &list.try_copy(alloc)?)?.as_str() == "Z=4 a=5 é=3 ")
+}
+
 #[test]
 fn fields_are_sorted_and_later_ones_count(rt: HostRuntime) -> Result<(), Fail> {
+    assert!(rt; is_sorted(rt.alloc())?);
     assert!(rt; finds_fields(rt.alloc())?);
+    assert!(rt; removes_fields(rt.alloc())?);
     Ok(())
 }
 
@@ -93,8 +107,8 @@ fn grows(alloc: Global, len: usize, more: usize) -> Result<bool, AllocError> {
 
 #[test]
 fn texts_grow_past_what_lies_inline(rt: HostRuntime) -> Result<(), Fail> {
-    for len in [0, 1, 29, 30, 31, 64] {
-        for more in [0, 1, 2, 30] {
+    for &len in &[0, 1, 29, 30, 31, 64] {
+        for &more in &[0, 1, 2, 30] {
             assert!(rt; grows(rt.alloc(), len, more)?, "at {len} and {more}");
         }
     }
@@ -121,7 +135,7 @@ fn is_answered(alloc: Global, made: Made, fault: Option<RowFault>) -> Result<boo
     }
 }
 
-const ROWS: [(i64, usize, usize, usize, Option<RowFault>); 13] = [
+const ROWS: &[(i64, usize, usize, usize, Option<RowFault>)] = &[
     (0, 1, 128, 1, None),
     (0, 1, 129, 1, Some(RowFault::NameLong)),
     (0, 1000, 4, 1, None),
@@ -139,7 +153,7 @@ const ROWS: [(i64, usize, usize, usize, Option<RowFault>); 13] = [
 
 #[test]
 fn rows_are_refused_past_their_limits(rt: HostRuntime) -> Result<(), Fail> {
-    for (time, fields, name_len, value_len, fault) in ROWS {
+    for &(time, fields, name_len, value_len, fault) in ROWS {
         let made = Made {
             time,
             fields,
@@ -154,11 +168,11 @@ fn rows_are_refused_past_their_limits(rt: HostRuntime) -> Result<(), Fail> {
     Ok(())
 }
 
-const RESERVED: [(&str, &str); 3] = [("_time", "x"), ("_stream", "y"), ("_stream_id", "z")];
+const RESERVED: &[(&str, &str)] = &[("_time", "x"), ("_stream", "y"), ("_stream_id", "z")];
 
 /// Whether a row leaves out the reserved names, and nothing else.
 fn leaves_out(alloc: Global) -> Result<bool, AllocError> {
-    let mut list = list_of(alloc, &RESERVED)?;
+    let mut list = list_of(alloc, RESERVED)?;
     list.set(alloc, "_times", "k")?;
     list.set(alloc, "a", "1")?;
     let Ok(row) = Row::try_new(alloc, 7, &[], list) else {
@@ -175,7 +189,7 @@ fn leaves_out(alloc: Global) -> Result<bool, AllocError> {
 
 /// Whether a row of reserved names alone is refused, and gives them back.
 fn gives_back(alloc: Global) -> Result<bool, AllocError> {
-    let Err((fault, list)) = Row::try_new(alloc, 7, &[], list_of(alloc, &RESERVED)?) else {
+    let Err((fault, list)) = Row::try_new(alloc, 7, &[], list_of(alloc, RESERVED)?) else {
         return Ok(false);
     };
     Ok(
@@ -207,15 +221,89 @@ fn is_batch(alloc: Global, count: usize, fault: Option<BatchFault>) -> Result<bo
     }
 }
 
+const BATCHES: &[(usize, Option<BatchFault>)] = &[
+    (0, Some(BatchFault::NoRows)),
+    (1, None),
+    (256, None),
+    (257, Some(BatchFault::Large { weight: 67_371_008 })),
+];
+
 #[test]
 fn batches_are_refused_past_their_limits(rt: HostRuntime) -> Result<(), Fail> {
-    for (count, fault) in [
-        (0, Some(BatchFault::NoRows)),
-        (1, None),
-        (256, None),
-        (257, Some(BatchFault::Large { weight: 67_371_008 })),
-    ] {
+    for &(count, fault) in BATCHES {
         assert!(rt; is_batch(rt.alloc(), count, fault)?, "{count} rows");
     }
+    Ok(())
+}
+
+/// The row of these two fields, of which `app` is a label. None where they make no row.
+fn labelled(alloc: Global, app: &str, message: &str) -> Result<Option<Row>, AllocError> {
+    let mut list = FieldList::new(alloc);
+    list.set(alloc, "app", app)?;
+    list.set(alloc, "_msg", message)?;
+    let name = Text::try_of(alloc, "app")?;
+    Ok(Row::try_new(alloc, 0, &[name], list).ok())
+}
+
+/// Whether the stream of a row shows its one label.
+fn shows_its_label(alloc: Global) -> Result<bool, AllocError> {
+    let Some(row) = labelled(alloc, "x", "1")? else {
+        return Ok(false);
+    };
+    let stream = row.stream();
+    Ok(
+        stream.len() == 1
+            && !stream.is_empty()
+            && stream.label(0).name() == "app"
+            && stream.value("app") == "x"
+            && stream.value("_msg").is_empty(),
+    )
+}
+
+/// Whether the rows with these labels have the same stream.
+fn share_a_stream(alloc: Global, app: &str, other: &str) -> Result<bool, AllocError> {
+    match (labelled(alloc, app, "1")?, labelled(alloc, other, "2")?) {
+        (Some(row), Some(other)) => Ok(row.stream().is_same(other.stream())),
+        _ => Ok(false),
+    }
+}
+
+#[test]
+fn a_stream_is_its_labels(rt: HostRuntime) -> Result<(), Fail> {
+    assert!(rt; shows_its_label(rt.alloc())?);
+    assert!(rt; share_a_stream(rt.alloc(), "x", "x")?);
+    assert!(rt; !share_a_stream(rt.alloc(), "x", "y")?);
+    Ok(())
+}
+
+/// Whether items stay as they were pushed.
+fn keeps_items(alloc: Global) -> Result<bool, AllocError> {
+    let mut items = Items::of(Vec::new(alloc));
+    if let Err((fault, _)) = items.push(3u8) {
+        return Err(fault);
+    }
+    if let Err((fault, _)) = items.push(1) {
+        return Err(fault);
+    }
+    Ok(items.as_slice() == [3, 1].as_slice() && items.into_vec().as_slice() == [3, 1].as_slice())
+}
+
+/// Whether a numbered row has the parts that it was made of.
+fn is_numbered(alloc: Global) -> Result<bool, AllocError> {
+    let Some(row) = labelled(alloc, "x", "1")? else {
+        return Ok(false);
+    };
+    let numbered = Numbered {
+        batch: 7,
+        place: 2,
+        row,
+    };
+    Ok(numbered.batch == 7 && numbered.place == 2 && numbered.row.value("app") == "x")
+}
+
+#[test]
+fn items_and_numbers_are_kept(rt: HostRuntime) -> Result<(), Fail> {
+    assert!(rt; keeps_items(rt.alloc())?);
+    assert!(rt; is_numbered(rt.alloc())?);
     Ok(())
 }
