@@ -7,12 +7,16 @@ ghost use Rattle.jsonline_in.specs.Clauses.{ReadsAs, mapped};
 ghost use Rattle.jsonline_in.specs.Faults.{Refuses, IsFault};
 ghost use Rattle.jsonline_in.specs.Reading.{nested_at, value_at, item_at, items_at, text_at};
 
+mod bare;
+mod escape;
+mod line;
+mod scan;
 mod text;
+mod tokens;
 
 use crate::fault::JsonFault;
-use crate::line::{fault_of, opened};
-use crate::scan::{after_space, expect, past};
 use crate::scan_fault::ScanFault;
+use scan::{expect, past, skip_space};
 use std::alloc::{AllocError, Global};
 use std::marker::Model;
 use vl_row::FieldList;
@@ -42,7 +46,8 @@ struct Listing {
 impl Listing {
     /// Lists a field. An empty name is that of the message.
     fn push(&mut self, name: &str, value: String) -> Result<(), AllocError>
-        ensures { OnOk result (self.new.pairs.items ≡ self.old.pairs.items ++ (field_name name.now, string_bytes value) ∷ []) }
+        ensures { OnOk result (self.new.pairs.items
+            ≡ self.old.pairs.items ++ (field_name name.now, string_bytes value) ∷ []) }
     {
         let name = if name.is_empty() { "_msg" } else { name };
         let name = String::from_str(self.alloc, name)?;
@@ -53,7 +58,8 @@ impl Listing {
     #[cycle(list)]
     fn value<'a>(&mut self, name: &str, text: &'a str, depth: u32) -> Result<&'a str, ScanFault>
         ensures { ReadsAs (λ rest. (self.new.pairs.items, rest.now)) result
-            (mapped (λ value. self.old.pairs.items ++ value_fields name.now value) (value_at (nested_at depth) text.now)) }
+            (mapped (λ value. self.old.pairs.items ++ value_fields name.now value)
+            (value_at (nested_at depth) text.now)) }
     {
         if let Some(inside) = past(text, b'{') {
             if depth == 0 {
@@ -70,7 +76,8 @@ impl Listing {
     #[cycle(list)]
     fn member<'a>(&mut self, before: &str, text: &'a str, depth: u32) -> Result<&'a str, ScanFault>
         ensures { ReadsAs (λ rest. (self.new.pairs.items, rest.now)) result
-            (mapped (λ x. self.old.pairs.items ++ value_fields (before.now ++ member_name x.0) x.1) (item_at (nested_at depth) object text.now)) }
+            (mapped (λ x. self.old.pairs.items ++ value_fields (before.now ++ member_name x.0) x.1)
+            (item_at (nested_at depth) object text.now)) }
     {
         let (own, rest) = text::name(self.alloc, text)?;
         let name = format!(in self.alloc; "{before}{own}")?;
@@ -81,17 +88,18 @@ impl Listing {
     #[cycle(list)]
     fn members<'a>(&mut self, before: &str, text: &'a str, depth: u32) -> Result<&'a str, ScanFault>
         ensures { ReadsAs (λ rest. (self.new.pairs.items, rest.now)) result
-            (mapped (λ members. self.old.pairs.items ++ member_fields before.now members) (items_at (nested_at depth) object text.now)) }
+            (mapped (λ members. self.old.pairs.items ++ member_fields before.now members)
+            (items_at (nested_at depth) object text.now)) }
     {
-        let start = after_space(text);
+        let start = skip_space(text);
         if let Some(end) = past(start, b'}') {
             return Ok(end);
         }
         let mut rest = self.member(before, start, depth)?;
-        'members: while let Some(next) = past(after_space(rest), b',') {
-            rest = self.member(before, after_space(next), depth)?;
+        'members: while let Some(next) = past(skip_space(rest), b',') {
+            rest = self.member(before, skip_space(next), depth)?;
         }
-        expect(after_space(rest), b'}')
+        expect(skip_space(rest), b'}')
     }
 }
 
@@ -102,7 +110,7 @@ fn listed(alloc: Global, inside: &str) -> Result<Vec<Pair>, ScanFault>
 {
     let pairs = Vec::new(alloc);
     let mut listing = Listing { alloc, pairs };
-    let rest = after_space(listing.members("", inside, 63)?);
+    let rest = skip_space(listing.members("", inside, 63)?);
     if !rest.is_empty() {
         return Err(ScanFault::Stuck { left: rest.len() });
     }
@@ -111,15 +119,17 @@ fn listed(alloc: Global, inside: &str) -> Result<Vec<Pair>, ScanFault>
 
 /// Does what `fields_of` of the crate does.
 pub fn fields_of(alloc: Global, line: &[u8], out: &mut FieldList) -> Result<(), JsonFault>
-    ensures read { OnOk result ((fields : List Field) × IsObjectLine line.now fields × (out.new ≡ set_all out.old fields)) }
-    ensures only { OnOk result ((fields : List Field) → IsObjectLine line.now fields → out.new ≡ set_all out.old fields) }
+    ensures read { OnOk result
+        ((fields : List Field) × IsObjectLine line.now fields × (out.new ≡ set_all out.old fields)) }
+    ensures only { OnOk result
+        ((fields : List Field) → IsObjectLine line.now fields → out.new ≡ set_all out.old fields) }
     ensures refused { IfErr result (λ fault. Refuses fault line.now) }
     ensures fault { IfErr result (λ fault. IsFault fault line.now) }
 {
-    let inside = opened(line)?;
+    let inside = line::inside(line)?;
     let list = match listed(alloc, inside) {
         Ok(list) => list,
-        Err(stop) => return Err(fault_of(line, stop)),
+        Err(stop) => return Err(line::fault_in(line, stop)),
     };
     for pair in &list {
         out.set(alloc, pair.name.as_str(), pair.value.as_str())?;

@@ -59,50 +59,50 @@ member-returns t c =
 pub members-returns-in-Some : goal.members-returns-in-Some
 members-returns-in-Some t c =
     let old = c.args.self.now.pairs.items in
-    ap (mapped (λ members. old ++ member_fields c.args.before.now members)) (no_items c.args.depth object c.args.text.now c.after_space-start.result.now c.after_space-start.ensures c.in-Some.end.now (sym c.in-Some.ensures))
+    ap (mapped (λ members. old ++ member_fields c.args.before.now members)) (no_items c.args.depth object c.args.text.now c.skip_space-start.result.now c.skip_space-start.ensures c.in-Some.end.now (sym c.in-Some.ensures))
     ∙ ap (λ fields. Ok (fields, c.in-Some.end.now)) (append-nil old)
 
 pub members-returns-in_err-rest : goal.members-returns-in_err-rest
 members-returns-in_err-rest t c =
-    let start = c.after_space-start.result.now in
+    let start = c.skip_space-start.result.now in
     let old = c.args.self.now.pairs.items in
     let before = c.args.before.now in
     let inner = nested_at c.args.depth in
     stops_at _ c.from_residual.result _ (mapped (λ x. old ++ value_fields (before ++ member_name x.0) x.1) (item_at inner object start)) _ c.from_residual.ensures.1
-    (λ fault h. ap (mapped (λ members. old ++ member_fields before members)) (no_first c.args.depth object c.args.text.now start c.after_space-start.ensures fault (sym c.in_default.ensures) (mapped_err _ (item_at inner object start) fault h))) c.in_err-rest.ensures
+    (λ fault h. ap (mapped (λ members. old ++ member_fields before members)) (no_first c.args.depth object c.args.text.now start c.skip_space-start.ensures fault (sym c.in_default.ensures) (mapped_err _ (item_at inner object start) fault h))) c.in_err-rest.ensures
 
 pub members-members-init : goal.members-members-init
 members-members-init t c =
-    let start = c.after_space-start.result.now in
+    let start = c.skip_space-start.result.now in
     let before = c.args.before.now in
     let old = c.args.self.now.pairs.items in
     let new = c.member.new.self.pairs.items in
     let m = mapped_ok (λ x. old ++ value_fields (before ++ member_name x.0) x.1) (item_at (nested_at c.args.depth) object start) new c.in_ok-rest.rest.now c.in_ok-rest.ensures in (
       search rules,
-      started c.args.depth object c.args.text.now start c.after_space-start.ensures (λ members. old ++ member_fields before members) (λ members. new ++ member_fields before members) m.0 c.in_ok-rest.rest.now
+      started c.args.depth object c.args.text.now start c.skip_space-start.ensures (λ members. old ++ member_fields before members) (λ members. new ++ member_fields before members) m.0 c.in_ok-rest.rest.now
           (sym c.in_default.ensures) m.1 (λ more. member_listed old new before m.0 more m.2),
     )
 
 pub members-returns : goal.members-returns
 members-returns t c =
-    let here = c.after_space-2.result.now in
-    let none : past 44 here ≡ None = ap (past 44) (c.after_space-2.ensures ∙ sym c.after_space.ensures) ∙ sym c.in_default-past.ensures in
-    closed_by (λ s. s.now) c.expect.result c.args.depth _ _ c.members.rest.now _ c.members.invariant.1 here c.members.self.pairs.items c.after_space-2.ensures none (sym (append-nil c.members.self.pairs.items)) c.expect.ensures
+    let here = c.skip_space-2.result.now in
+    let none : past 44 here ≡ None = ap (past 44) (c.skip_space-2.ensures ∙ sym c.skip_space.ensures) ∙ sym c.in_default-past.ensures in
+    closed_by (λ s. s.now) c.expect.result c.args.depth object _ _ c.members.rest.now _ c.members.invariant.1 here c.members.self.pairs.items c.skip_space-2.ensures none (sym (append-nil c.members.self.pairs.items)) c.expect.ensures
 
 pub members-returns-in_err-rest-2 : goal.members-returns-in_err-rest-2
 members-returns-in_err-rest-2 t c =
     let before = c.args.before.now in
     let inner = nested_at c.args.depth in
-    stops_at _ c.from_residual-in_err-rest-2.result _ (mapped (λ x. c.members.self.pairs.items ++ value_fields (before ++ member_name x.0) x.1) (item_at inner object c.after_space-in-Some-past.result.now)) _ c.from_residual-in_err-rest-2.ensures.1
-    (λ fault h. ap (mapped (λ members. c.args.self.now.pairs.items ++ member_fields before members)) (no_other c.args.depth object _ _ c.members.rest.now _ c.members.invariant.1 c.after_space.result.now c.after_space.ensures c.in-Some-past.next.now fault (sym c.in-Some-past.ensures)
-    (ap (item_at inner object) (sym c.after_space-in-Some-past.ensures) ∙ mapped_err _ (item_at inner object c.after_space-in-Some-past.result.now) fault h))) c.in_err-rest-2.ensures
+    stops_at _ c.from_residual-in_err-rest-2.result _ (mapped (λ x. c.members.self.pairs.items ++ value_fields (before ++ member_name x.0) x.1) (item_at inner object c.skip_space-in-Some-past.result.now)) _ c.from_residual-in_err-rest-2.ensures.1
+    (λ fault h. ap (mapped (λ members. c.args.self.now.pairs.items ++ member_fields before members)) (no_other c.args.depth object _ _ c.members.rest.now _ c.members.invariant.1 c.skip_space.result.now c.skip_space.ensures c.in-Some-past.next.now fault (sym c.in-Some-past.ensures)
+    (ap (item_at inner object) (sym c.skip_space-in-Some-past.ensures) ∙ mapped_err _ (item_at inner object c.skip_space-in-Some-past.result.now) fault h))) c.in_err-rest-2.ensures
 
 pub members-members-smaller : goal.members-members-smaller
 members-members-smaller t c =
     let inner = nested_at c.args.depth in
-    let m = mapped_ok _ (item_at inner object c.after_space-in-Some-past.result.now) _ c.in_ok-rest-2.rest.now c.in_ok-rest-2.ensures in
-    shorter c.args.depth object _ _ c.members.rest.now _ c.members.invariant.1 c.after_space.result.now c.after_space.ensures c.in-Some-past.next.now m.0 c.in_ok-rest-2.rest.now (sym c.in-Some-past.ensures)
-    (ap (item_at inner object) (sym c.after_space-in-Some-past.ensures) ∙ m.1)
+    let m = mapped_ok _ (item_at inner object c.skip_space-in-Some-past.result.now) _ c.in_ok-rest-2.rest.now c.in_ok-rest-2.ensures in
+    shorter c.args.depth object _ _ c.members.rest.now _ c.members.invariant.1 c.skip_space.result.now c.skip_space.ensures c.in-Some-past.next.now m.0 c.in_ok-rest-2.rest.now (sym c.in-Some-past.ensures)
+    (ap (item_at inner object) (sym c.skip_space-in-Some-past.ensures) ∙ m.1)
 
 pub members-members-preserved : goal.members-members-preserved
 members-members-preserved t c =
@@ -110,8 +110,8 @@ members-members-preserved t c =
     let before = c.args.before.now in
     let now = c.members.self.pairs.items in
     let new = c.member-in-Some-past.new.self.pairs.items in
-    let m = mapped_ok (λ x. now ++ value_fields (before ++ member_name x.0) x.1) (item_at inner object c.after_space-in-Some-past.result.now) new c.in_ok-rest-2.rest.now c.in_ok-rest-2.ensures in (
+    let m = mapped_ok (λ x. now ++ value_fields (before ++ member_name x.0) x.1) (item_at inner object c.skip_space-in-Some-past.result.now) new c.in_ok-rest-2.rest.now c.in_ok-rest-2.ensures in (
       search rules,
-      goes_on_to c.args.depth object _ _ c.members.rest.now _ c.members.invariant.1 c.after_space.result.now c.after_space.ensures (λ members. new ++ member_fields before members) c.in-Some-past.next.now m.0 c.in_ok-rest-2.rest.now
-          (sym c.in-Some-past.ensures) (ap (item_at inner object) (sym c.after_space-in-Some-past.ensures) ∙ m.1) (λ more. member_listed now new before m.0 more m.2),
+      goes_on_to c.args.depth object _ _ c.members.rest.now _ c.members.invariant.1 c.skip_space.result.now c.skip_space.ensures (λ members. new ++ member_fields before members) c.in-Some-past.next.now m.0 c.in_ok-rest-2.rest.now
+          (sym c.in-Some-past.ensures) (ap (item_at inner object) (sym c.skip_space-in-Some-past.ensures) ∙ m.1) (λ more. member_listed now new before m.0 more m.2),
     )

@@ -15,7 +15,7 @@ returns-in-Some c = gives_same _ c.string.result _ _ (quoted_mapped (nested_at c
 pub returns-in_err-rest : goal.returns-in_err-rest
 returns-in_err-rest c =
     let inside = c.in-Some-past.inside.now in
-    let old = string_bytes c.new-value.result in
+    let old = string_bytes c.new-tokens.result.text in
     stops_at _ c.from_residual.result _ (mapped (λ value. old ++ compact (tokens value)) (nested_at c.args.depth array inside)) _ c.from_residual.ensures.1
     (λ fault h. ap (mapped flat_text) (flat_square (nested_at c.args.depth) c.args.text.now inside (sym c.in_default.ensures) (sym c.in-Some-past.ensures) ∙ mapped_err _ (nested_at c.args.depth array inside) fault h)) c.in_err-rest.ensures
 
@@ -23,7 +23,7 @@ pub returns-in-Some-past : goal.returns-in-Some-past
 returns-in-Some-past c =
     let inside = c.in-Some-past.inside.now in
     ap (mapped flat_text) (flat_square (nested_at c.args.depth) c.args.text.now inside (sym c.in_default.ensures) (sym c.in-Some-past.ensures))
-    ∙ array_flat c.args.depth inside (string_bytes c.new-value.result) c.new-value.ensures.bytes ∙ c.in_ok-rest.ensures
+    ∙ array_flat c.args.depth inside (string_bytes c.new-tokens.result.text) c.new-tokens.ensures ∙ c.in_ok-rest.ensures
 
 pub returns-in_err-token : goal.returns-in_err-token
 returns-in_err-token c =
@@ -34,4 +34,4 @@ returns-in_err-token c =
 pub returns : goal.returns
 returns c =
     bare_mapped (nested_at c.args.depth) c.args.text.now flat_text scalar_text (sym c.in_default.ensures) (sym c.in_default-past.ensures) (λ token. refl)
-    ∙ c.in_ok-token.ensures ∙ ap (λ t. Ok (t, c.in_ok-token.rest.now)) (sym (c.in_ok-push_str.ensures.bytes ∙ ap (λ t. t ++ c.in_ok-token.token.now) c.new-value.ensures.bytes))
+    ∙ c.in_ok-token.ensures ∙ ap (λ t. Ok (t, c.in_ok-token.rest.now)) (sym c.in_ok-from_str.ensures.ok)

@@ -22,11 +22,11 @@ returns-in_err-name c =
 pub returns-in_err-rest : goal.returns-in_err-rest
 returns-in_err-rest c =
     let inner = c.in_ok-expect.field-0.now in
-    let here = c.after_space.result.now in
+    let here = c.skip_space.result.now in
     stops_at _ c.from_residual-in_err-rest.result _ (expect 58 here) _ c.from_residual-in_err-rest.ensures.1
-    (λ fault h. ap (mapped member_name) (no_colon c.args.text.now inner c.in_ok-expect.ensures _ _ c.in_ok-name.rest.now here c.in_ok-name.ensures c.after_space.ensures fault h)) c.in_err-rest.ensures
+    (λ fault h. ap (mapped member_name) (no_colon c.args.text.now inner c.in_ok-expect.ensures _ _ c.in_ok-name.rest.now here c.in_ok-name.ensures c.skip_space.ensures fault h)) c.in_err-rest.ensures
 
 pub returns : goal.returns
 returns c =
-    name_made c.args.text.now c.in_ok-expect.field-0.now c.in_ok-expect.ensures _ _ c.in_ok-name.rest.now c.after_space.result.now c.in_ok-name.ensures c.after_space.ensures
-    c.in_ok-rest.rest.now c.after_space-2.result.now _ member_name c.in_ok-rest.ensures c.after_space-2.ensures (λ name e. e)
+    name_made c.args.text.now c.in_ok-expect.field-0.now c.in_ok-expect.ensures _ _ c.in_ok-name.rest.now c.skip_space.result.now c.in_ok-name.ensures c.skip_space.ensures
+    c.in_ok-rest.rest.now c.skip_space-2.result.now _ member_name c.in_ok-rest.ensures c.skip_space-2.ensures (λ name e. e)
