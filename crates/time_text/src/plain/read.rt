@@ -142,16 +142,17 @@ fn hours_at(bytes: &[u8]) -> Option<i32>
     ensures value { result ≡ hours_at bytes.now }
     ensures range { IfSome result (IsWithin 86_399) }
 {
-    let hours = pair(bytes[1], bytes[2]) as i32;
-    let minutes = pair(bytes[4], bytes[5]) as i32;
+    let hours = pair(bytes[1], bytes[2]);
+    let minutes = pair(bytes[4], bytes[5]);
     if bytes[3] != b':' || hours >= 24 || minutes >= 60 {
         return None;
     }
+    let seconds = hours as i32 * 3600 + minutes as i32 * 60;
     if bytes[0] == b'+' {
-        return Some(hours * 3600 + minutes * 60);
+        return Some(seconds);
     }
     if bytes[0] == b'-' {
-        return Some(0 - hours * 3600 - minutes * 60);
+        return Some(-seconds);
     }
     None
 }
@@ -194,7 +195,7 @@ fn seconds_of(day: i32, time: u32, offset: i32) -> i128
     ensures value { result ≡ day *ℤ pos 86_400 +ℤ pos time -ℤ offset }
     ensures range { IsWithin 500_000_000_000 result }
 {
-    (day as i128 * 24 * 60 * 60 - offset as i128) + time as i128
+    day as i128 * 86_400 + time as i128 - offset as i128
 }
 
 // So many nanoseconds after a second.
