@@ -6,7 +6,7 @@ use Rattle.std.proofs.lemmas.List.{append-nil, length-append, take-append-drop, 
 use Rattle.std.proofs.lemmas.Str.{IsCharBoundary-from_take}
 use Rattle.log_model.specs.Field.{Field, set_field, set_all}
 use Rattle.log_model.specs.Token.{Character, string, string_text, Scalar, scalar_text}
-use Rattle.log_model.specs.Value.{Kind, array, object, Label, Value, scalar, nested, Items, nothing, tokens, member_name, field_name, value_fields, member_fields}
+use Rattle.log_model.specs.Value.{Kind, array, object, closing, Label, Value, scalar, nested, Items, nothing, tokens, member_name, field_name, value_fields, member_fields}
 use Rattle.jsonline_in.specs.declared.scan_fault.ScanFault.{ScanFault}
 use Rattle.jsonline_in.specs.Reading.{after_space, past, Fault, ◌>>=◌, expect, flat_at, label_at, items_at, value_at, nested_at, put_item}
 use Rattle.std.specs.String.Boundary.{IsSplitPoint}
@@ -156,8 +156,12 @@ pub on_ok : {A E : Type 0} (r : Result A E) (P : Type 0) → P → OnOk r P
 on_ok (Ok x) P p = p
 on_ok (Err e) P p = tt
 
-pub closed_by : {S : Type 0} (view : S → List ℕ) (r : Result S ScanFault) (depth : ℕ) (whole left : Items → List Field) (rest : List ℕ) (total : Result (Items × List ℕ) Fault) → Continued depth object whole left rest total
-    → (here : List ℕ) (now : List Field) → here ≡ after_space rest → past 44 here ≡ None → now ≡ left nothing → ReadsAs (λ x. (tt, view x)) r (expect 125 here) → ReadsAs (λ x. (now, view x)) r (mapped whole total)
-closed_by view (Ok x) depth whole left rest total c here now space none last g = closed depth object whole left rest total c here space (view x) now none g last
-closed_by view (Err stop) depth whole left rest total c here now space none last g =
-    fails_too (expect 125 here) (mapped whole total) stop (λ fault h. ap (mapped whole) (not_closed depth object whole left rest total c here space fault none h)) g
+pub closed_by : {S X : Type 0} (view : S → List ℕ) (r : Result S ScanFault) (depth : ℕ) (kind : Kind)
+    (whole left : Items → X) (rest : List ℕ) (total : Result (Items × List ℕ) Fault) → Continued depth kind whole left rest total
+    → (here : List ℕ) (now : X) → here ≡ after_space rest → past 44 here ≡ None → now ≡ left nothing
+    → ReadsAs (λ x. (tt, view x)) r (expect (closing kind) here) → ReadsAs (λ x. (now, view x)) r (mapped whole total)
+closed_by view (Ok x) depth kind whole left rest total c here now space none last g =
+    closed depth kind whole left rest total c here space (view x) now none g last
+closed_by view (Err stop) depth kind whole left rest total c here now space none last g =
+    fails_too (expect (closing kind) here) (mapped whole total) stop
+    (λ fault h. ap (mapped whole) (not_closed depth kind whole left rest total c here space fault none h)) g

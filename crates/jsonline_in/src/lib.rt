@@ -6,7 +6,6 @@ mod copy;
 mod escape;
 mod fault;
 mod line;
-pub mod plain;
 pub mod run;
 mod scan;
 mod scan_fault;
@@ -14,4 +13,5 @@ mod set;
 mod text;
 
 pub use fault::JsonFault;
+pub use scan_fault::ScanFault;
 pub use set::fields_of;

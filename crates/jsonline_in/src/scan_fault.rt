@@ -1,12 +1,12 @@
-// Where reading stops, before the line that is read is known.
+//! Where reading stops.
 ghost use Rattle.std.specs.Prelude.{◌≡◌};
 ghost use Rattle.jsonline_in.specs.declared.scan_fault.ScanFault.TheVariants.{Memory};
 
 use std::alloc::AllocError;
 
-/// Why the fields were not all set.
+/// Why reading stops, before the line that is read is known.
 #[derive(Clone, Copy)]
-pub(crate) enum ScanFault {
+pub enum ScanFault {
     /// The 65th bracket would be open.
     TooDeep,
     /// No object goes on so. The bytes from there on are left.

@@ -1,5 +1,7 @@
 -- Reading a moment's text from left to right. A reader gives nothing where no text of its form stands.
-use Rattle.std.specs.Prelude.{◌≡◌, ℕ, ◌+◌, ◌-◌, ◌*◌, ◌^◌, ◌≤◌, ◌⊎◌, Bool, not, ◌&&◌, ◌||◌, ◌==◌, nat_lt, nat_le, if◌then◌else◌, List, [], ◌∷◌, length, take, drop, slice_index, Option, Some, None, Result, Ok, Err, ℤ, pos, neg_ℤ, ◌+ℤ◌, ◌-ℤ◌, ◌*ℤ◌}
+use Rattle.std.specs.Prelude.{◌≡◌, ℕ, ◌+◌, ◌-◌, ◌*◌, ◌^◌, ◌≤◌, ◌⊎◌, Bool, not, ◌&&◌, ◌||◌, ◌==◌, nat_lt, nat_le}
+use Rattle.std.specs.Prelude.{if◌then◌else◌, List, [], ◌∷◌, length, take, drop, slice_index, Option, Some, None}
+use Rattle.std.specs.Prelude.{Result, Ok, Err, ℤ, pos, neg_ℤ, ◌+ℤ◌, ◌-ℤ◌, ◌*ℤ◌}
 use Rattle.std.specs.Char.{is_ascii_digit}
 use Rattle.std.specs.List.{prefix_len}
 use Rattle.std.specs.Str.Parse.{digits_value}
@@ -65,10 +67,16 @@ count_at bytes =
 -- ---- dates and times
 
 abbrev pub date_at : List ℕ → Date
-date_at bytes = record { year = 100 * pair_at 0 bytes + pair_at 2 bytes; month = pair_at 5 bytes; day = pair_at 8 bytes }
+date_at bytes = record {
+  year = 100 * pair_at 0 bytes + pair_at 2 bytes;
+  month = pair_at 5 bytes;
+  day = pair_at 8 bytes;
+}
 
 abbrev pub is_date : Date → Bool
-is_date date = nat_le 1 date.month && (nat_le date.month 12 && (nat_le 1 date.day && nat_le date.day (days_in_month date.year date.month)))
+is_date date =
+    nat_le 1 date.month && (nat_le date.month 12
+    && (nat_le 1 date.day && nat_le date.day (days_in_month date.year date.month)))
 
 -- the number of the day, if the calendar has it
 unfoldable pub number_of : Date → Option ℤ
@@ -76,7 +84,8 @@ number_of date = if is_date date then Some (day_number date) else None
 
 abbrev pub is_date_at : List ℕ → Bool
 is_date_at bytes =
-    (slice_index bytes 4 == 45) && ((slice_index bytes 7 == 45) && (nat_lt (pair_at 0 bytes) 100 && nat_lt (pair_at 2 bytes) 100))
+    (slice_index bytes 4 == 45) && ((slice_index bytes 7 == 45)
+    && (nat_lt (pair_at 0 bytes) 100 && nat_lt (pair_at 2 bytes) 100))
 
 unfoldable pub day_at : List ℕ → Option ℤ
 day_at bytes = if is_date_at bytes then number_of (date_at bytes) else None
@@ -99,16 +108,19 @@ is_hours_at bytes = (slice_index bytes 3 == 58) && (nat_lt (pair_at 1 bytes) 24 
 
 -- the seconds with their sign
 abbrev pub signed : ℕ → ℕ → Option ℤ
-signed sign seconds = if sign == 43 then Some (pos seconds) else (if sign == 45 then Some (neg_ℤ (pos seconds)) else None)
+signed sign seconds =
+    if sign == 43 then Some (pos seconds) else (if sign == 45 then Some (neg_ℤ (pos seconds)) else None)
 
 -- a sign, hours and minutes
 unfoldable pub hours_at : List ℕ → Option ℤ
-hours_at bytes = if is_hours_at bytes then signed (slice_index bytes 0) (pair_at 1 bytes * 3600 + pair_at 4 bytes * 60) else None
+hours_at bytes =
+    if is_hours_at bytes then signed (slice_index bytes 0) (pair_at 1 bytes * 3600 + pair_at 4 bytes * 60) else None
 
 unfoldable pub offset_at : List ℕ → Option ℤ
 offset_at bytes =
     if length bytes == 0 then Some (pos 0)
-    else (if length bytes == 1 then (if (slice_index bytes 0 == 90) || (slice_index bytes 0 == 122) then Some (pos 0) else None)
+    else (if length bytes == 1
+    then (if (slice_index bytes 0 == 90) || (slice_index bytes 0 == 122) then Some (pos 0) else None)
     else (if length bytes == 6 then hours_at bytes else None))
 
 abbrev pub with_nanos : ℕ → ℤ → Option (ℕ × ℤ)
@@ -119,7 +131,8 @@ offset_behind fraction = offset_at fraction.1 >>= with_nanos fraction.0
 
 -- what stands behind the seconds: the fraction, if there is one, and the offset
 unfoldable pub tail_at : List ℕ → Option (ℕ × ℤ)
-tail_at bytes = if slice_index bytes 0 == 46 then fraction_at (drop 1 bytes) >>= offset_behind else offset_behind (0, bytes)
+tail_at bytes =
+    if slice_index bytes 0 == 46 then fraction_at (drop 1 bytes) >>= offset_behind else offset_behind (0, bytes)
 
 abbrev pub moment_with : ℤ → ℕ → ℕ × ℤ → Option ℤ
 moment_with day time tail = Some (nanoseconds_of (day *ℤ pos 86_400 +ℤ pos time -ℤ tail.1) tail.0)

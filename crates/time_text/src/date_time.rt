@@ -1,7 +1,8 @@
 // Dates and times of day, whose numbers have fixed places.
 ghost use Rattle.std.specs.Prelude.{◌≡◌, ◌<◌, ◌≤◌, length, IfSome, pos, neg_ℤ, ◌+ℤ◌, ◌-ℤ◌, ◌*ℤ◌};
 ghost use Rattle.jiff_core.specs.Calendar.{IsWithin};
-ghost use Rattle.time_text.specs.Reading.{Answers, number_of, day_at, time_at, hours_at, offset_at, tail_at, date_time_at};
+ghost use Rattle.time_text.specs.Reading.{Answers, number_of, day_at, time_at, hours_at, offset_at, tail_at};
+ghost use Rattle.time_text.specs.Reading.{date_time_at};
 
 use crate::TimeFault;
 use crate::count::from_seconds;

@@ -1,5 +1,6 @@
 //! The same by plain slow programs, which count off years and months.
-ghost use Rattle.std.specs.Prelude.{◌≡◌, ◌+◌, ◌++◌, ◌<◌, ◌≤◌, ◌≤ℤ◌, [], ◌∷◌, pos, unsigned_abs, OnOk, OnErr, string_bytes};
+ghost use Rattle.std.specs.Prelude.{◌≡◌, ◌+◌, ◌++◌, ◌<◌, ◌≤◌, ◌≤ℤ◌, [], ◌∷◌, pos, unsigned_abs, OnOk, OnErr};
+ghost use Rattle.std.specs.Prelude.{string_bytes};
 ghost use Rattle.log_model.specs.Moment as spec;
 
 mod read;

@@ -1,16 +1,20 @@
 // Reading the same texts: days are counted off from the year 0, and digits weighed by their places.
-ghost use Rattle.std.specs.Prelude.{◌≡◌, ◌+◌, ◌-◌, ◌*◌, ◌^◌, ◌<◌, ◌≤◌, ℤ, length, take, drop, IsTrue, IfOk, IfSome, IfNone, Some, pos};
+ghost use Rattle.std.specs.Prelude.{◌≡◌, ◌+◌, ◌-◌, ◌*◌, ◌^◌, ◌<◌, ◌≤◌, ℤ, ◌+ℤ◌, ◌-ℤ◌, ◌*ℤ◌, length, take, drop};
+ghost use Rattle.std.specs.Prelude.{IsTrue, IfOk, IfSome, IfNone, Some, pos};
 ghost use Rattle.std.specs.Option.{option_map};
 ghost use Rattle.std.specs.Str.{all_ascii_digits};
 ghost use Rattle.std.specs.Str.Parse.{digits_value};
 ghost use Rattle.jiff_core.specs.Calendar.{IsWithin};
-ghost use Rattle.log_model.specs.MomentText.{SpellsMoment, IsMomentInRange, days_before_year, days_of_months, unit_of, nanoseconds_of};
-ghost use Rattle.time_text.specs.Reading.{Answers, digits_len, fraction_at, number_of, day_at, tail_at, date_time_at, after_number, count_at, moment_at};
+ghost use Rattle.log_model.specs.MomentText.{SpellsMoment, IsMomentInRange, days_before_year, days_of_months};
+ghost use Rattle.log_model.specs.MomentText.{unit_of, nanoseconds_of};
+ghost use Rattle.time_text.specs.Reading.{Answers, digits_len, fraction_at, number_of, day_at, tail_at, date_time_at};
+ghost use Rattle.time_text.specs.Reading.{pair, time_at, hours_at, offset_at, after_number, count_at, moment_at};
 
 use super::{days_in_month, days_in_year};
 use crate::TimeFault;
-use crate::date_time::{offset_at, seconds_of, time_at};
-use crate::digits::pair;
+
+/// What [`pair`] gives for two bytes that are no digits.
+const NO_PAIR: u8 = 100;
 
 /// The moment that a text says, as [`crate::read_moment`] gives it.
 pub fn read_moment(text: &str) -> Result<i64, TimeFault>
@@ -85,6 +89,17 @@ fn day_number(year: u64, month: u64, day: u64) -> Option<i32>
     Some(days as i32 - 719_528)
 }
 
+// The number that two digits say.
+fn pair(tens: u8, ones: u8) -> u8
+    ensures value { result ≡ pair tens ones }
+    ensures most { result ≤ 100 }
+{
+    if !tens.is_ascii_digit() || !ones.is_ascii_digit() {
+        return NO_PAIR;
+    }
+    10 * (tens - b'0') + (ones - b'0')
+}
+
 #[tactic(auto, unfolding(crate::specs::Reading::day_at))]
 fn day_at(bytes: &[u8]) -> Option<i32>
     requires { 19 ≤ length bytes.now }
@@ -95,10 +110,68 @@ fn day_at(bytes: &[u8]) -> Option<i32>
     let year = pair(bytes[2], bytes[3]);
     let month = pair(bytes[5], bytes[6]);
     let day = pair(bytes[8], bytes[9]);
-    if bytes[4] != b'-' || bytes[7] != b'-' || century == 100 || year == 100 {
+    if bytes[4] != b'-' || bytes[7] != b'-' || century == NO_PAIR || year == NO_PAIR {
         return None;
     }
     day_number(century as u64 * 100 + year as u64, month as u64, day as u64)
+}
+
+// The second of the day.
+#[tactic(auto, unfolding(crate::specs::Reading::time_at))]
+fn time_at(bytes: &[u8]) -> Option<u32>
+    requires { 19 ≤ length bytes.now }
+    ensures value { result ≡ time_at bytes.now }
+    ensures range { IfSome result (λ time. time < 86_400) }
+{
+    let hour = pair(bytes[11], bytes[12]) as u32;
+    let minute = pair(bytes[14], bytes[15]) as u32;
+    let second = pair(bytes[17], bytes[18]) as u32;
+    if bytes[10] != b'T' && bytes[10] != b't' && bytes[10] != b' ' {
+        return None;
+    }
+    if bytes[13] == b':' && bytes[16] == b':' && hour < 24 && minute < 60 && second < 60 {
+        return Some(hour * 3600 + minute * 60 + second);
+    }
+    None
+}
+
+// How many seconds a clock is ahead of UTC, of a sign, hours and minutes.
+#[tactic(auto, unfolding(crate::specs::Reading::hours_at))]
+fn hours_at(bytes: &[u8]) -> Option<i32>
+    requires { length bytes.now ≡ 6 }
+    ensures value { result ≡ hours_at bytes.now }
+    ensures range { IfSome result (IsWithin 86_399) }
+{
+    let hours = pair(bytes[1], bytes[2]);
+    let minutes = pair(bytes[4], bytes[5]);
+    if bytes[3] != b':' || hours >= 24 || minutes >= 60 {
+        return None;
+    }
+    let seconds = hours as i32 * 3600 + minutes as i32 * 60;
+    if bytes[0] == b'+' {
+        return Some(seconds);
+    }
+    if bytes[0] == b'-' {
+        return Some(-seconds);
+    }
+    None
+}
+
+#[tactic(auto, unfolding(crate::specs::Reading::offset_at))]
+fn offset_at(bytes: &[u8]) -> Option<i32>
+    ensures value { result ≡ offset_at bytes.now }
+    ensures range { IfSome result (IsWithin 86_399) }
+{
+    if bytes.is_empty() {
+        return Some(0);
+    }
+    if bytes.len() == 1 && (bytes[0] == b'Z' || bytes[0] == b'z') {
+        return Some(0);
+    }
+    if bytes.len() != 6 {
+        return None;
+    }
+    hours_at(bytes)
 }
 
 #[tactic(auto, unfolding(crate::specs::Reading::date_time_at))]
@@ -114,12 +187,24 @@ fn date_time_at(bytes: &[u8]) -> Option<i128>
     Some(instant(seconds_of(day, time, offset), nanoseconds))
 }
 
+// Seconds from 1970 on, of a day, a second of that day and how far its clock is ahead of UTC.
+fn seconds_of(day: i32, time: u32, offset: i32) -> i128
+    requires day { IsWithin 5_000_000 day }
+    requires time { time < 86_400 }
+    requires offset { IsWithin 86_399 offset }
+    ensures value { result ≡ day *ℤ pos 86_400 +ℤ pos time -ℤ offset }
+    ensures range { IsWithin 500_000_000_000 result }
+{
+    day as i128 * 86_400 + time as i128 - offset as i128
+}
+
 // So many nanoseconds after a second.
-fn instant(seconds: i64, nanoseconds: u64) -> i128
-    requires { nanoseconds < 1_000_000_000 }
+fn instant(seconds: i128, nanoseconds: u64) -> i128
+    requires seconds { IsWithin 500_000_000_000 seconds }
+    requires nanoseconds { nanoseconds < 1_000_000_000 }
     ensures { result ≡ nanoseconds_of seconds nanoseconds }
 {
-    seconds as i128 * 1_000_000_000 + nanoseconds as i128
+    seconds * 1_000_000_000 + nanoseconds as i128
 }
 
 #[tactic(auto, unfolding(crate::specs::Reading::tail_at))]

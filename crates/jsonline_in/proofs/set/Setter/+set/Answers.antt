@@ -114,7 +114,7 @@ members-members-init t c =
 
 pub members-returns-in_default-past-clause-set : goal.members-returns-in_default-past-clause-set
 members-returns-in_default-past-clause-set t c =
-    closed_by (λ s. s.now) c.expect.result c.args.depth _ _ c.members.rest.now _ c.members.invariant.2 c.after_space-here.result.now c.members.out c.after_space-here.ensures (sym c.in_default-past.ensures) refl c.expect.ensures
+    closed_by (λ s. s.now) c.expect.result c.args.depth object _ _ c.members.rest.now _ c.members.invariant.2 c.after_space-here.result.now c.members.out c.after_space-here.ensures (sym c.in_default-past.ensures) refl c.expect.ensures
 
 pub members-returns-in_default-past-clause-names : goal.members-returns-in_default-past-clause-names
 members-returns-in_default-past-clause-names t c = on_ok c.expect.result _ c.members.invariant.1

@@ -1,0 +1,24 @@
+use Rattle.std.proofs.Common.{◌+◌, ◌*◌, ◌++◌, length}
+use denote.Text.{Utf8}
+use denote.Shadow.{shadow}
+use Rattle.log_model.specs.Value.{object, member_fields}
+use Rattle.jsonline_in.specs.Reading.{nested_at, items_at}
+use Rattle.jsonline_in.proofs.Loops.{Continued}
+use Rattle.jsonline_in_plain.proofs.Listing.+list.Given as goal
+
+abbrev pub decreases-value : goal.decreases-value
+decreases-value l = 3 * l.depth
+
+abbrev pub decreases-member : goal.decreases-member
+decreases-member l = 3 * l.depth + 1
+
+abbrev pub decreases-members : goal.decreases-members
+decreases-members l = 3 * l.depth + 2
+
+abbrev pub invariant-members-members : goal.invariant-members-members
+invariant-members-members l =
+    shadow (Utf8 l.rest)
+    × Continued l.depth object (λ members. l.fn.self.pairs.items ++ member_fields l.before members) (λ members. l.self.pairs.items ++ member_fields l.before members) l.rest (items_at (nested_at l.depth) object l.text)
+
+abbrev pub decreases-members-members : goal.decreases-members-members
+decreases-members-members l = length l.rest

@@ -1,0 +1,9 @@
+use Rattle.std.proofs.Common.{string_bytes, ap, ◌∙◌, ◌++◌}
+use Rattle.jsonline_in.proofs.Labels.{bare_prefix, bare_copied}
+use Rattle.jsonline_in_plain.proofs.tokens.Tokens.bare.Goals as goal
+
+pub prefix-requires : goal.prefix-requires
+prefix-requires c = bare_prefix _ c.args.text.now c.in_ok-rest.rest.now _ c.in_ok-rest.ensures
+
+pub returns : goal.returns
+returns c = bare_copied _ c.args.text.now c.in_ok-rest.rest.now _ c.in_ok-rest.ensures (string_bytes c.args.self.now.text) (string_bytes c.push_str.new.self) (c.in_ok-push_str.ensures.bytes ∙ ap (λ t. string_bytes c.args.self.now.text ++ t) c.prefix.ensures)
