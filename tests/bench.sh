@@ -4,7 +4,7 @@
 set -u
 export LC_ALL=C.UTF-8
 top=$(cd "$(dirname "$0")/.." && pwd)
-program=$top/crates/vl_top/out/vl_top
+program=$top/crates/duvonka/out/duvonka
 lines=${1:-200000} repeats=${2:-3}
 [ -x "$program" ] || { echo "bench.sh: the program is not built: run ./duvonka first" >&2; exit 2; }
 work=$(mktemp -d) || exit 2

@@ -4,7 +4,7 @@
 set -u
 export LC_ALL=C.UTF-8
 top=$(cd "$(dirname "$0")/.." && pwd)
-program=$top/crates/vl_top/out/vl_top
+program=$top/crates/duvonka/out/duvonka
 for tool in mktemp cmp head yes; do
   command -v "$tool" > /dev/null || { echo "cli.sh: skipped, there is no $tool"; exit 0; }
 done

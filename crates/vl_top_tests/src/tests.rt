@@ -1,9 +1,5 @@
-//! The program over objects in memory.
-//!
-//! The expected texts are worked by hand from the rules in `docs/`.
-
-
-use std::alloc::AllocError;
+//! The program over objects in memory. The expected texts are worked by hand from the rules in `docs/`.
+use std::alloc::{AllocError, Global};
 use std::test::Fail;
 use vl_io::{MemClock, MemSink, MemSource};
 use vl_top::run;
@@ -30,7 +26,8 @@ struct Wanted<'a> {
     err: &'a str,
 }
 
-/// Whether a run ends so, on a clock that stands at 5 ns, and then at 7, and a source that gives its input in small pieces.
+/// Whether a run ends so, on a clock that stands at 5 ns, and then at 7, and a source that gives its input in small pieces
+/// first.
 fn ends(
     rt: &HostRuntime,
     words: &[&str],
@@ -53,6 +50,8 @@ fn ends(
 
 const THREE: &str = "{\"_msg\":\"an error: x\"}\n{\"_msg\":\"all fine\"}\n{\"_msg\":\"errors\"}\n";
 
+const TWO: &str = "{\"_msg\":\"an error: x\"}\nx\n";
+
 const FIRST: &str =
     "{\"_msg\":\"an error: x\",\"_stream\":\"{}\",\"_stream_id\":\"44136fa355b3678a1146ad16f7e8649e\",\"_time\":\"1970-01-01T00:00:00.000000005Z\"}\n";
 
@@ -62,19 +61,17 @@ const FLATTENED: &str =
 const FLAT: &str =
     "{\"_stream\":\"{}\",\"_stream_id\":\"44136fa355b3678a1146ad16f7e8649e\",\"_time\":\"1970-01-01T00:00:00.000000005Z\",\"d\":\"1.50\",\"host.os\":\"x\",\"t\":\"[1,\\\"a\\\"]\"}\n";
 
+/// A query, its input, its answer and the names of the refused lines.
+const ANSWERED: &[(&str, &str, &str, &str)] = &[
+    ("error", THREE, FIRST, ""),
+    ("*", "", "", ""),
+    ("*", FLATTENED, FLAT, ""),
+    ("error", TWO, FIRST, "line 2: NotObject\n"),
+];
+
 #[test]
 fn a_word_query_gives_the_lines_that_have_it(rt: HostRuntime) -> Result<(), Fail> {
-    for (query, input, out, err) in [
-        ("error", THREE, FIRST, ""),
-        ("*", "", "", ""),
-        ("*", FLATTENED, FLAT, ""),
-        (
-            "error",
-            "{\"_msg\":\"an error: x\"}\nx\n",
-            FIRST,
-            "line 2: NotObject\n",
-        ),
-    ] {
+    for (query, input, out, err) in ANSWERED {
         let wanted = Wanted {
             status: 0,
             out,
@@ -88,11 +85,11 @@ fn a_word_query_gives_the_lines_that_have_it(rt: HostRuntime) -> Result<(), Fail
     Ok(())
 }
 
-const NOT_BUILT: [&str; 11] = [
+const NOT_BUILT: &[&str] = &[
     "a b", "", "and", "Or", "NOT", "a-b", "\"a\"", "**", "_msg:a", "a|b", "\u{301}",
 ];
 
-const BUILT: [&str; 7] = ["*", "error", "_", "7", "Straße", "android", "٣"];
+const BUILT: &[&str] = &["*", "error", "_", "7", "Straße", "android", "٣"];
 
 #[test]
 fn what_is_not_built_is_refused_before_anything_is_read(rt: HostRuntime) -> Result<(), Fail> {
@@ -111,6 +108,11 @@ fn what_is_not_built_is_refused_before_anything_is_read(rt: HostRuntime) -> Resu
             "{query}"
         );
     }
+    Ok(())
+}
+
+#[test]
+fn what_is_built_is_answered(rt: HostRuntime) -> Result<(), Fail> {
     let done = Wanted {
         status: 0,
         out: "",
@@ -122,30 +124,34 @@ fn what_is_not_built_is_refused_before_anything_is_read(rt: HostRuntime) -> Resu
     Ok(())
 }
 
+const NO_COMMAND: &[&[&str]] = &[
+    &[],
+    &["pipe"],
+    &["pipe", "a", "b"],
+    &["load", "a"],
+    &["PIPE", "a"],
+];
+
+const USAGE: Wanted<'static> = Wanted {
+    status: 2,
+    out: "",
+    err: "usage: pipe, load, query, trial or serve\n",
+};
+
 #[test]
 fn what_is_no_command_is_refused_before_anything_is_read(rt: HostRuntime) -> Result<(), Fail> {
     let failing = Failing {
         reads: &[0],
         ..NONE
     };
-    let usage = Wanted {
-        status: 2,
-        out: "",
-        err: "usage: pipe, load, query, trial or serve\n",
-    };
-    for words in [
-        [].as_slice(),
-        &["pipe"],
-        &["pipe", "a", "b"],
-        &["load", "a"],
-        &["PIPE", "a"],
-    ] {
-        assert!(rt; ends(&rt, words, b"x\n", failing, usage)?, "{words:?}");
+    for words in NO_COMMAND {
+        assert!(rt; ends(&rt, words, b"x\n", failing, USAGE)?, "{words:?}");
     }
     Ok(())
 }
 
-const NO_ROWS: [(&[u8], &str); 11] = [
+/// A line, and how it is named as the second one.
+const NO_ROWS: &[(&[u8], &str)] = &[
     (b"{", "line 2: NotJson\n"),
     (b"}", "line 2: NotObject\n"),
     (b"x", "line 2: NotObject\n"),
@@ -159,19 +165,25 @@ const NO_ROWS: [(&[u8], &str); 11] = [
     (b"{\"a\":\"b\"} {}", "line 2: NotJson\n"),
 ];
 
-/// Whether such a line between two good ones is refused so, and nothing else is lost.
-fn is_named(rt: &HostRuntime, line: &[u8], named: &str) -> Result<bool, AllocError> {
-    let good = "{\"_msg\":\"good\"}\n";
-    let shown =
-        "{\"_msg\":\"good\",\"_stream\":\"{}\",\"_stream_id\":\"44136fa355b3678a1146ad16f7e8649e\",\"_time\":\"1970-01-01T00:00:00.000000005Z\"}\n";
-    let mut input = Vec::from_slice(rt.alloc(), good.as_bytes())?;
+const GOOD_TWICE: &str =
+    "{\"_msg\":\"good\",\"_stream\":\"{}\",\"_stream_id\":\"44136fa355b3678a1146ad16f7e8649e\",\"_time\":\"1970-01-01T00:00:00.000000005Z\"}\n{\"_msg\":\"good\",\"_stream\":\"{}\",\"_stream_id\":\"44136fa355b3678a1146ad16f7e8649e\",\"_time\":\"1970-01-01T00:00:00.000000005Z\"}\n";
+
+/// The line between two good ones.
+fn surrounded(alloc: Global, line: &[u8]) -> Result<Vec<u8>, AllocError> {
+    let good = b"{\"_msg\":\"good\"}\n";
+    let mut input = Vec::from_slice(alloc, good)?;
     input.extend_from_slice(line)?;
     input.extend_from_slice(b"\n")?;
-    input.extend_from_slice(good.as_bytes())?;
-    let out = format!(in rt.alloc(); "{shown}{shown}")?;
+    input.extend_from_slice(good)?;
+    Ok(input)
+}
+
+/// Whether such a line between two good ones is refused so, and nothing else is lost.
+fn is_named(rt: &HostRuntime, line: &[u8], named: &str) -> Result<bool, AllocError> {
+    let input = surrounded(rt.alloc(), line)?;
     let wanted = Wanted {
         status: 0,
-        out: out.as_str(),
+        out: GOOD_TWICE,
         err: named,
     };
     ends(rt, &["pipe", "*"], &input, NONE, wanted)
@@ -182,10 +194,19 @@ fn a_line_that_is_no_row_is_named_and_nothing_else_is_lost(rt: HostRuntime) -> R
     for (line, named) in NO_ROWS {
         assert!(rt; is_named(&rt, line, named)?, "{line:?}");
     }
-    for (bracket, named) in [(b'[', "line 2: NotObject\n"), (b'{', "line 2: NotJson\n")] {
-        let deep = vec![in rt.alloc(); bracket; 100_000]?;
-        assert!(rt; is_named(&rt, &deep, named)?, "{bracket}");
-    }
+    Ok(())
+}
+
+/// Whether a line of so many brackets is refused so.
+fn brackets_are_named(rt: &HostRuntime, bracket: u8, named: &str) -> Result<bool, AllocError> {
+    let deep = vec![in rt.alloc(); bracket; 100_000]?;
+    is_named(rt, &deep, named)
+}
+
+#[test]
+fn deep_nesting_is_refused(rt: HostRuntime) -> Result<(), Fail> {
+    assert!(rt; brackets_are_named(&rt, b'[', "line 2: NotObject\n")?);
+    assert!(rt; brackets_are_named(&rt, b'{', "line 2: NotJson\n")?);
     Ok(())
 }
 
@@ -206,79 +227,95 @@ fn lines_are_cut_at_line_feeds_and_blank_ones_are_passed_over(rt: HostRuntime) -
     Ok(())
 }
 
-// The source is asked once more after the last byte, which is its fifth read.
+/// Which calls fail, and the status and the error text that follow. The source is asked once more after its last byte,
+/// which is its fifth read.
+const FAULTS: &[(Failing<'static>, u8, &str)] = &[
+    (
+        Failing {
+            reads: &[0],
+            ..NONE
+        },
+        3,
+        "read fault\n",
+    ),
+    (
+        Failing {
+            reads: &[2],
+            ..NONE
+        },
+        3,
+        "read fault\n",
+    ),
+    (
+        Failing {
+            answers: &[0],
+            ..NONE
+        },
+        4,
+        "line 1: NotObject\n",
+    ),
+    (
+        Failing {
+            reports: &[0],
+            ..NONE
+        },
+        4,
+        "",
+    ),
+    // A fault while another status is told changes no status.
+    (
+        Failing {
+            reads: &[2],
+            answers: &[],
+            reports: &[0],
+        },
+        3,
+        "",
+    ),
+];
+
 #[test]
 fn a_fault_ends_the_run_with_its_status(rt: HostRuntime) -> Result<(), Fail> {
     let input = "x\n{\"_msg\":\"an error: x\"}\n";
-    let named = "line 1: NotObject\n";
-    for (failing, status, err) in [
-        (
-            Failing {
-                reads: &[0],
-                ..NONE
-            },
-            3,
-            "read fault\n",
-        ),
-        (
-            Failing {
-                reads: &[2],
-                ..NONE
-            },
-            3,
-            "read fault\n",
-        ),
-        (
-            Failing {
-                answers: &[0],
-                ..NONE
-            },
-            4,
-            named,
-        ),
-        (
-            Failing {
-                reports: &[0],
-                ..NONE
-            },
-            4,
-            "",
-        ),
-    ] {
+    for (failing, status, err) in FAULTS {
         let wanted = Wanted {
-            status,
+            status: *status,
             out: "",
             err,
         };
         assert!(rt;
-            ends(&rt, &["pipe", "error"], input.as_bytes(), failing, wanted)?,
-            "{status}"
+            ends(&rt, &["pipe", "error"], input.as_bytes(), *failing, wanted)?,
+            "{status} {err}"
         );
     }
-    // what can't be said changes no status
+    Ok(())
+}
+
+#[test]
+fn what_cannot_be_said_changes_no_status(rt: HostRuntime) -> Result<(), Fail> {
     let failing = Failing {
         reports: &[0],
         ..NONE
     };
-    let unsaid = Wanted {
-        status: 2,
-        out: "",
-        err: "",
-    };
+    let unsaid = Wanted { err: "", ..USAGE };
     assert!(rt; ends(&rt, &["pipe"], b"", failing, unsaid)?);
     Ok(())
 }
 
-/// A source that fails after its first group of lines.
-#[test]
-fn what_was_taken_in_before_a_fault_is_named(rt: HostRuntime) -> Result<(), Fail> {
-    let mut input = Vec::from_slice(rt.alloc(), b"x\n")?;
-    for _ in 0..999 {
-        input.extend_from_slice(b"\n")?;
-    }
-    input.extend_from_slice(b"y\n")?;
+/// A line, so many line feeds, and another line.
+fn spread(alloc: Global, first: &str, feeds: usize, last: &str) -> Result<Vec<u8>, AllocError> {
+    let mut input = vec![in alloc; b'\n'; first.len() + feeds]?;
+    input[..first.len()].copy_from_slice(first.as_bytes());
+    input.extend_from_slice(last.as_bytes())?;
+    Ok(input)
+}
+
+/// Whether a source that fails at this read, behind a whole group, has the refused lines of the group named before the fault is
+/// told.
+fn names_first(rt: &HostRuntime, read: u64) -> Result<bool, AllocError> {
+    let input = spread(rt.alloc(), "x", 1_000, "y\n")?;
     let failing = Failing {
-        reads: &[4],
+        reads: &[read],
         ..NONE
     };
     let wanted = Wanted {
@@ -286,6 +323,104 @@ fn what_was_taken_in_before_a_fault_is_named(rt: HostRuntime) -> Result<(), Fail
         out: "",
         err: "line 1: NotObject\nread fault\n",
     };
-    assert!(rt; ends(&rt, &["pipe", "*"], &input, failing, wanted)?);
+    ends(rt, &["pipe", "*"], &input, failing, wanted)
+}
+
+#[test]
+fn what_was_taken_in_before_a_fault_is_named(rt: HostRuntime) -> Result<(), Fail> {
+    assert!(rt; names_first(&rt, 4)?);
+    Ok(())
+}
+
+/// This text, so many times.
+fn repeated(alloc: Global, text: &str, times: usize) -> Result<Vec<u8>, AllocError> {
+    let mut bytes = Vec::new(alloc);
+    for _ in 0..times {
+        bytes.extend_from_slice(text.as_bytes())?;
+    }
+    Ok(bytes)
+}
+
+/// Whether so many lines `{"_msg":"error"}` give as many rows, and nothing else.
+fn all_are_answered(rt: &HostRuntime, lines: usize) -> Result<bool, AllocError> {
+    let input = repeated(rt.alloc(), "{\"_msg\":\"error\"}\n", lines)?;
+    let row =
+        "{\"_msg\":\"error\",\"_stream\":\"{}\",\"_stream_id\":\"44136fa355b3678a1146ad16f7e8649e\",\"_time\":\"1970-01-01T00:00:00.000000005Z\"}\n";
+    let out = repeated(rt.alloc(), row, lines)?;
+    is_answered(rt, &input, &out)
+}
+
+/// Whether the rows with the word `error` of this input are these, and nothing else is written.
+fn is_answered(rt: &HostRuntime, input: &[u8], out: &[u8]) -> Result<bool, AllocError> {
+    let Ok(out) = str::from_utf8(out) else {
+        return Ok(false);
+    };
+    let wanted = Wanted {
+        status: 0,
+        out,
+        err: "",
+    };
+    ends(rt, &["pipe", "error"], input, NONE, wanted)
+}
+
+#[test]
+fn groups_are_answered_in_their_order(rt: HostRuntime) -> Result<(), Fail> {
+    assert!(rt; all_are_answered(&rt, 2_500)?);
+    Ok(())
+}
+
+/// Groups with a row each, so many, and whether the run ends with this status and this text.
+fn held(rt: &HostRuntime, groups: usize, wanted: Wanted<'_>) -> Result<bool, AllocError> {
+    let group = spread(rt.alloc(), "{\"a\":\"b\"}", 1_000, "")?;
+    let Ok(text) = str::from_utf8(group.as_slice()) else {
+        return Ok(false);
+    };
+    let input = repeated(rt.alloc(), text, groups)?;
+    ends(rt, &["pipe", "error"], &input, NONE, wanted)
+}
+
+#[test]
+fn a_4097th_batch_is_refused(rt: HostRuntime) -> Result<(), Fail> {
+    let done = Wanted {
+        status: 0,
+        out: "",
+        err: "",
+    };
+    assert!(rt; held(&rt, 4_096, done)?);
+    let full = Wanted {
+        status: 8,
+        out: "",
+        err: "full 4096\n",
+    };
+    assert!(rt; held(&rt, 4_097, full)?);
+    Ok(())
+}
+
+/// Lines with one field of 262,144 bytes, its name counted, so many, and whether the run ends so.
+fn weighs(rt: &HostRuntime, lines: usize, wanted: Wanted<'_>) -> Result<bool, AllocError> {
+    let mut line = Vec::from_slice(rt.alloc(), b"{\"a\":\"")?;
+    line.extend_from_slice(&repeated(rt.alloc(), "b", 262_143)?)?;
+    line.extend_from_slice(b"\"}\n")?;
+    let Ok(text) = str::from_utf8(line.as_slice()) else {
+        return Ok(false);
+    };
+    let input = repeated(rt.alloc(), text, lines)?;
+    ends(rt, &["pipe", "error"], &input, NONE, wanted)
+}
+
+#[test]
+fn a_group_that_weighs_too_much_is_refused(rt: HostRuntime) -> Result<(), Fail> {
+    let done = Wanted {
+        status: 0,
+        out: "",
+        err: "",
+    };
+    assert!(rt; weighs(&rt, 256, done)?);
+    let large = Wanted {
+        status: 8,
+        out: "",
+        err: "large 67371008\n",
+    };
+    assert!(rt; weighs(&rt, 257, large)?);
     Ok(())
 }
