@@ -1,10 +1,6 @@
 //! The program over objects in memory. Below it, the crates that it stands on: a crate with tests is proved twice, so theirs are here.
 //!
 //! The expected texts are worked by hand from the rules in `docs/`.
-mod ingest_tests;
-mod line_tests;
-mod moment_tests;
-mod option_tests;
 mod outside_tests;
 mod record_tests;
 mod row_tests;
