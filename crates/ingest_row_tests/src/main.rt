@@ -1,0 +1,97 @@
+//! Reads cases, one a line: the arguments of a request as `name=value&name=value`, and behind a tab a line of JSON that
+//! came in 5 ns after 1970 began. Writes the row of that line; with no tab, what the arguments ask for; or the fault.
+//!
+//! The answers in `stdout` are not the program's own. They are made in Python, with its `json` module for the lines and its
+//! `datetime` for the moments.
+#![tactic(auto)]
+
+#[cfg(test)]
+mod tests;
+
+use ingest_row::{Options, row_of_line};
+use std::alloc::{AllocError, Global};
+use std::io;
+use vl_row::{Field, Row, Text};
+
+fn main(rt: HostRuntime) -> io::Result<()> {
+    for case in rt.lines(rt.alloc()) {
+        let answer = answer(rt.alloc(), case?.as_str())?;
+        println!(rt; "{answer}")?;
+    }
+    Ok(())
+}
+
+fn answer(alloc: Global, case: &str) -> Result<String, AllocError> {
+    match case.split_once('\t') {
+        Some((arguments, line)) => read(alloc, arguments, Some(line)),
+        None => read(alloc, case, None),
+    }
+}
+
+fn read(alloc: Global, arguments: &str, line: Option<&str>) -> Result<String, AllocError> {
+    match Options::read(alloc, &pairs(alloc, arguments)?) {
+        Ok(options) => read_as_asked(alloc, &options, line),
+        Err(fault) => format!(in alloc; "{fault}"),
+    }
+}
+
+fn read_as_asked(
+    alloc: Global,
+    options: &Options,
+    line: Option<&str>,
+) -> Result<String, AllocError> {
+    let Some(line) = line else {
+        return options_text(alloc, options);
+    };
+    match row_of_line(alloc, options, 5, line.as_bytes()) {
+        Ok(row) => row_text(alloc, &row),
+        Err(kind) => format!(in alloc; "{kind}"),
+    }
+}
+
+/// The arguments, cut at each `&` and then at the first `=`.
+fn pairs(alloc: Global, arguments: &str) -> Result<Vec<Field>, AllocError> {
+    let mut pairs = Vec::new(alloc);
+    for argument in arguments.split('&') {
+        if let Some((name, value)) = argument.split_once('=') {
+            let name = Text::try_of(alloc, name)?;
+            let value = Text::try_of(alloc, value)?;
+            pairs.push(Field { name, value })?;
+        }
+    }
+    Ok(pairs)
+}
+
+/// The labels, the moment's field, the message's fields, what is left out and what is added.
+fn options_text(alloc: Global, options: &Options) -> Result<String, AllocError> {
+    let mut text = String::new(alloc);
+    push_names(&mut text, options.stream_fields())?;
+    write!(text, "{}; ", options.time_field())?;
+    push_names(&mut text, options.message_fields())?;
+    push_names(&mut text, options.ignored_fields())?;
+    push_fields(&mut text, options.extra_fields())?;
+    Ok(text)
+}
+
+fn push_names(text: &mut String, names: &[Text]) -> Result<(), AllocError> {
+    for name in names {
+        write!(text, "[{}]", name.as_str())?;
+    }
+    text.push_str("; ")
+}
+
+fn push_fields(text: &mut String, fields: &[Field]) -> Result<(), AllocError> {
+    for field in fields {
+        write!(text, "[{}:{}]", field.name(), field.value())?;
+    }
+    Ok(())
+}
+
+/// The moment, the labels and the fields.
+fn row_text(alloc: Global, row: &Row) -> Result<String, AllocError> {
+    let mut text = format!(in alloc; "{} ", row.time())?;
+    push_fields(&mut text, row.stream().as_slice())?;
+    text.push_str(" ")?;
+    push_fields(&mut text, row.fields().as_slice())?;
+    Ok(text)
+}

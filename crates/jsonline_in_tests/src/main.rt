@@ -1,0 +1,62 @@
+//! Reads lines of JSON, and writes what each says: its fields as `name=value;` in their order, or its fault. Both readings
+//! are asked, and a line says so where they differ.
+//!
+//! The answers in `stdout` are not the program's own. The fields are those that Python's `json` module reads, with numbers
+//! and arrays as they are spelled, and the places of faults those of a reader of RFC 8259 that was written in Python.
+#![tactic(auto)]
+
+#[cfg(test)]
+mod tests;
+
+use jsonline_in::JsonFault;
+use std::alloc::{AllocError, Global};
+use std::io;
+use std::io::Read;
+use vl_row::FieldList;
+
+fn main(rt: HostRuntime) -> io::Result<()> {
+    let mut input = Vec::new(rt.alloc());
+    rt.reader().read_to_end(&mut input)?;
+    for line in input.split(|byte| *byte == b'\n') {
+        let answer = answer(rt.alloc(), line)?;
+        println!(rt; "{answer}")?;
+    }
+    Ok(())
+}
+
+/// What both readings say of the line.
+fn answer(alloc: Global, line: &[u8]) -> Result<String, AllocError> {
+    let read = read(alloc, line)?;
+    let plain = read_plainly(alloc, line)?;
+    if read.as_str() == plain.as_str() {
+        return Ok(read);
+    }
+    format!(in alloc; "{read} but plainly {plain}")
+}
+
+fn read(alloc: Global, line: &[u8]) -> Result<String, AllocError> {
+    let mut fields = FieldList::new(alloc);
+    let answer = jsonline_in::fields_of(alloc, line, &mut fields);
+    shown(alloc, answer, &fields)
+}
+
+fn read_plainly(alloc: Global, line: &[u8]) -> Result<String, AllocError> {
+    let mut fields = FieldList::new(alloc);
+    let answer = jsonline_in_plain::fields_of(alloc, line, &mut fields);
+    shown(alloc, answer, &fields)
+}
+
+fn shown(
+    alloc: Global,
+    answer: Result<(), JsonFault>,
+    fields: &FieldList,
+) -> Result<String, AllocError> {
+    if let Err(fault) = answer {
+        return format!(in alloc; "{fault}");
+    }
+    let mut text = String::new(alloc);
+    for field in fields.as_slice() {
+        write!(text, "{}={};", field.name(), field.value())?;
+    }
+    Ok(text)
+}

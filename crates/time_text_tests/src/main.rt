@@ -1,0 +1,45 @@
+//! Reads a text on each line, and writes the moment that it says in nanoseconds, as text, and the number of its day; or
+//! why it says none. Both bodies are asked, and a line says so where they differ.
+//!
+//! The answers in `stdout` are not the program's own: the moments, their texts and their days are as Python's `datetime`
+//! has them, and the counts by their size.
+#![tactic(auto)]
+
+use std::alloc::{AllocError, Global};
+use std::io;
+use time_text::{TimeFault, day_of, plain, read_moment, write_moment};
+use vl_row::Text;
+
+fn main(rt: HostRuntime) -> io::Result<()> {
+    for line in rt.lines(rt.alloc()) {
+        let answer = answer(rt.alloc(), line?.as_str())?;
+        println!(rt; "{answer}")?;
+    }
+    Ok(())
+}
+
+fn answer(alloc: Global, text: &str) -> Result<String, AllocError> {
+    let read = read_moment(text);
+    if read != plain::read_moment(text) {
+        return format!(in alloc; "the plain reading differs");
+    }
+    match read {
+        Ok(moment) => shown(alloc, moment),
+        Err(TimeFault::NotATime) => format!(in alloc; "NotATime"),
+        Err(TimeFault::OutOfRange) => format!(in alloc; "OutOfRange"),
+    }
+}
+
+fn shown(alloc: Global, moment: i64) -> Result<String, AllocError> {
+    if moment < 0 {
+        return format!(in alloc; "{moment}");
+    }
+    let mut written = Text::new();
+    write_moment(alloc, moment, &mut written)?;
+    let mut plainly = Text::new();
+    plain::write_moment(alloc, moment, &mut plainly)?;
+    if written.as_str() != plainly.as_str() {
+        return format!(in alloc; "the plain text differs");
+    }
+    format!(in alloc; "{moment} {} {}", written.as_str(), day_of(moment))
+}
