@@ -42,8 +42,8 @@ impl Printer {
         Ok(Printer { stream })
     }
 
-    /// Appends the row's record as one JSON object with its keys in byte order, and a line feed. Where memory is wanting,
-    /// `out` stays as it was, and the printer may be used again.
+    /// Appends the row's record as one JSON object with its keys in byte order, and a line feed. If allocation fails,
+    /// `out` is unchanged, and the printer may be used again.
     pub fn write_row(
         &mut self,
         alloc: Global,

@@ -1,5 +1,5 @@
-//! The plain program: each place of the text is tried in turn, and each character is looked up. It is slow, and there to
-//! be compared with.
+//! The plain program: each place of the text is tried in turn, and each character is looked up. It is slow, and there
+//! to be compared with.
 ghost use Rattle.std.specs.Prelude.{◌≡◌, ◌&&◌, ◌<◌, ◌≤◌, length, chars};
 ghost use Rattle.log_model.specs.Words.{begins_word, ends_word, has_word, is_word_char, is_word_text, stands_at};
 
