@@ -19,7 +19,7 @@ use Rattle.std.specs.Fmt.{decimal, signed_decimal}
 use Rattle.std.specs.Int.{w64}
 use Rattle.std.specs.Str.Parse.{digits_value, signed_digits_value, without_leading_plus, without_leading_sign}
 use Rattle.log_model.specs.Field.{bytes_cmp}
-use Rattle.log_model.specs.Order.{IsIntegerText, number_of, IsMomentText, moment_stem_of, Key, number, moment, other, AreKeys, key_of, rank, integer_of, bytes_of, key_cmp, value_cmp, IsLinearOrder}
+use Rattle.log_model.specs.Order.{IsIntegerText, number_of, IsMomentText, moment_stem_of, Key, number, moment, other, AreKeys, key_of, key_rank, key_integer, key_bytes, key_cmp, value_cmp, IsLinearOrder}
 
 -- ---- numbers
 
@@ -106,10 +106,10 @@ chosen text None None is_number is_moment = rw (is_number, is_moment) refl
 pub text_of-key : (text : List ℕ) → text_of (key_of text) ≡ text
 text_of-key text = chosen text (number_of text) (moment_stem_of text) refl refl
 
--- a text that ends in no digit is no number
-last_is : (front : List ℕ) (x : ℕ) → get_or (front ++ x ∷ []) (length front) 0 ≡ x
-last_is [] x = refl
-last_is (y ∷ ys) x = last_is ys x
+-- the last byte of a text
+pub last_appended : (front : List ℕ) (x : ℕ) → get_or (front ++ x ∷ []) (length front) 0 ≡ x
+last_appended [] x = refl
+last_appended (y ∷ ys) x = last_appended ys x
 
 positive-small : (n : ℕ) → FitsSigned w64 (pos n) → n < 2 ^ 64
 positive-small n fits = omega (arith, ints)
@@ -123,7 +123,7 @@ decimal-digit_at n small i within = (digit_at (decimal n) i (digits_decimal (num
 ends_in_digit : (digits front : List ℕ) (x : ℕ) → ((i : ℕ) → i < length digits → get_or digits i 0 ≤ 57) → digits ≡ front ++ x ∷ [] → x ≤ 57
 ends_in_digit digits front x each e =
     let whole : length digits ≡ length front + 1 = ap length e ∙ length-append front (x ∷ []) in
-    let last : get_or digits (length front) 0 ≡ x = ap (λ (bs : List ℕ). get_or bs (length front) 0) e ∙ last_is front x in
+    let last : get_or digits (length front) 0 ≡ x = ap (λ (bs : List ℕ). get_or bs (length front) 0) e ∙ last_appended front x in
     omega (arith, each (length front) (omega arith))
 
 signed_ends : (digits front : List ℕ) (x : ℕ) → ((i : ℕ) → i < length digits → get_or digits i 0 ≤ 57) → 45 ∷ digits ≡ front ++ x ∷ [] → x ≤ 57
@@ -191,7 +191,7 @@ key_of-keys = record {
 -- ---- the order
 
 key_cmp_total : IsTotalOrder key_cmp
-key_cmp_total = then_total (on_total rank nat_cmp_total) (then_total (on_total integer_of int_cmp_total) (on_total bytes_of nat_list_cmp_total))
+key_cmp_total = then_total (on_total key_rank nat_cmp_total) (then_total (on_total key_integer int_cmp_total) (on_total key_bytes nat_list_cmp_total))
 
 bytes_same : (a b : List ℕ) → bytes_cmp a b ≡ Equal → a ≡ b
 bytes_same a b e = (bytes_eq-Decides a b).0 (sym (is_eq-slice_cmp a b) ∙ ap is_eq e)

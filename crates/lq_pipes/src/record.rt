@@ -42,7 +42,8 @@ impl Printer {
         Ok(Printer { stream })
     }
 
-    /// Appends the row's record as one JSON object with its keys in byte order, and a line feed.
+    /// Appends the row's record as one JSON object with its keys in byte order, and a line feed. If allocation fails,
+    /// `out` is unchanged, and the printer may be used again.
     pub fn write_row(
         &mut self,
         alloc: Global,
@@ -51,6 +52,7 @@ impl Printer {
     ) -> Result<(), AllocError>
         ensures ok { OnOk result (out.new.items ≡ out.old.items ++ line_text (record_of row.now)) }
         ensures err { OnErr result (out.new.items ≡ out.old.items) }
+        ensures kept { OnOk result (self.new ≡ row.now.labels) }
     {
         self.turn_to(alloc, row.stream())?;
         let line = line(alloc, row, &self.stream)?;

@@ -1,8 +1,9 @@
 //! Tests of `lq_pipes`.
 //!
-//! The program answers a table. A case is a row: its time, the names of its stream's labels, with commas between them, and
-//! its fields, with tabs between all; the line `---` stands between cases. The answer is the lines of all rows, first those
-//! of one printer, and then those of the plain program. They are from Python's `json`, `hashlib` and `datetime`.
+//! The program answers a table. A case is a row: its time, the names of its stream's labels, with commas between them,
+//! and its fields, with tabs between all; the line `---` stands between cases. The answer is the lines of all rows,
+//! first those of one printer, and then those of the plain program. They are from Python's `json`, `hashlib` and
+//! `datetime`.
 #![tactic(auto)]
 
 use lq_pipes::{Printer, plain};

@@ -57,8 +57,8 @@ fn push_label(alloc: Global, later: bool, label: &Field, out: &mut String) -> Re
     push_quoted(alloc, label.value(), out)
 }
 
-/// Appends a text as a JSON string, with the shortest escapes (RFC 8259, section 7). Where memory is wanting, `out` holds
-/// what was written so far.
+/// Appends a text as a JSON string, with the shortest escapes (RFC 8259, section 7). If allocation fails, `out` may
+/// hold a part of it.
 pub fn push_quoted(alloc: Global, text: &str, out: &mut String) -> Result<(), AllocError>
     ensures { OnOk result (string_bytes out.new ≡ string_bytes out.old ++ quoted text.now) }
 {

@@ -1,8 +1,8 @@
 //! Tests of `stream_label`.
 //!
-//! The program answers a table. A case is the names of a stream's labels, with commas between them, and the fields of a
-//! row, with tabs between all; the line `---` stands between cases. The answer is how many labels and fields the row has,
-//! and the text and the id of its stream. The answers are from Python's `json` and `hashlib`.
+//! The program answers a table. A case is the names of a stream's labels, with commas between them, and the fields of
+//! a row, with tabs between all; the line `---` stands between cases. The answer is how many labels and fields the row
+//! has, and the text and the id of its stream. The answers are from Python's `json` and `hashlib`.
 #![tactic(auto)]
 
 use std::alloc::{AllocError, Global};

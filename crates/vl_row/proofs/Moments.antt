@@ -4,16 +4,13 @@ use Rattle.std.proofs.Math.Seq.{take-suc, take_all}
 use Rattle.std.proofs.lemmas.Bool.{and_from, and_left, and_right, false_from_ne_true}
 use Rattle.std.proofs.lemmas.List.{length-take-le}
 use Rattle.std.proofs.lemmas.Slice.Eq.{bytes_eq-Decides}
+use Rattle.log_model.proofs.ValueOrder.{last_appended}
 use Rattle.log_model.specs.Order.{is_moment_stem, moment_stem_of}
 
 split_last : (text : List ℕ) → 0 < length text → text ≡ take (length text - 1) text ++ get_or text (length text - 1) 0 ∷ []
 split_last text some =
     let all : suc (length text - 1) ≡ length text = omega arith in
     sym (take_all (length text) text (omega arith)) ∙ ap (λ (n : ℕ). take n text) (sym all) ∙ take-suc text (length text - 1) 0 (omega arith)
-
-last_appended : (xs : List ℕ) (x : ℕ) → get_or (xs ++ x ∷ []) (length xs) 0 ≡ x
-last_appended [] x = refl
-last_appended (y ∷ ys) x = last_appended ys x
 
 last_is : (text front : List ℕ) (x : ℕ) → text ≡ front ++ x ∷ [] → length front ≡ length text - 1 → get_or text (length text - 1) 0 ≡ x
 last_is text front x e same = ap (λ (bs : List ℕ). get_or bs (length text - 1) 0) e ∙ ap (λ (n : ℕ). get_or (front ++ x ∷ []) n 0) (sym same) ∙ last_appended front x

@@ -144,8 +144,8 @@ impl FieldList {
         Ok(FieldList { fields })
     }
 
-    /// Gives the field of this name the value. An empty value is a missing field: it removes the field. Where memory
-    /// is wanting, the fields stay as they were.
+    /// Gives the field of this name the value. An empty value is a missing field: it removes the field. If allocation
+    /// fails, the fields are unchanged.
     pub fn set(&mut self, alloc: Global, name: &str, value: &str) -> Result<(), AllocError>
         requires { 0 < length name.now }
         ensures ok { OnOk result (self.new ≡ set_field self.old name.now value.now) }

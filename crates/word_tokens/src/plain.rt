@@ -1,16 +1,16 @@
-//! The same search in the plainest way, to compare the fast one with.
-ghost use Rattle.std.specs.Prelude.{◌≡◌, ◌<◌, ◌≤◌, length};
-ghost use Rattle.log_model.specs.Words.{has_word as has_word_of, stands_at as stands_at_of};
+//! The plain program: each place of the text is tried in turn, and each character is looked up. It is slow, and there
+//! to be compared with.
+ghost use Rattle.std.specs.Prelude.{◌≡◌, ◌&&◌, ◌<◌, ◌≤◌, length, chars};
+ghost use Rattle.log_model.specs.Words.{begins_word, ends_word, has_word, is_word_char, is_word_text, stands_at};
 
-use crate::is_word_text;
-use crate::search::stands_apart;
+use unicode::properties::{GeneralCategory, GeneralCategoryGroup};
 
-/// Whether `word` is one of the words of `text`: each place is tried in order.
+/// Whether `word` is one of the words of `text`.
 pub fn has_word(text: &str, word: &str) -> bool
     requires { 0 < length word.now }
-    ensures { result ≡ has_word_of text.now word.now }
+    ensures { result ≡ has_word text.now word.now }
 {
-    if !is_word_text(word) {
+    if !is_one_word(word) {
         return false;
     }
     for place in 0..text.len() {
@@ -25,8 +25,48 @@ pub fn has_word(text: &str, word: &str) -> bool
 fn stands_at(text: &str, phrase: &str, place: usize) -> bool
     requires phrase { 0 < length phrase.now }
     requires within { place ≤ length text.now }
-    ensures { result ≡ stands_at_of text.now phrase.now place }
+    ensures { result ≡ stands_at text.now phrase.now place }
 {
-    let rest = &text.as_bytes()[place..];
-    rest.starts_with(phrase.as_bytes()) && stands_apart(text, phrase, place)
+    if !text.as_bytes()[place..].starts_with(phrase.as_bytes()) {
+        return false;
+    }
+    let before = &text[..place];
+    let after = &text[place + phrase.len()..];
+    let goes_on = begins_in_word(phrase) && ends_in_word(before)
+        || ends_in_word(phrase) && begins_in_word(after);
+    !goes_on
+}
+
+fn begins_in_word(text: &str) -> bool
+    ensures { result ≡ begins_word (chars text.now) }
+{
+    match text.chars().next() {
+        Some(first) => makes_words(first),
+        None => false,
+    }
+}
+
+fn ends_in_word(text: &str) -> bool
+    ensures { result ≡ ends_word (chars text.now) }
+{
+    match text.chars().next_back() {
+        Some(last) => makes_words(last),
+        None => false,
+    }
+}
+
+fn is_one_word(text: &str) -> bool
+    ensures { result ≡ is_word_text text.now }
+{
+    !text.is_empty() && text.chars().all(makes_words)
+}
+
+#[tactic(auto, unfolding(log_model::specs::Words::is_word_char))]
+fn makes_words(c: char) -> bool
+    ensures { result ≡ is_word_char c }
+{
+    let category = GeneralCategory::for_char(c);
+    c == '_'
+        || GeneralCategoryGroup::Letter.contains(category)
+        || category == GeneralCategory::DecimalNumber
 }

@@ -33,7 +33,7 @@ fn find_from(phrase: &Finder, text: &[u8], from: usize) -> Option<usize>
 }
 
 // Whether no word goes on across an end of the phrase that stands at `place`.
-pub(crate) fn stands_apart(text: &str, phrase: &str, place: usize) -> bool
+fn stands_apart(text: &str, phrase: &str, place: usize) -> bool
     requires phrase { 0 < length phrase.now }
     requires found { OccursAt text.now phrase.now place }
     ensures { result ≡ stands_at text.now phrase.now place }

@@ -7,7 +7,7 @@ pub returns-then-stands_at : goal.returns-then-stands_at
 returns-then-stands_at c =
     let found : occurs c.args.text.now c.args.word.now ≡ true =
     occurs-place c.args.text.now c.args.word.now c.loop-place.place (omega arith) (sym c.if-stands_at.ensures) in
-    let word : is_word_text c.args.word.now ≡ true = sym c.if-not-is_word_text.ensures in
+    let word : is_word_text c.args.word.now ≡ true = sym c.if-not-is_one_word.ensures in
     rw (word, found)
 
 pub loop-place-preserved : goal.loop-place-preserved
@@ -18,5 +18,5 @@ returns c =
     let nowhere : occurs c.args.text.now c.args.word.now ≡ false =
     occurs-nowhere c.args.text.now c.args.word.now
     (fails_past c.args.text.now c.args.word.now c.requires (λ k below. c.loop-place.invariant k (omega arith))) in
-    let word : is_word_text c.args.word.now ≡ true = sym c.if-not-is_word_text.ensures in
+    let word : is_word_text c.args.word.now ≡ true = sym c.if-not-is_one_word.ensures in
     rw (word, nowhere)
