@@ -7,7 +7,7 @@
 
 use std::alloc::{AllocError, Global};
 use std::io;
-use time_text::{TimeFault, day_of, plain, read_moment, write_moment};
+use time_text::{day_of, plain, read_moment, write_moment};
 use vl_row::Text;
 
 fn main(rt: HostRuntime) -> io::Result<()> {
@@ -23,17 +23,10 @@ fn answer(alloc: Global, text: &str) -> Result<String, AllocError> {
     if read != plain::read_moment(text) {
         return format!(in alloc; "the plain reading differs");
     }
-    match read {
-        Ok(moment) => shown(alloc, moment),
-        Err(TimeFault::NotATime) => format!(in alloc; "NotATime"),
-        Err(TimeFault::OutOfRange) => format!(in alloc; "OutOfRange"),
-    }
-}
-
-fn shown(alloc: Global, moment: i64) -> Result<String, AllocError> {
-    if moment < 0 {
-        return format!(in alloc; "{moment}");
-    }
+    let moment = match read {
+        Ok(moment) => moment,
+        Err(fault) => return format!(in alloc; "{fault:?}"),
+    };
     let mut written = Text::new();
     write_moment(alloc, moment, &mut written)?;
     let mut plainly = Text::new();
