@@ -304,8 +304,10 @@ fn what_cannot_be_said_changes_no_status(rt: HostRuntime) -> Result<(), Fail> {
 
 /// A line, so many line feeds, and another line.
 fn spread(alloc: Global, first: &str, feeds: usize, last: &str) -> Result<Vec<u8>, AllocError> {
-    let mut input = vec![in alloc; b'\n'; first.len() + feeds]?;
-    input[..first.len()].copy_from_slice(first.as_bytes());
+    let mut input = Vec::from_slice(alloc, first.as_bytes())?;
+    for _ in 0..feeds {
+        input.push(b'\n')?;
+    }
     input.extend_from_slice(last.as_bytes())?;
     Ok(input)
 }
