@@ -1,24 +1,30 @@
 -- Counts and seconds with a fraction: what is read is spelled so, and what is spelled so is read.
-use Rattle.std.proofs.Common.{◌≡◌, ℕ, ◌-◌, ◌*◌, ◌^◌, ◌≤◌, Bool, true, false, cond, not, ◌&&◌, ◌||◌, ◌==◌, nat_lt, nat_le, inl, inr, List, [], ◌∷◌, ◌++◌, length, slice_index, take, drop, Option, Some, None, ℤ, pos, refl, sym, ap, subst, ◌∙◌, arith}
+use Rattle.std.proofs.Common.{◌≡◌, ℕ, ◌-◌, ◌*◌, ◌^◌, ◌≤◌, Bool, true, false, cond, not, ◌&&◌, ◌||◌, ◌==◌, nat_lt}
+use Rattle.std.proofs.Common.{nat_le, inl, inr, List, [], ◌∷◌, ◌++◌, length, slice_index, take, drop, Option, Some}
+use Rattle.std.proofs.Common.{None, ℤ, pos, refl, sym, ap, subst, ◌∙◌, arith}
 use Rattle.std.specs.Char.{is_ascii_digit}
 use Rattle.std.specs.List.{list_all}
 use Rattle.std.specs.Str.{all_ascii_digits}
 use Rattle.std.specs.Str.Parse.{digits_value}
-use Rattle.std.proofs.lemmas.Bool.{and_parts, and_from, or_cases, or_left, or_right, not-true, not_from_false, eqb-true, eqb-false, eq-eqb, ne_eqb, ltb-true, lt-ltb, leb-true, le-leb, cases_eq, cases_lt, false≢true}
+use Rattle.std.proofs.lemmas.Bool.{and_parts, and_from, or_cases, or_left, or_right, not-true, not_from_false}
+use Rattle.std.proofs.lemmas.Bool.{eqb-true, eqb-false, eq-eqb, ne_eqb, ltb-true, lt-ltb, leb-true, le-leb, cases_eq}
+use Rattle.std.proofs.lemmas.Bool.{cases_lt, false≢true}
 use Rattle.std.proofs.lemmas.List.{get_or-take, get_or_past, take_at, drop_at, take-append-drop, append-nil}
 use Rattle.std.proofs.lemmas.List.Folds.{length-prefix_len, prefix_len-append, list_all-append, list_all_at}
 use Rattle.std.proofs.lemmas.Bool.Decides.{nat_tests}
 use Rattle.std.proofs.lemmas.Option.{none-some}
 use Rattle.std.proofs.lemmas.Str.Parse.{numerals_by_value, tells_all_ascii_digits}
 use Rattle.std.proofs.Math.ListN.{get_or-append}
-use Rattle.log_model.specs.MomentText.{AreDigits, IsDecimalCount, IsCount, AreSeconds, SpellsMoment, counted, in_seconds, nanoseconds_of}
+use Rattle.log_model.specs.MomentText.{AreDigits, IsDecimalCount, IsCount, AreSeconds, SpellsMoment, counted}
+use Rattle.log_model.specs.MomentText.{in_seconds, nanoseconds_of}
 use Rattle.time_text.specs.Reading.{◌>>=◌, digits_len, number_at, fraction_at, only_fraction, after_number, count_at}
 use Rattle.time_text.proofs.DigitLemmas.{front_digits}
 
 -- ---- the steps of a reader
 
 -- the value of a step that gave one
-pub bind_some : {A B : Type 0} (r : Option A) (f : A → Option B) (y : B) → (r >>= f) ≡ Some y → (x : A) × (r ≡ Some x) × (f x ≡ Some y)
+pub bind_some : {A B : Type 0} (r : Option A) (f : A → Option B) (y : B) → (r >>= f) ≡ Some y → (x : A) × (r ≡ Some x)
+    × (f x ≡ Some y)
 bind_some (Some x) f y e = (x, refl, e)
 bind_some None f y e = absurd (none-some y e)
 
@@ -41,7 +47,8 @@ all_len (c ∷ cs) h =
     let parts = and_parts (is_ascii_digit c) (all_ascii_digits cs) h in
     rw parts.0 (omega (arith, all_len cs parts.1))
 
-pub len_again : (ds rest : List ℕ) → all_ascii_digits ds ≡ true → digits_len rest ≡ 0 → digits_len (ds ++ rest) ≡ length ds
+pub len_again : (ds rest : List ℕ) → all_ascii_digits ds ≡ true → digits_len rest ≡ 0
+    → digits_len (ds ++ rest) ≡ length ds
 len_again ds rest all none =
     let test = eq-eqb (digits_len ds) (length ds) (all_len ds all) in
     prefix_len-append is_ascii_digit ds rest ∙ rw test (omega (arith, none))
@@ -88,12 +95,14 @@ pub fraction_again : (places rest : List ℕ) → AreDigits places → length pl
 unfolding fraction_at
 fraction_again places rest digits most none =
     let len = len_again places rest digits.each none in
-    let test = and_from (nat_le 1 (length places)) (nat_le (length places) 9) (le-leb 1 (length places) (omega (arith, digits.some))) (le-leb (length places) 9 most) in
+    let test = and_from (nat_le 1 (length places)) (nat_le (length places) 9)
+    (le-leb 1 (length places) (omega (arith, digits.some))) (le-leb (length places) 9 most) in
     rw (len, take_at places rest (length places) refl, drop_at places rest (length places) refl, test) refl
 
 -- ---- counts
 
-number_takes : (bytes : List ℕ) → nat_le 1 (digits_len bytes) && (not (slice_index bytes 0 == 48) || (digits_len bytes == 1)) ≡ true
+number_takes : (bytes : List ℕ) → nat_le 1 (digits_len bytes) &&
+    (not (slice_index bytes 0 == 48) || (digits_len bytes == 1)) ≡ true
     → IsDecimalCount (take (digits_len bytes) bytes) (number_at bytes)
 number_takes bytes test =
     let len = digits_len bytes in
@@ -103,16 +112,23 @@ number_takes bytes test =
     record {
       digits = front_are_digits bytes some;
       first = λ zero. elim (or_cases _ _ parts.1) [
-        | inl other ↦ absurd (eqb-false (slice_index bytes 0) 48 (not-true _ other) (sym (get_or-take len bytes 0 0 some) ∙ zero))
+        | inl other ↦ absurd (eqb-false (slice_index bytes 0) 48 (not-true _ other)
+            (sym (get_or-take len bytes 0 0 some) ∙ zero))
         | inr one ↦ omega (arith, long, eqb-true len 1 one)
       ];
       value = refl;
     }
 
-after_takes : (text whole bytes : List ℕ) (number : ℕ) (moment : ℤ) → IsDecimalCount whole number → text ≡ whole ++ bytes → after_number number bytes ≡ Some moment → SpellsMoment text moment
+after_takes : (text whole bytes : List ℕ) (number : ℕ) (moment : ℤ) → IsDecimalCount whole number → text ≡ whole
+    ++ bytes → after_number number bytes ≡ Some moment → SpellsMoment text moment
 unfolding after_number
 after_takes text whole [] number moment h spelled e =
-    counted (record { count = number; is_number = subst (λ (t : List ℕ). IsDecimalCount t number) (sym (spelled ∙ append-nil whole)) h; is_moment = sym (some_is _ moment e) })
+    counted (record {
+      count = number;
+      is_number = subst (λ (t : List ℕ). IsDecimalCount t number)
+          (sym (spelled ∙ append-nil whole)) h;
+      is_moment = sym (some_is _ moment e);
+    })
 after_takes text whole (byte ∷ bytes) number moment h spelled e =
     let parts = test_some _ _ moment e in
     let tests = and_parts (byte == 46) (nat_lt number (10 ^ 11)) parts.0 in
@@ -129,7 +145,9 @@ after_takes text whole (byte ∷ bytes) number moment h spelled e =
       few = ltb-true number (10 ^ 11) tests.1;
       is_fraction = record {
         places = fraction.places;
-        spelled = ap (λ (c : ℕ). c ∷ bytes) (eqb-true byte 46 tests.0) ∙ ap (λ (t : List ℕ). 46 ∷ t) (fraction.spelled ∙ ap (λ (t : List ℕ). fraction.places ++ t) last.0 ∙ append-nil fraction.places);
+        spelled = ap (λ (c : ℕ). c ∷ bytes) (eqb-true byte 46 tests.0)
+            ∙ ap (λ (t : List ℕ). 46 ∷ t) (fraction.spelled ∙ ap (λ (t : List ℕ). fraction.places ++ t) last.0
+            ∙ append-nil fraction.places);
         digits = fraction.digits;
         most = fraction.most;
         value = fraction.value;
@@ -137,7 +155,8 @@ after_takes text whole (byte ∷ bytes) number moment h spelled e =
       is_moment = last.1;
     })
   where
-    only : (nanos : ℕ) (rest : List ℕ) → only_fraction number (pair_of nanos rest) ≡ Some moment → (rest ≡ []) × (moment ≡ nanoseconds_of (pos number) nanos)
+    only : (nanos : ℕ) (rest : List ℕ) → only_fraction number (pair_of nanos rest) ≡ Some moment → (rest ≡ [])
+        × (moment ≡ nanoseconds_of (pos number) nanos)
     only nanos [] same = (refl, sym (some_is _ moment same))
     only nanos (c ∷ cs) same = absurd (none-some moment same)
 
@@ -146,9 +165,11 @@ unfolding count_at
 count_takes text moment e =
     let len = digits_len text in
     let parts = test_some _ _ moment e in
-    after_takes text (take len text) (drop len text) (number_at text) moment (number_takes text parts.0) (sym (take-append-drop len text)) parts.1
+    after_takes text (take len text) (drop len text) (number_at text) moment (number_takes text parts.0)
+    (sym (take-append-drop len text)) parts.1
 
-count_again : (whole rest : List ℕ) (number : ℕ) → IsDecimalCount whole number → digits_len rest ≡ 0 → count_at (whole ++ rest) ≡ after_number number rest
+count_again : (whole rest : List ℕ) (number : ℕ) → IsDecimalCount whole number → digits_len rest ≡ 0
+    → count_at (whole ++ rest) ≡ after_number number rest
 unfolding count_at
 count_again whole rest number h none =
     let len = len_again whole rest h.digits.each none in
@@ -156,7 +177,8 @@ count_again whole rest number h none =
     let plain : not (slice_index (whole ++ rest) 0 == 48) || (length whole == 1) ≡ true =
     elim (cases_eq (slice_index whole 0) 48) [
       | inl zero ↦ or_right _ _ (eq-eqb (length whole) 1 (h.first zero))
-      | inr other ↦ or_left _ _ (not_from_false _ (ne_eqb (slice_index (whole ++ rest) 0) 48 (λ e. other (sym first ∙ e))))
+      | inr other ↦ or_left _ _ (not_from_false _ (ne_eqb (slice_index (whole ++ rest) 0) 48
+          (λ e. other (sym first ∙ e))))
     ] in
     let test = and_from (nat_le 1 (length whole)) _ (le-leb 1 (length whole) (omega (arith, h.digits.some))) plain in
     rw (len, test, take_at whole rest (length whole) refl, drop_at whole rest (length whole) refl, ← h.value) refl
@@ -171,10 +193,12 @@ unfolding after_number
 are_seconds-again text moment h =
     let f = h.is_fraction in
     let fraction : fraction_at f.places ≡ Some (pair_of h.nanos []) =
-    ap fraction_at (sym (append-nil f.places)) ∙ fraction_again f.places [] f.digits f.most refl ∙ ap (λ (n : ℕ). Some (pair_of n [])) (sym f.value) in
+    ap fraction_at (sym (append-nil f.places)) ∙ fraction_again f.places [] f.digits f.most refl
+    ∙ ap (λ (n : ℕ). Some (pair_of n [])) (sym f.value) in
     let number = count_again h.whole (46 ∷ f.places) h.seconds h.is_number refl in
     let test = lt-ltb h.seconds (10 ^ 11) h.few in
-    ap count_at (h.spelled ∙ ap (λ (t : List ℕ). h.whole ++ t) f.spelled) ∙ number ∙ rw (test, fraction) (ap Some (sym h.is_moment))
+    ap count_at (h.spelled ∙ ap (λ (t : List ℕ). h.whole ++ t) f.spelled) ∙ number
+    ∙ rw (test, fraction) (ap Some (sym h.is_moment))
 
 -- ---- a date has a `-` at its fourth place, and a count has none
 
@@ -203,5 +227,7 @@ is_count-no_dash text moment h = no_dash_at text (digits_are_no_dashes text h.is
 pub are_seconds-no_dash : (text : List ℕ) (moment : ℤ) → AreSeconds text moment → slice_index text 4 == 45 ≡ false
 are_seconds-no_dash text moment h =
     let f = h.is_fraction in
-    let parts = and_from _ _ (digits_are_no_dashes h.whole h.is_number.digits.each) (digits_are_no_dashes f.places f.digits.each) in
-    no_dash_at text (ap (list_all is_no_dash) (h.spelled ∙ ap (λ (t : List ℕ). h.whole ++ t) f.spelled) ∙ list_all-append is_no_dash h.whole (46 ∷ f.places) ∙ parts)
+    let parts = and_from _ _ (digits_are_no_dashes h.whole h.is_number.digits.each)
+    (digits_are_no_dashes f.places f.digits.each) in
+    no_dash_at text (ap (list_all is_no_dash) (h.spelled ∙ ap (λ (t : List ℕ). h.whole ++ t) f.spelled)
+    ∙ list_all-append is_no_dash h.whole (46 ∷ f.places) ∙ parts)

@@ -1,5 +1,6 @@
 -- What the loop over digits keeps.
-use Rattle.std.proofs.Common.{◌≡◌, ℕ, ◌+◌, ◌-◌, ◌*◌, ◌^◌, ◌<◌, ◌≤◌, inl, inr, ◌⊎◌, true, false, List, length, get_or, take, drop, Some, ◌&&◌, nat_le, refl, sym, subst, arith, below_more}
+use Rattle.std.proofs.Common.{◌≡◌, ℕ, ◌+◌, ◌-◌, ◌*◌, ◌^◌, ◌<◌, ◌≤◌, inl, inr, ◌⊎◌, true, false, List, length, get_or}
+use Rattle.std.proofs.Common.{take, drop, Some, ◌&&◌, nat_le, refl, sym, subst, arith, below_more}
 use Rattle.std.proofs.lemmas.Bool.Decides.{nat_tests}
 use Rattle.std.proofs.lemmas.Int.Digits.{digits_value_more}
 use Rattle.std.proofs.lemmas.List.Sums.{prefix_len_is}
@@ -27,20 +28,25 @@ digit_value_is c h = grind (arith, nat_tests)
 pub none_read : (bytes : List ℕ) → AreRead bytes 0 0
 none_read bytes = record { each = λ k h. absurd (omega arith); value = inl refl }
 
-pub one_more : (bytes : List ℕ) (len number next : ℕ) → AreRead bytes len number → len < length bytes → is_ascii_digit (get_or bytes len 0) ≡ true
-    → ((number < 2 ^ 60) × (next ≡ number * 10 + (get_or bytes len 0 - 48))) ⊎ ((2 ^ 60 ≤ number) × (next ≡ 2 ^ 64 - 1)) → AreRead bytes (len + 1) next
+pub one_more : (bytes : List ℕ) (len number next : ℕ) → AreRead bytes len number → len < length bytes
+    → is_ascii_digit (get_or bytes len 0) ≡ true
+    → ((number < 2 ^ 60) × (next ≡ number * 10 + (get_or bytes len 0 - 48))) ⊎
+    ((2 ^ 60 ≤ number) × (next ≡ 2 ^ 64 - 1)) → AreRead bytes (len + 1) next
 one_more bytes len number next h within digit e = record {
   each = below_more _ _ h.each digit;
-  value = rw (digits_value_more 10 bytes len within, digit_value_is (get_or bytes len 0) digit) (grown number (digits_value 10 (take len bytes)) next (get_or bytes len 0 - 48) h.value e);
+  value = rw (digits_value_more 10 bytes len within, digit_value_is (get_or bytes len 0) digit)
+      (grown number (digits_value 10 (take len bytes)) next (get_or bytes len 0 - 48) h.value e);
 }
   where
-    grown : (m n next d : ℕ) → AreAlike m n → ((m < 2 ^ 60) × (next ≡ m * 10 + d)) ⊎ ((2 ^ 60 ≤ m) × (next ≡ 2 ^ 64 - 1)) → AreAlike next (n * 10 + d)
+    grown : (m n next d : ℕ) → AreAlike m n → ((m < 2 ^ 60) × (next ≡ m * 10 + d)) ⊎
+        ((2 ^ 60 ≤ m) × (next ≡ 2 ^ 64 - 1)) → AreAlike next (n * 10 + d)
     grown m n next d (inl same) (inl small) = inl (omega arith)
     grown m n next d (inl same) (inr large) = inr (omega arith, omega arith)
     grown m n next d (inr beyond) (inl small) = absurd (omega arith)
     grown m n next d (inr beyond) (inr large) = inr (omega arith, omega arith)
 
-pub all_read : (bytes : List ℕ) (len number : ℕ) → AreRead bytes len number → len ≤ length bytes → (len < length bytes → is_ascii_digit (get_or bytes len 0) ≡ false)
+pub all_read : (bytes : List ℕ) (len number : ℕ) → AreRead bytes len number → len ≤ length bytes
+    → (len < length bytes → is_ascii_digit (get_or bytes len 0) ≡ false)
     → (len ≡ digits_len bytes) × AreAlike number (number_at bytes)
 all_read bytes len number h within stop =
     let here = prefix_len_is is_ascii_digit bytes len 0 within h.each stop in
@@ -60,7 +66,8 @@ front_digits bytes =
 
 pub number_below : (bytes : List ℕ) → number_at bytes < 10 ^ digits_len bytes
 number_below bytes =
-    subst (λ (n : ℕ). number_at bytes < 10 ^ n) (length-prefix_len is_ascii_digit bytes) (digits_value-lt 10 (take (digits_len bytes) bytes) (front_digits bytes))
+    subst (λ (n : ℕ). number_at bytes < 10 ^ n) (length-prefix_len is_ascii_digit bytes)
+    (digits_value-lt 10 (take (digits_len bytes) bytes) (front_digits bytes))
 
 -- so many places of a second are less than a second
 pub fraction_below : (len number : ℕ) → len ≤ 9 → number < 10 ^ len → number * 10 ^ (9 - len) < 1_000_000_000
@@ -74,7 +81,8 @@ small_alike : (m n : ℕ) → n < 2 ^ 63 → AreAlike m n → m ≡ n
 small_alike m n small (inl same) = same
 small_alike m n small (inr beyond) = absurd (omega arith)
 
-module _ (bytes : List ℕ) (len number : ℕ) (scale : ℕ) (same_len : len ≡ digits_len bytes) (same : AreAlike number (number_at bytes)) (scaled : scale ≡ 10 ^ (9 - len)) (few : len ≤ 9) where
+module _ (bytes : List ℕ) (len number : ℕ) (scale : ℕ) (same_len : len ≡ digits_len bytes)
+    (same : AreAlike number (number_at bytes)) (scaled : scale ≡ 10 ^ (9 - len)) (few : len ≤ 9) where
   exact : number ≡ number_at bytes
   exact =
       let below : number_at bytes < 10 ^ len = rw same_len (number_below bytes) in
@@ -89,5 +97,6 @@ module _ (bytes : List ℕ) (len number : ℕ) (scale : ℕ) (same_len : len ≡
   unfolding fraction_at
   fraction_is some =
       let test : nat_le 1 (digits_len bytes) && nat_le (digits_len bytes) 9 ≡ true =
-      and_from _ _ (le-leb 1 (digits_len bytes) (omega (arith, same_len))) (le-leb (digits_len bytes) 9 (omega (arith, same_len))) in
+      and_from _ _ (le-leb 1 (digits_len bytes) (omega (arith, same_len)))
+      (le-leb (digits_len bytes) 9 (omega (arith, same_len))) in
       rw (test, exact, scaled, same_len) refl
