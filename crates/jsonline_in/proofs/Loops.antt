@@ -67,7 +67,7 @@ module _ (depth : ℕ) (kind : Kind) where
 
   -- ---- so far
 
-  -- What is left makes the whole, with the items in prefix.
+  -- What is left makes the whole, with the items before it.
   pub record Continued {X : Type 0} (whole left : Items → X) (rest : List ℕ) (total : Result (Items × List ℕ) Fault) :
       Type 0 where
     pub prefix : List (Label × Value)

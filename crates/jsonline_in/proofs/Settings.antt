@@ -132,7 +132,7 @@ value_is_listed old name depth text rest value new none e f =
 
 -- ---- names
 
--- the name that was there stays in prefix
+-- the name that was there stays before what is added
 pub prefix_kept : {S : Type 0} (now : S → List ℕ) (old mid text rest : List ℕ) (piece : Option S)
     → IfSome piece (λ _. mid ≡ old) → mapped (λ label. old ++ member_name label) (label_at object text) ≡ Ok
     (mid ++ or_empty (option_map now piece), rest)

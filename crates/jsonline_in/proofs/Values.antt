@@ -333,7 +333,7 @@ module _ (depth : ℕ) (inner : Kind → Reader Value) (solid : Solid depth inne
   IsOther kind reach (Some x) text = (suits kind x.0 ≡ true) × IsValue x.1 × Nests depth reach x.1
       × IsSpelled ((44 ∷ []) ∷ (label_tokens x.0 ++ tokens x.1)) text
 
-  -- the same with no white space in prefix
+  -- the same with no white space before it
   abbrev IsOtherHere : Kind → Reach → Option (Label × Value) → List ℕ → Type 0
   IsOtherHere kind reach None text = text ≡ closing kind ∷ []
   IsOtherHere kind reach (Some x) text = (suits kind x.0 ≡ true) × IsValue x.1 × Nests depth reach x.1
@@ -476,7 +476,7 @@ module _ (depth : ℕ) (inner : Kind → Reader Value) (solid : Solid depth inne
       widen None a p = p
       widen (Some x) a p = (p.0, p.1, tt, p.3)
 
-  -- items with no white space in prefix
+  -- items with no white space before them
   pub record AreItemsHere (kind : Kind) (reach : Reach) (items : Items) (text : List ℕ) : Type 0 where
     pub are : AreItems kind items
     pub nest : AllNest depth reach items

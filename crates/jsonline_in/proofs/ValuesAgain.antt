@@ -93,7 +93,7 @@ number_solid : (byte : ℕ) → begins_number byte ≡ true → is_space byte �
 number_solid byte e = false_from_ne_true (is_space byte)
     (λ (s : is_space byte ≡ true). grind (arith, and_cases, or_cases, leb-true, eqb-true))
 
--- a token alone, with white space in prefix
+-- a token alone, with white space before it
 alone : (byte : ℕ) (token x rest : List ℕ) → IsSpelled ((byte ∷ token) ∷ []) x → is_space byte ≡ false
     → after_space (x ++ rest) ≡ byte ∷ (token ++ rest)
 alone byte token x rest p solid = here byte token [] x rest p solid
