@@ -1,5 +1,6 @@
 -- What a list of pieces asks for, piece by piece.
-use Rattle.std.proofs.Common.{◌≡◌, ◌∙◌, ◌<◌, ◌==◌, ◌∷◌, [], ◌++◌, List, ℕ, true, false, Some, None, is_some, cond, length, map, get_or, refl, ap, arith, Bor}
+use Rattle.std.proofs.Common.{◌≡◌, ◌∙◌, ◌<◌, ◌==◌, ◌∷◌, [], ◌++◌, List, ℕ, true, false, Some, None, is_some, cond}
+use Rattle.std.proofs.Common.{length, map, get_or, refl, ap, arith, Bor}
 use Rattle.std.proofs.lemmas.Grind.{common_steps}
 use Rattle.std.proofs.lemmas.List.Elements.{filter_map-append}
 use Rattle.std.proofs.lemmas.List.Folds.{list_all_at, list_all-map}
@@ -8,7 +9,8 @@ use Rattle.log_model.specs.Field.{Field}
 use Rattle.ingest_row.specs.Ingest.{is_named}
 use Rattle.ingest_row.specs.Asked.{extra_of, extras_of}
 
-lacks : (c : ℕ) (bytes : List ℕ) → position_or_len (λ b. b == c) bytes ≡ length bytes → list_any (λ b. b == c) bytes ≡ false
+lacks : (c : ℕ) (bytes : List ℕ) → position_or_len (λ b. b == c) bytes ≡ length bytes
+    → list_any (λ b. b == c) bytes ≡ false
 lacks c [] h = refl
 lacks c (byte ∷ bytes) h = let rest = lacks c bytes in grind (arith, common_steps)
 
@@ -27,13 +29,15 @@ all_named [] = refl
 all_named (piece ∷ pieces) = let h = extra_named piece in let rest = all_named pieces in grind (arith, common_steps)
 
 -- what is added has names
-pub extras_named : (pieces : List (List ℕ)) (fields : List Field) → extras_of pieces ≡ Some fields → list_all is_named fields ≡ true
+pub extras_named : (pieces : List (List ℕ)) (fields : List Field) → extras_of pieces ≡ Some fields
+    → list_all is_named fields ≡ true
 unfolding extras_of
 extras_named pieces fields is = let h = all_named pieces in grind (arith, common_steps)
 
 -- where one piece is no field, nothing is asked for
 pub extras_none : (pieces : List (Bor (List ℕ))) (i : ℕ) (other : Bor (List ℕ))
-    → i < length pieces → extra_of (get_or pieces i other).now ≡ None → extras_of (map (λ piece. piece.now) pieces) ≡ None
+    → i < length pieces → extra_of (get_or pieces i other).now ≡ None
+    → extras_of (map (λ piece. piece.now) pieces) ≡ None
 unfolding extras_of
 extras_none pieces i other within bad =
     let texts = map (λ (piece : Bor (List ℕ)). piece.now) pieces in
@@ -44,6 +48,7 @@ extras_none pieces i other within bad =
 
 -- one more piece that is a field
 pub extras_push : (pieces : List (List ℕ)) (piece : List ℕ) (fields : List Field) (field : Field)
-    → extras_of pieces ≡ Some fields → extra_of piece ≡ Some field → extras_of (pieces ++ piece ∷ []) ≡ Some (fields ++ field ∷ [])
+    → extras_of pieces ≡ Some fields → extra_of piece ≡ Some field
+    → extras_of (pieces ++ piece ∷ []) ≡ Some (fields ++ field ∷ [])
 unfolding extras_of
 extras_push pieces piece fields field so_far is = grind (arith, common_steps, filter_map-append)

@@ -1,5 +1,6 @@
 -- The row of fields that say a moment, and why there is none.
-use Rattle.std.proofs.Common.{◌≡◌, ◌≢◌, inr, ℕ, ℤ, List, Option, Some, None, Result, Ok, Err, IfOk, IfErr, ap, ◌∙◌, sym, subst, refl}
+use Rattle.std.proofs.Common.{◌≡◌, ◌≢◌, inr, ℕ, ℤ, List, Option, Some, None, Result, Ok, Err, IfOk, IfErr, ap, ◌∙◌}
+use Rattle.std.proofs.Common.{sym, subst, refl}
 use Rattle.std.specs.Result.{IsErrAnd}
 use Rattle.log_model.specs.Field.{Field}
 use Rattle.log_model.specs.Row.{Row}
@@ -7,13 +8,16 @@ use Rattle.vl_row.specs.Faults.{row_fault}
 use Rattle.ingest_row.specs.Ingest.{Options, IsRowOf, IsTimeOf, time_text, row_at, row_fields}
 use Rattle.ingest_row.specs.Refusal.{IsFieldsFault, IsRowFault}
 use Rattle.ingest_row.specs.declared.kind.LineKind.{LineKind}
-use Rattle.ingest_row.specs.declared.kind.LineKind.TheVariants.{LineLong, NotUtf8, NotObject, TooDeep, NotJson, BadTime, NameLong, ManyFields, RowLarge, Empty, Memory}
+use Rattle.ingest_row.specs.declared.kind.LineKind.TheVariants.{LineLong, NotUtf8, NotObject, TooDeep, NotJson}
+use Rattle.ingest_row.specs.declared.kind.LineKind.TheVariants.{BadTime, NameLong, ManyFields, RowLarge, Empty}
+use Rattle.ingest_row.specs.declared.kind.LineKind.TheVariants.{Memory}
 
 -- The fields say this moment and no other, and the row is to be made of these.
-pub record SaysMoment (options : Options) (now : ℤ) (fields : List Field) (time : ℤ) (others : List Field) : Type 0 where
-  pub is_time : IsTimeOf now (time_text options fields) time
-  pub only : (other : ℤ) → IsTimeOf now (time_text options fields) other → other ≡ time
-  pub made : others ≡ row_fields options fields
+pub record SaysMoment (options : Options) (now : ℤ) (fields : List Field) (time : ℤ) (others : List Field) : Type 0
+  where
+    pub is_time : IsTimeOf now (time_text options fields) time
+    pub only : (other : ℤ) → IsTimeOf now (time_text options fields) other → other ≡ time
+    pub made : others ≡ row_fields options fields
 
 -- what the text of the moment says, at the moment `at` that is `now`
 pub says_it : (o : Options) (now at : ℤ) (fields : List Field) (text : List ℕ) (time : ℤ) (made : List Field)
@@ -22,7 +26,8 @@ pub says_it : (o : Options) (now at : ℤ) (fields : List Field) (text : List �
 says_it o now at fields text time made now_is text_is made_is is only = record {
   is_time = subst (λ n. IsTimeOf n (time_text o fields) time) now_is (subst (λ t. IsTimeOf at t time) text_is is);
   only = λ other other_is.
-      only other (subst (λ t. IsTimeOf at t other) (sym text_is) (subst (λ n. IsTimeOf n (time_text o fields) other) (sym now_is) other_is));
+      only other (subst (λ t. IsTimeOf at t other) (sym text_is)
+      (subst (λ n. IsTimeOf n (time_text o fields) other) (sym now_is) other_is));
   made = made_is;
 }
 
@@ -37,7 +42,8 @@ is_row o now fields time made (Ok row) says faultless row_is = record {
 }
 is_row o now fields time made (Err kind) says faultless row_is = tt
 
-pub only_row : (o : Options) (now : ℤ) (fields : List Field) (time : ℤ) (made : List Field) (result : Result Row LineKind)
+pub only_row : (o : Options) (now : ℤ) (fields : List Field) (time : ℤ) (made : List Field)
+    (result : Result Row LineKind)
     → SaysMoment o now fields time made → IfOk result (λ row. row ≡ row_at o.stream_fields time made)
     → IfOk result (λ row. (other : Row) → IsRowOf o now fields other → other ≡ row)
 only_row o now fields time made (Ok row) says row_is = λ other is.
@@ -51,7 +57,8 @@ some_not_none : {A : Type 0} (fault : A) (found : Option A) → found ≡ Some f
 some_not_none fault found is none = cc
 
 -- each fault but want of memory is one of the row
-pub faulty : (kind : LineKind) (time : ℤ) (made : List Field) → kind ≢ Memory → IsRowFault kind time made → row_fault time made ≢ None
+pub faulty : (kind : LineKind) (time : ℤ) (made : List Field) → kind ≢ Memory → IsRowFault kind time made
+    → row_fault time made ≢ None
 faulty NameLong time made other is = some_not_none _ _ is
 faulty ManyFields time made other is = some_not_none _ _ is
 faulty RowLarge time made other is = some_not_none _ _ is
@@ -70,9 +77,11 @@ pub no_row : (o : Options) (now : ℤ) (fields : List Field) (time : ℤ) (made 
 no_row o now fields time made (Ok row) says fault = tt
 no_row o now fields time made (Err kind) says fault = λ other row is.
     faulty kind time made other fault
-    (ap (row_fault time) says.made ∙ ap (λ t. row_fault t (row_fields o fields)) (sym (says.only is.time is.is_time)) ∙ is.faultless)
+    (ap (row_fault time) says.made ∙ ap (λ t. row_fault t (row_fields o fields)) (sym (says.only is.time is.is_time))
+    ∙ is.faultless)
 
-pub has_fault : (o : Options) (now : ℤ) (fields : List Field) (time : ℤ) (made : List Field) (result : Result Row LineKind)
+pub has_fault : (o : Options) (now : ℤ) (fields : List Field) (time : ℤ) (made : List Field)
+    (result : Result Row LineKind)
     → SaysMoment o now fields time made → IfErr result (λ kind. IsRowFault kind time made)
     → IfErr result (λ kind. IsFieldsFault kind o now fields)
 has_fault o now fields time made (Ok row) says fault = tt
@@ -83,8 +92,10 @@ has_fault o now fields time made (Err kind) says fault = inr (record {
 })
 
 -- that memory ran out can be said of any fields with a moment
-pub out_of_memory : (o : Options) (now : ℤ) (fields : List Field) (time : ℤ) (made : List Field) (result : Result Row LineKind)
-    → SaysMoment o now fields time made → IsErrAnd result (λ kind. kind ≡ Memory) → IfErr result (λ kind. IsFieldsFault kind o now fields)
+pub out_of_memory : (o : Options) (now : ℤ) (fields : List Field) (time : ℤ) (made : List Field)
+    (result : Result Row LineKind)
+    → SaysMoment o now fields time made → IsErrAnd result (λ kind. kind ≡ Memory)
+    → IfErr result (λ kind. IsFieldsFault kind o now fields)
 out_of_memory o now fields time made (Ok row) says memory = tt
 out_of_memory o now fields time made (Err kind) says memory = inr (record {
   time = time;

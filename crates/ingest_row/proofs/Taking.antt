@@ -3,7 +3,8 @@ use Rattle.std.proofs.Common.{◌≡◌, ℕ, ℤ, suc, List, [], ◌∷◌, ◌
 use Rattle.std.specs.List.{AllZip}
 use Rattle.log_model.specs.Line.{lines_of}
 use Rattle.ingest_row.specs.Ingest.{Options}
-use Rattle.ingest_row.specs.Intake.{Outcome, passed_over, read, refused, IsOutcome, IsIntake, IsTaken, IsTaking, rows_read, refused_from}
+use Rattle.ingest_row.specs.Intake.{Outcome, passed_over, read, refused, IsOutcome, IsIntake, IsTaken, IsTaking}
+use Rattle.ingest_row.specs.Intake.{rows_read, refused_from}
 use Rattle.ingest_row.specs.declared.body.Intake.{Intake}
 
 rows_read-cons : (o : Outcome) (os : List Outcome) → rows_read (o ∷ os) ≡ rows_read (o ∷ []) ++ rows_read os
@@ -26,18 +27,21 @@ pub taking_none : (options : Options) (now : ℤ) (body : List ℕ) (intake : In
 taking_none options now body intake rows faults later all = (later, all, rw rows refl, rw faults refl)
 
 -- the next line gives this outcome
-pub taking_more : (options : Options) (now : ℤ) (body rest line after : List ℕ) (number : ℕ) (old new : Intake) (o : Outcome)
+pub taking_more : (options : Options) (now : ℤ) (body rest line after : List ℕ) (number : ℕ) (old new : Intake)
+    (o : Outcome)
     → lines_of rest ≡ line ∷ lines_of after → IsOutcome options now line o
     → new.rows ≡ old.rows ++ rows_read (o ∷ [])
     → new.refused ≡ old.refused ++ refused_from (suc number) (o ∷ [])
     → IsTaking options now body rest number old → IsTaking options now body after (suc number) new
 taking_more options now body rest line after number old new o cut gives rows faults taking later all =
-    let zip : IsIntake options now rest (o ∷ later) = subst (λ ls. AllZip (IsOutcome options now) ls (o ∷ later)) (sym cut) (gives, all) in
+    let zip : IsIntake options now rest (o ∷ later) = subst (λ ls. AllZip (IsOutcome options now) ls (o ∷ later))
+    (sym cut) (gives, all) in
     let h = taking (o ∷ later) zip in (
       h.0,
       h.1,
       h.2 ∙ ap (λ r. old.rows ++ r) (rows_read-cons o later)
-          ∙ sym (append_assoc old.rows (rows_read (o ∷ [])) (rows_read later)) ∙ ap (λ r. r ++ rows_read later) (sym rows),
+          ∙ sym (append_assoc old.rows (rows_read (o ∷ [])) (rows_read later))
+          ∙ ap (λ r. r ++ rows_read later) (sym rows),
       h.3 ∙ ap (λ r. old.refused ++ r) (refused_from-cons (suc number) o later)
           ∙ sym (append_assoc old.refused (refused_from (suc number) (o ∷ [])) (refused_from (suc (suc number)) later))
           ∙ ap (λ r. r ++ refused_from (suc (suc number)) later) (sym faults),

@@ -17,4 +17,5 @@ pub none_inside : (now : ℤ) (text : List ℕ) (time : ℤ) → IsFalse (says_n
     → ((one other : ℤ) → SpellsMoment text one → SpellsMoment text other → one ≡ other)
     → (moment : ℤ) × SpellsMoment text moment × (IsMomentInRange moment → ⊥) → IsTimeOf now text time → ⊥
 none_inside now text time said only outside is =
-    outside.2 (subst IsMomentInRange (only time outside.0 (spelled now text time said is).0 outside.1) (spelled now text time said is).1)
+    outside.2 (subst IsMomentInRange (only time outside.0 (spelled now text time said is).0 outside.1)
+    (spelled now text time said is).1)

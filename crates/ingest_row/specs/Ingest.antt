@@ -1,6 +1,6 @@
 -- How a line of JSON becomes a row (VictoriaLogs, "Data ingestion": HTTP parameters).
 use Rattle.std.specs.Prelude.{◌≡◌, ◌⊎◌, ℕ, ℤ, Bool, ◌≤◌, ◌||◌, List, [], ◌∷◌, length, filter, fold, bytes_eq, codes}
-use Rattle.std.specs.Prelude.{unsigned_abs, None, not, IsTrue, IsFalse, if◌then◌else◌}
+use Rattle.std.specs.Prelude.{unsigned_abs, None, not, IsTrue, IsFalse}
 use Rattle.log_model.specs.Field.{Field, is_empty, field_value, set_field, set_all, without}
 use Rattle.log_model.specs.Row.{Row}
 use Rattle.log_model.specs.MomentText.{SpellsMoment, IsMomentInRange}

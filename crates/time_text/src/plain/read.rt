@@ -229,7 +229,7 @@ fn digits_len(bytes: &[u8]) -> usize
         .count()
 }
 
-// The digits at the front, and what follows them.
+// The digits that a text begins with, and what follows them.
 fn split_digits(bytes: &[u8]) -> (&[u8], &[u8])
     ensures front { result.0.now ≡ take (digits_len bytes.now) bytes.now }
     ensures back { result.1.now ≡ drop (digits_len bytes.now) bytes.now }

@@ -18,8 +18,10 @@ returns-in_err-complete-clause-fault c =
     let fits : FitsSigned w64 c.args.now = c.ranges.now in
     let kept_is : c.remove_all.new.fields ≡ kept c.args.o.now c.args.fields =
     c.remove_all.ensures ∙ ap (fold without c.args.fields) c.ignored_fields.ensures in
-    out_of_memory c.args.o.now c.args.now c.args.fields _ _ _ (says_it _ _ _ _ _ _ (row_fields c.args.o.now c.args.fields) (to_z-of_z w64 c.args.now fits)
-    (rw (kept_is, c.time_field.ensures) at c.get.ensures) refl c.in-Some.ensures.some.0 c.in-Some.ensures.only) c.from_residual.ensures.1
+    out_of_memory c.args.o.now c.args.now c.args.fields _ _ _
+    (says_it _ _ _ _ _ _ (row_fields c.args.o.now c.args.fields) (to_z-of_z w64 c.args.now fits)
+    (rw (kept_is, c.time_field.ensures) at c.get.ensures) refl c.in-Some.ensures.some.0 c.in-Some.ensures.only)
+    c.from_residual.ensures.1
 
 pub returns-clause-read : goal.returns-clause-read
 returns-clause-read c =

@@ -13,14 +13,17 @@ returns-in_err-fields_of_line-clause-none c =
 pub returns-clause-only : goal.returns-clause-only
 returns-clause-only c =
     let fits : FitsSigned w64 c.args.now = c.ranges.now in
-    only_row_of_line c.args.o.now c.args.now c.args.line.now c.in_ok-fields_of_line.field-0 _ (says c) (simp to_z-of_z at c.row_of_fields.ensures.only)
+    only_row_of_line c.args.o.now c.args.now c.args.line.now c.in_ok-fields_of_line.field-0 _ (says c)
+    (simp to_z-of_z at c.row_of_fields.ensures.only)
 
 pub returns-clause-none : goal.returns-clause-none
 returns-clause-none c =
     let fits : FitsSigned w64 c.args.now = c.ranges.now in
-    no_row_of_line c.args.o.now c.args.now c.args.line.now c.in_ok-fields_of_line.field-0 _ (says c) (simp to_z-of_z at c.row_of_fields.ensures.none)
+    no_row_of_line c.args.o.now c.args.now c.args.line.now c.in_ok-fields_of_line.field-0 _ (says c)
+    (simp to_z-of_z at c.row_of_fields.ensures.none)
 
 pub returns-clause-refused : goal.returns-clause-refused
 returns-clause-refused c =
     let fits : FitsSigned w64 c.args.now = c.ranges.now in
-    refused_for_fields c.args.o.now c.args.now c.args.line.now c.in_ok-fields_of_line.field-0 _ (says c) (simp to_z-of_z at c.row_of_fields.ensures.fault)
+    refused_for_fields c.args.o.now c.args.now c.args.line.now c.in_ok-fields_of_line.field-0 _ (says c)
+    (simp to_z-of_z at c.row_of_fields.ensures.fault)

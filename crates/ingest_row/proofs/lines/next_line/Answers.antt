@@ -20,6 +20,8 @@ returns-in-Some-clause-line c =
 pub returns-in-None-clause-line : goal.returns-in-None-clause-line
 returns-in-None-clause-line c =
     let input = c.args.input.now in
-    let none = λ (k : ℕ) (below : k < length input) (feed : get_or input k 0 ≡ 10). c.in-None.ensures k (omega arith) below (eq-eqb _ _ feed) in
+    let none = λ (k : ℕ) (below : k < length input) (feed : get_or input k 0 ≡ 10). c.in-None.ensures k (omega arith)
+    below (eq-eqb _ _ feed) in
     let some : length input ≢ 0 = λ empty. true≢false (sym (eq-eqb _ _ empty) ∙ sym c.if-is_empty.ensures) in
-    rw (take_rest input (length input)) (lines_of-rest input (omega arith) none (drop (length input) input) (ap length (drop-length input)))
+    rw (take_rest input (length input)) (lines_of-rest input (omega arith) none (drop (length input) input)
+    (ap length (drop-length input)))

@@ -21,8 +21,10 @@ decreases-copy_item l = 4 * l.depth + 2
 
 abbrev pub invariant-copy_items-items : goal.invariant-copy_items-items
 invariant-copy_items-items l =
-    shadow (Utf8 l.rest) × Continued l.depth (kind_of l.bracket) (λ items. string_bytes l.fn.copied ++ compact (series (kind_of l.bracket) [] items))
-    (λ items. string_bytes l.copied ++ compact (series (kind_of l.bracket) ((44 ∷ []) ∷ []) items)) l.rest (items_at (nested_at l.depth) (kind_of l.bracket) l.text)
+    shadow (Utf8 l.rest) × Continued l.depth (kind_of l.bracket)
+    (λ items. string_bytes l.fn.copied ++ compact (series (kind_of l.bracket) [] items))
+    (λ items. string_bytes l.copied ++ compact (series (kind_of l.bracket) ((44 ∷ []) ∷ []) items)) l.rest
+    (items_at (nested_at l.depth) (kind_of l.bracket) l.text)
 
 abbrev pub decreases-copy_items-items : goal.decreases-copy_items-items
 decreases-copy_items-items l = length l.rest

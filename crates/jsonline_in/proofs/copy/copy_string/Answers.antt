@@ -7,5 +7,7 @@ prefix-requires c = string_prefix _ c.args.text.now c.in_ok-rest.rest.now _ c.in
 
 pub returns : goal.returns
 returns c =
-    string_copied _ c.args.text.now c.in_ok-rest.rest.now _ c.in_ok-rest.ensures.read (string_bytes c.args.copied.now) (string_bytes c.push_str.new.self) (string_bytes c.push_str-2.new.self)
-    c.in_ok-push_str.ensures.bytes (c.in_ok-push_str-2.ensures.bytes ∙ ap (λ t. string_bytes c.push_str.new.self ++ t) c.prefix.ensures)
+    string_copied _ c.args.text.now c.in_ok-rest.rest.now _ c.in_ok-rest.ensures.read (string_bytes c.args.copied.now)
+    (string_bytes c.push_str.new.self) (string_bytes c.push_str-2.new.self)
+    c.in_ok-push_str.ensures.bytes (c.in_ok-push_str-2.ensures.bytes
+    ∙ ap (λ t. string_bytes c.push_str.new.self ++ t) c.prefix.ensures)

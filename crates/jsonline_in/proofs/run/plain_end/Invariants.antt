@@ -4,7 +4,8 @@ use Rattle.log_model.specs.Json.{is_plain}
 use Rattle.jsonline_in.proofs.run.plain_end.Given as goal
 
 abbrev pub invariant-loop-at : goal.invariant-loop-at
-invariant-loop-at l = (l.at ≤ length l.bytes) × (l.at + prefix_len is_plain (drop l.at l.bytes) ≡ l.from + prefix_len is_plain (drop l.from l.bytes))
+invariant-loop-at l = (l.at ≤ length l.bytes) × (l.at + prefix_len is_plain (drop l.at l.bytes) ≡ l.from + prefix_len
+    is_plain (drop l.from l.bytes))
 
 abbrev pub decreases-loop-at : goal.decreases-loop-at
 decreases-loop-at l = length l.bytes - l.at

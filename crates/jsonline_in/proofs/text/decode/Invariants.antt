@@ -6,7 +6,8 @@ use Rattle.jsonline_in.proofs.Decoding.{Decoded}
 use Rattle.jsonline_in.proofs.text.decode.Given as goal
 
 abbrev pub invariant-characters : goal.invariant-characters
-invariant-characters l = shadow (Utf8 l.rest) × Decoded (string_bytes l.fn.out) (string_bytes l.out) l.before l.rest (characters_at l.text)
+invariant-characters l = shadow (Utf8 l.rest) × Decoded (string_bytes l.fn.out) (string_bytes l.out) l.before l.rest
+    (characters_at l.text)
 
 abbrev pub decreases-characters : goal.decreases-characters
 decreases-characters l = length l.rest

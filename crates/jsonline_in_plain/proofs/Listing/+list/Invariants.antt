@@ -18,7 +18,9 @@ decreases-members l = 3 * l.depth + 2
 abbrev pub invariant-members-members : goal.invariant-members-members
 invariant-members-members l =
     shadow (Utf8 l.rest)
-    × Continued l.depth object (λ members. l.fn.self.pairs.items ++ member_fields l.before members) (λ members. l.self.pairs.items ++ member_fields l.before members) l.rest (items_at (nested_at l.depth) object l.text)
+    × Continued l.depth object (λ members. l.fn.self.pairs.items ++ member_fields l.before members)
+    (λ members. l.self.pairs.items ++ member_fields l.before members) l.rest
+    (items_at (nested_at l.depth) object l.text)
 
 abbrev pub decreases-members-members : goal.decreases-members-members
 decreases-members-members l = length l.rest

@@ -31,5 +31,10 @@ returns-in-Stuck-clause-fault c =
     let inside = c.requires.inside in
     let opens = c.requires.opens in
     let left = c.in-Stuck.left in
-    let stops = rw c.in-Stuck.is at c.requires.fails in
-    (opens.utf8, line_opens line inside opens.brace, not_deep line inside opens.brace left stops, line_stuck line inside opens.brace left stops)
+    let stops = rw c.in-Stuck.is at c.requires.fails in (
+      opens.utf8,
+      line_opens line inside opens.brace,
+      not_deep line inside opens.brace left stops,
+      line_stuck line
+          inside opens.brace left stops,
+    )

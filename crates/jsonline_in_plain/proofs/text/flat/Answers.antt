@@ -10,28 +10,36 @@ use Rattle.jsonline_in.proofs.Settings.{array_flat}
 use Rattle.jsonline_in_plain.proofs.text.flat.Goals as goal
 
 pub returns-in-Some : goal.returns-in-Some
-returns-in-Some c = gives_same _ c.string.result _ _ (quoted_mapped (nested_at c.args.depth) c.args.text.now flat_text c.in-Some.inside.now string_text (sym c.in-Some.ensures) (λ characters. refl)) c.string.ensures
+returns-in-Some c = gives_same _ c.string.result _ _ (quoted_mapped (nested_at c.args.depth) c.args.text.now flat_text
+    c.in-Some.inside.now string_text (sym c.in-Some.ensures) (λ characters. refl)) c.string.ensures
 
 pub returns-in_err-rest : goal.returns-in_err-rest
 returns-in_err-rest c =
     let inside = c.in-Some-past.inside.now in
     let old = string_bytes c.new-tokens.result.text in
-    stops_at _ c.from_residual.result _ (mapped (λ value. old ++ compact (tokens value)) (nested_at c.args.depth array inside)) _ c.from_residual.ensures.1
-    (λ fault h. ap (mapped flat_text) (flat_square (nested_at c.args.depth) c.args.text.now inside (sym c.in_default.ensures) (sym c.in-Some-past.ensures) ∙ mapped_err _ (nested_at c.args.depth array inside) fault h)) c.in_err-rest.ensures
+    stops_at _ c.from_residual.result _ (mapped (λ value. old ++ compact (tokens value))
+    (nested_at c.args.depth array inside)) _ c.from_residual.ensures.1
+    (λ fault h. ap (mapped flat_text) (flat_square (nested_at c.args.depth) c.args.text.now inside
+    (sym c.in_default.ensures) (sym c.in-Some-past.ensures)
+    ∙ mapped_err _ (nested_at c.args.depth array inside) fault h)) c.in_err-rest.ensures
 
 pub returns-in-Some-past : goal.returns-in-Some-past
 returns-in-Some-past c =
     let inside = c.in-Some-past.inside.now in
-    ap (mapped flat_text) (flat_square (nested_at c.args.depth) c.args.text.now inside (sym c.in_default.ensures) (sym c.in-Some-past.ensures))
+    ap (mapped flat_text) (flat_square (nested_at c.args.depth) c.args.text.now inside (sym c.in_default.ensures)
+    (sym c.in-Some-past.ensures))
     ∙ array_flat c.args.depth inside (string_bytes c.new-tokens.result.text) c.new-tokens.ensures ∙ c.in_ok-rest.ensures
 
 pub returns-in_err-token : goal.returns-in_err-token
 returns-in_err-token c =
     let text = c.args.text.now in
-    stops_at _ c.from_residual-in_err-token.result _ (mapped scalar_text (bare_at text)) _ c.from_residual-in_err-token.ensures.1
-    (λ fault h. bare_mapped (nested_at c.args.depth) text flat_text scalar_text (sym c.in_default.ensures) (sym c.in_default-past.ensures) (λ token. refl) ∙ h) c.in_err-token.ensures
+    stops_at _ c.from_residual-in_err-token.result _ (mapped scalar_text (bare_at text)) _
+    c.from_residual-in_err-token.ensures.1
+    (λ fault h. bare_mapped (nested_at c.args.depth) text flat_text scalar_text (sym c.in_default.ensures)
+    (sym c.in_default-past.ensures) (λ token. refl) ∙ h) c.in_err-token.ensures
 
 pub returns : goal.returns
 returns c =
-    bare_mapped (nested_at c.args.depth) c.args.text.now flat_text scalar_text (sym c.in_default.ensures) (sym c.in_default-past.ensures) (λ token. refl)
+    bare_mapped (nested_at c.args.depth) c.args.text.now flat_text scalar_text (sym c.in_default.ensures)
+    (sym c.in_default-past.ensures) (λ token. refl)
     ∙ c.in_ok-token.ensures ∙ ap (λ t. Ok (t, c.in_ok-token.rest.now)) (sym c.in_ok-from_str.ensures.ok)

@@ -19,7 +19,9 @@ decreases-members l = 3 * l.depth + 2
 abbrev pub invariant-members-members : goal.invariant-members-members
 invariant-members-members l =
     shadow (Utf8 l.rest) × (string_bytes l.self.names ≡ string_bytes l.fn.self.names)
-    × Continued l.depth object (λ members. set_all l.fn.out (member_fields (string_bytes l.fn.self.names) members)) (λ members. set_all l.out (member_fields (string_bytes l.fn.self.names) members)) l.rest (items_at (nested_at l.depth) object l.text)
+    × Continued l.depth object (λ members. set_all l.fn.out (member_fields (string_bytes l.fn.self.names) members))
+    (λ members. set_all l.out (member_fields (string_bytes l.fn.self.names) members)) l.rest
+    (items_at (nested_at l.depth) object l.text)
 
 abbrev pub decreases-members-members : goal.decreases-members-members
 decreases-members-members l = length l.rest

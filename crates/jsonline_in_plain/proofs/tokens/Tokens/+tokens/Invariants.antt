@@ -22,8 +22,10 @@ decreases-item l = 4 * l.depth + 2
 
 abbrev pub invariant-items-items : goal.invariant-items-items
 invariant-items-items l =
-    shadow (Utf8 l.rest) × Continued l.depth (kind_of l.bracket) (λ items. string_bytes l.fn.self.text ++ compact (series (kind_of l.bracket) [] items))
-    (λ items. string_bytes l.self.text ++ compact (series (kind_of l.bracket) ((44 ∷ []) ∷ []) items)) l.rest (items_at (nested_at l.depth) (kind_of l.bracket) l.text)
+    shadow (Utf8 l.rest) × Continued l.depth (kind_of l.bracket)
+    (λ items. string_bytes l.fn.self.text ++ compact (series (kind_of l.bracket) [] items))
+    (λ items. string_bytes l.self.text ++ compact (series (kind_of l.bracket) ((44 ∷ []) ∷ []) items)) l.rest
+    (items_at (nested_at l.depth) (kind_of l.bracket) l.text)
 
 abbrev pub decreases-items-items : goal.decreases-items-items
 decreases-items-items l = length l.rest
