@@ -1,6 +1,7 @@
 //! Duvonka, a log database: the program. What it does is `vl_top::run`.
 #![tactic(auto)]
 
+use std::alloc::AllocError;
 use std::env;
 use std::io::ErrorKind;
 use std::process::ExitCode;
@@ -12,28 +13,17 @@ fn main(rt: HostRuntime) -> ExitCode {
     let mut src = InputSource::new(rt.stdin());
     let mut out = OutputSink::new(rt.stdout());
     let mut clock = SystemClock::new(rt);
-    let words = words_of(&rt);
-    let words = match &words {
-        Ok(words) => borrowed(&rt, words),
-        Err(status) => Err(*status),
+    let words = match words_of(&rt) {
+        Ok(words) => words,
+        Err(Status::Usage) => return ExitCode::from(report_usage(&mut err).number()),
+        Err(_) => return ExitCode::from(report_no_memory(&mut err).number()),
     };
-    let status = match words {
-        Ok(words) => run(
-            &rt,
-            words.as_slice(),
-            &mut src,
-            &mut out,
-            &mut err,
-            &mut clock,
-        ),
-        Err(status) => {
-            let status = match status {
-                Status::Usage => report_usage(&mut err),
-                _ => report_no_memory(&mut err),
-            };
-            status.number()
-        }
+    let borrowed = words.iter().map(|word| word.as_str()).collect(rt.alloc());
+    let Ok(borrowed): Result<Vec<&str>, AllocError> = borrowed else {
+        return ExitCode::from(report_no_memory(&mut err).number());
     };
+    let words = borrowed.as_slice();
+    let status = run(&rt, words, &mut src, &mut out, &mut err, &mut clock);
     ExitCode::from(status)
 }
 
@@ -47,12 +37,4 @@ fn words_of(rt: &HostRuntime) -> Result<Vec<String>, Status> {
         Err(fault) if fault.kind() == ErrorKind::InvalidData => Err(Status::Usage),
         Err(_) => Err(Status::NoMemory),
     }
-}
-
-fn borrowed<'a>(rt: &HostRuntime, words: &'a Vec<String>) -> Result<Vec<&'a str>, Status> {
-    words
-        .iter()
-        .map(|word| word.as_str())
-        .collect(rt.alloc())
-        .map_err(|_| Status::NoMemory)
 }

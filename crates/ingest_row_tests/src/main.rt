@@ -1,7 +1,8 @@
 //! Reads cases, one a line: the arguments of a request as `name=value&name=value`, and behind a tab a line of JSON that
 //! came in 5 ns after 1970 began. Writes the row of that line; with no tab, what the arguments ask for; or the fault.
 //!
-//! The answers in `stdout` are not the program's own. They are made in Python, with its `json` module for the lines and its
+//! The answers in `stdout` are not the program's own. They are made in Python, with its `json` module for the lines
+//! and its
 //! `datetime` for the moments.
 #![tactic(auto)]
 

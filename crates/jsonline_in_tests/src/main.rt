@@ -1,8 +1,9 @@
-//! Reads lines of JSON, and writes what each says: its fields as `name=value;` in their order, or its fault. Both readings
-//! are asked, and a line says so where they differ.
+//! Reads lines of JSON, and writes what each says: its fields as `name=value;` in their order, or its fault. Both
+//! readings are asked, and a line says so where they differ.
 //!
-//! The answers in `stdout` are not the program's own. The fields are those that Python's `json` module reads, with numbers
-//! and arrays as they are spelled, and the places of faults those of a reader of RFC 8259 that was written in Python.
+//! The answers in `stdout` are not the program's own. The fields are those that Python's `json` module reads, with
+//! numbers and arrays as they are spelled, and the places of faults those of a reader of RFC 8259 that was written in
+//! Python.
 #![tactic(auto)]
 
 #[cfg(test)]

@@ -1,5 +1,5 @@
-//! The core of the database: the state that all callers share. It holds the accepted batches, takes one more at its end,
-//! and lends looks at them that stay as they were.
+//! The core of the database: the state that all callers share. It holds the accepted batches, takes one more at its
+//! end, and lends looks at them that stay as they were.
 #![tactic(auto)]
 
 mod fault;

@@ -57,7 +57,8 @@ impl<P: Held> Shelf<P> {
             → Goes P.numbered self.old (commit entry) self.new) }
 
         // So the history gains exactly this batch, whoever made it.
-        ensures stands { OnOk result ((history : History) (entry : Entry) → AreRowsOf (P.numbered part) (entry_rows entry)
+        ensures stands { OnOk result ((history : History) (entry : Entry)
+            → AreRowsOf (P.numbered part) (entry_rows entry)
             → Stands P.numbered self.old history → Stands P.numbered self.new (after history (commit entry))) }
 
         // A batch is refused exactly where something stands against it, or for memory.

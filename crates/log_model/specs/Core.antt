@@ -74,5 +74,6 @@ Runs {P} rows old (step ∷ steps) new = (next : Contents P) × Goes rows old st
 -- Whatever steps are taken, what is held goes on standing for the history.
 abbrev pub StandsAfterAll : {P : Type 0} → (P → List Numbered) → Type 0
 StandsAfterAll {P} rows =
-    (old new : Contents P) (history : History) (steps : List CoreStep) → Runs rows old steps new → Stands rows old history
+    (old new : Contents P) (history : History) (steps : List CoreStep) → Runs rows old steps new
+        → Stands rows old history
     → Stands rows new (history_after history steps)

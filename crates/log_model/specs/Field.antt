@@ -50,4 +50,5 @@ weight fields = sum_by (λ field. length field.0 + length field.1) fields
 
 -- the names of the moment and of the stream, which no stored field has
 abbrev pub is_reserved : List ℕ → Bool
-is_reserved name = bytes_eq name (codes "_time") || (bytes_eq name (codes "_stream") || bytes_eq name (codes "_stream_id"))
+is_reserved name =
+    bytes_eq name (codes "_time") || (bytes_eq name (codes "_stream") || bytes_eq name (codes "_stream_id"))

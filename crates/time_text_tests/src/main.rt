@@ -1,8 +1,8 @@
 //! Reads a text on each line, and writes the moment that it says in nanoseconds, as text, and the number of its day; or
 //! why it says none. Both bodies are asked, and a line says so where they differ.
 //!
-//! The answers in `stdout` are not the program's own: the moments, their texts and their days are as Python's `datetime`
-//! has them, and the counts by their size.
+//! The answers in `stdout` are not the program's own: the moments, their texts and their days are as Python's
+//! `datetime` has them, and the counts by their size.
 #![tactic(auto)]
 
 use std::alloc::{AllocError, Global};

@@ -21,10 +21,12 @@ Appends None (Some new) bytes = ⊥
 Appends (Some old) None bytes = ⊥
 Appends (Some old) (Some new) bytes = new ≡ old ++ bytes
 
--- `Ok n` gave the next n bytes, at the front of the buffer, and 0 in a buffer with room only at the end. An error took none.
+-- `Ok n` gave the next n bytes, at the front of the buffer, and 0 in a buffer with room only at the end. An error took
+-- none.
 abbrev pub ReadConsumes : {E : Type 0} → Option (List ℕ) → Option (List ℕ) → Result ℕ E → List ℕ → Type 0
 ReadConsumes old new result buffer =
-    MatchResult result (λ n. Consumes old new (take n buffer) × (n ≡ 0 → 0 < length buffer → IsAtEnd new)) (λ _. new ≡ old)
+    MatchResult result (λ n. Consumes old new (take n buffer) × (n ≡ 0 → 0 < length buffer → IsAtEnd new))
+    (λ _. new ≡ old)
 
 -- `Ok n` wrote the first n bytes of the piece, and an error none
 abbrev pub WriteAppends : {E : Type 0} → Option (List ℕ) → Option (List ℕ) → Result ℕ E → List ℕ → Type 0

@@ -56,7 +56,8 @@ pub record Advances (old new : Reading) (piece : List ℕ) : Type 0 where
 abbrev pub IsGroup : Reading → Type 0
 IsGroup reading =
     AreLines reading.lines reading.group
-    ⊎ ((0 < length reading.group) × AreFewer reading.lines reading.group × (reading.ahead ≡ []) × (reading.ended ≡ true))
+    ⊎ ((0 < length reading.group) × AreFewer reading.lines reading.group
+    × (reading.ahead ≡ []) × (reading.ended ≡ true))
 
 -- A piece was read behind the group, but not all lines of another one.
 pub record FallsShort (old : Reading) (left_old left_new : Option (List ℕ)) : Type 0 where

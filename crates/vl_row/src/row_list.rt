@@ -44,7 +44,7 @@ impl RowList {
     }
 
     /// The rows, in their order.
-    #[tactic(auto, using(log_model::proofs::Numbering::rows_in_numbered, log_model::proofs::Numbering::numbered_in_order))]
+    #[tactic(auto, using(log_model::proofs::Numbering::rows_in_numbered))]
     pub fn as_slice(&self) -> &[Row]
         ensures rows { result.now ≡ rows_in self.now }
         ensures order { AreInOrder self.now }

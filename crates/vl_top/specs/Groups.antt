@@ -59,7 +59,8 @@ pub record CanBeHeld (groups : List (List Outcome)) : Type 0 where
 abbrev pub EndsLine : List ℕ → Type 0
 EndsLine bytes = (bytes ≡ []) ⊎ ((text : List ℕ) × (bytes ≡ text ++ 10 ∷ []))
 
--- The source gave the lines of these groups first. They are whole: only the last one of an input may lack its line feed.
+-- The source gave the lines of these groups first. They are whole: only the last one of an input may lack its line
+-- feed.
 pub record BeginsWith (now : ℕ) (source : Change) (groups : List (List Outcome)) : Type 0 where
   pub taken : List ℕ
   -- what it gave behind them
@@ -73,8 +74,8 @@ pub record BeginsWith (now : ℕ) (source : Change) (groups : List (List Outcome
 abbrev pub names_after : ℕ → List LineFault → List ℕ
 names_after before faults = flat_map (λ fault. refusal_text (before + fault.line) fault.kind) faults
 
--- The lines of a group have these outcomes. These are its rows, and the text that names its refused lines, where so many
--- lines came before.
+-- The lines of a group have these outcomes. These are its rows, and the text that names its refused lines, where so
+-- many lines came before.
 pub record IsTaken (now : ℕ) (body : List ℕ) (before : ℕ) (outcomes : List Outcome) (group : Group) : Type 0 where
   pub given : HaveOutcomes now body outcomes
   pub rows : group.rows.items ≡ rows_read outcomes

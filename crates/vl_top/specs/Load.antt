@@ -38,10 +38,12 @@ RefusesRows held rows NoMemory = Unit {0}
 -- the rows became one batch more, if there were any
 abbrev pub CommitsRows : Contents (List Numbered) → Contents (List Numbered) → List Row → Type 0
 CommitsRows old new rows =
-    (batch_weight rows ≤ batch_limit) × ((batches : List Batch) → IsHeld old batches → IsHeld new (batches ++ batch_of rows))
+    (batch_weight rows ≤ batch_limit)
+        × ((batches : List Batch) → IsHeld old batches → IsHeld new (batches ++ batch_of rows))
 
 -- a group whose lines have these outcomes was committed
-pub record TakesGroup (now : ℕ) (body : List ℕ) (group : List Outcome) (old new : Contents (List Numbered)) : Type 0 where
+pub record TakesGroup (now : ℕ) (body : List ℕ) (group : List Outcome)
+    (old new : Contents (List Numbered)) : Type 0 where
   pub intake : HaveOutcomes now body group
   pub commits : CommitsRows old new (rows_read group)
 
@@ -50,7 +52,8 @@ abbrev pub IsUntold : Change → Type 0
 IsUntold sink = sink.bytes_after ≡ sink.bytes_before
 
 -- why the run stops at a group, where so many lines came before
-abbrev pub StopsGroup : ℕ → List ℕ → ℕ → Contents (List Numbered) → Contents (List Numbered) → Change → Interrupt → Type 0
+abbrev pub StopsGroup : ℕ → List ℕ → ℕ → Contents (List Numbered) → Contents (List Numbered) → Change → Interrupt
+    → Type 0
 StopsGroup now body before old new errors Unreadable = ⊥
 StopsGroup now body before old new errors Unwritable =
     (group : List Outcome) × TakesGroup now body group old new × IsCut errors [] (refusals_from (before + 1) group)

@@ -14,7 +14,8 @@ use Rattle.vl_top.specs.declared.interrupt.Interrupt.TheVariants.{Unreadable, Un
 
 -- why loading and answering stop, and what was written
 abbrev pub StopsPipe : Query → ℕ → Change → Change → Change → Interrupt → Type 0
-StopsPipe query now source output errors Unwritable = IsAnswerCut query now source output errors ⊎ IsNamingCut now source errors
+StopsPipe query now source output errors Unwritable =
+    IsAnswerCut query now source output errors ⊎ IsNamingCut now source errors
 StopsPipe query now source output errors Unreadable = StopsLoad now source errors Unreadable
 StopsPipe query now source output errors (Beyond limit) = StopsLoad now source errors (Beyond limit)
 StopsPipe query now source output errors NoMemory = StopsLoad now source errors NoMemory
@@ -22,8 +23,10 @@ StopsPipe query now source output errors NoMemory = StopsLoad now source errors 
 -- What is said of an interrupt, and the status that it gives. That a stream can't be written to is not said.
 abbrev pub ReportsInterrupt : Change → Interrupt → Status → Type 0
 ReportsInterrupt errors Unwritable status =
-    (status ≡ statuses.WriteFault) × (errors.bytes_after ≡ errors.bytes_before) × (errors.faults_after ≡ errors.faults_before)
-ReportsInterrupt errors Unreadable status = (status ≡ statuses.ReadFault) × IsTold errors [] (stop_text model.unreadable)
+    (status ≡ statuses.WriteFault) × (errors.bytes_after ≡ errors.bytes_before)
+        × (errors.faults_after ≡ errors.faults_before)
+ReportsInterrupt errors Unreadable status =
+    (status ≡ statuses.ReadFault) × IsTold errors [] (stop_text model.unreadable)
 ReportsInterrupt errors (Beyond limit) status =
     ((status ≡ statuses.Limit) × IsTold errors [] (stop_text (model.beyond (limit_of limit))))
     ⊎ ((status ≡ statuses.NoMemory) × IsTold errors [] (stop_text model.no_memory))
@@ -35,6 +38,8 @@ EndsPipe query now source output errors statuses.Done = IsAnswered query now sou
 EndsPipe query now source output errors statuses.QueryRefused = ⊥
 EndsPipe query now source output errors statuses.Usage = ⊥
 EndsPipe query now source output errors statuses.ReadFault = IsStopped now source errors model.unreadable
-EndsPipe query now source output errors statuses.WriteFault = IsAnswerCut query now source output errors ⊎ IsNamingCut now source errors
-EndsPipe query now source output errors statuses.Limit = (limit : model.Limit) × IsStopped now source errors (model.beyond limit)
+EndsPipe query now source output errors statuses.WriteFault =
+    IsAnswerCut query now source output errors ⊎ IsNamingCut now source errors
+EndsPipe query now source output errors statuses.Limit =
+    (limit : model.Limit) × IsStopped now source errors (model.beyond limit)
 EndsPipe query now source output errors statuses.NoMemory = IsStopped now source errors model.no_memory

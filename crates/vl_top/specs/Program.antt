@@ -26,8 +26,8 @@ command_of (command ∷ text ∷ word ∷ words) = None
 abbrev pub input_limit : ℕ
 input_limit = 4_294_967_296
 
--- `answer` is what the query gives over the history of the batches that the input becomes, whoever made its entries, and
--- `refusals` names the lines that are no rows.
+-- `answer` is what the query gives over the history of the batches that the input becomes, whoever made its entries,
+-- and `refusals` names the lines that are no rows.
 pub record IsAnswer (query : Query) (now : ℕ) (input answer refusals : List ℕ) : Type 0 where
   pub within : length input ≤ input_limit
   pub groups : List (List Outcome)
@@ -66,26 +66,30 @@ pub record AreFew (bytes : List ℕ) : Type 0 where
   pub lines : count_by is_feed group ≤ 1000
   pub short : length ahead ≤ piece_len
 
--- The limit is met behind these groups, which are the first ones of the input. Of an input that is too long they are all
--- that end within its limit.
-abbrev pub IsBeyond : (now : ℕ) (source : Change) (groups : List (List Outcome)) → BeginsWith now source groups → Limit → Type 0
+-- The limit is met behind these groups, which are the first ones of the input. Of an input that is too long they are
+-- all that end within its limit.
+abbrev pub IsBeyond : (now : ℕ) (source : Change) (groups : List (List Outcome)) → BeginsWith now source groups
+    → Limit → Type 0
 IsBeyond now source groups begins long =
-    (input_limit < length (begins.taken ++ begins.rest)) × HaveNoGroup (take (input_limit - length begins.taken) begins.rest)
+    (input_limit < length (begins.taken ++ begins.rest))
+        × HaveNoGroup (take (input_limit - length begins.taken) begins.rest)
 IsBeyond now source groups begins (large weight) =
     (group : List Outcome) × BeginsWith now source (groups ++ group ∷ [])
     × (weight ≡ batch_weight (rows_read group)) × (batch_limit < weight)
 IsBeyond now source groups begins full =
     (group : List Outcome) × BeginsWith now source (groups ++ group ∷ [])
-    × (length (batches_of groups) ≡ held_limit) × (0 < length (rows_read group)) × (batch_weight (rows_read group) ≤ batch_limit)
+    × (length (batches_of groups) ≡ held_limit) × (0 < length (rows_read group))
+    × (batch_weight (rows_read group) ≤ batch_limit)
 
 -- What stops a run behind these groups. Before a read that failed they are all groups that were read.
-abbrev pub IsCause : (now : ℕ) (source : Change) (groups : List (List Outcome)) → BeginsWith now source groups → Stop → Type 0
+abbrev pub IsCause : (now : ℕ) (source : Change) (groups : List (List Outcome)) → BeginsWith now source groups → Stop
+    → Type 0
 IsCause now source groups begins unreadable = HasFailed source × HaveNoGroup begins.rest
 IsCause now source groups begins (beyond limit) = IsBeyond now source groups begins limit
 IsCause now source groups begins no_memory = Unit {0}
 
--- The first groups of the input were taken in, and their batches can be held. Then the run stopped. No more was read behind
--- them than one group and what one read gives.
+-- The first groups of the input were taken in, and their batches can be held. Then the run stopped. No more was read
+-- behind them than one group and what one read gives.
 pub record StopsBehind (now : ℕ) (source : Change) (groups : List (List Outcome)) (stop : Stop) : Type 0 where
   pub begins : BeginsWith now source groups
   pub fits : CanBeHeld groups

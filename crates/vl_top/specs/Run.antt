@@ -20,8 +20,8 @@ pub record Run : Type 0 where
   pub moments_after : Option (List ℕ)
   pub status : ℕ
 
--- The source gave an input to its end. The answer to it was written to the output, and its refused lines are named on the
--- error stream.
+-- The source gave an input to its end. The answer to it was written to the output, and its refused lines are named on
+-- the error stream.
 pub record IsAnswered (query : Query) (now : ℕ) (source output errors : Change) : Type 0 where
   pub input : List ℕ
   pub answer : List ℕ
@@ -73,7 +73,8 @@ IsDone run (pipe text) = ForQuery run text (λ query now. IsAnswered query now r
 -- what the command writes was written only up to some place
 abbrev pub IsCutShort : Run → Command → Type 0
 IsCutShort run (pipe text) =
-    ForQuery run text (λ query now. IsAnswerCut query now run.source run.output run.errors ⊎ IsNamingCut now run.source run.errors)
+    ForQuery run text
+    (λ query now. IsAnswerCut query now run.source run.output run.errors ⊎ IsNamingCut now run.source run.errors)
 
 -- the command stopped for this cause
 abbrev pub HasStopped : Run → Stop → Command → Type 0

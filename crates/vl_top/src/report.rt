@@ -35,8 +35,8 @@ pub fn report_no_memory<E: Sink>(err: &mut E) -> Status
     Status::NoMemory
 }
 
-/// A run is interrupted. Where there is no memory to say why, that is what is said. That a stream can't be written to is not
-/// said.
+/// A run is interrupted. Where there is no memory to say why, that is what is said. That a stream can't be written to
+/// is not said.
 pub fn report_interrupt<E: Sink>(alloc: Global, interrupt: Interrupt, err: &mut E) -> Status
     ensures { ReportsInterrupt (change_of E.written E.faults err.old err.new) interrupt result }
 {

@@ -26,8 +26,8 @@ struct Wanted<'a> {
     err: &'a str,
 }
 
-/// Whether a run ends so, on a clock that stands at 5 ns, and then at 7, and a source that gives its input in small pieces
-/// first.
+/// Whether a run ends so, on a clock that stands at 5 ns, and then at 7, and a source that gives its input in small
+/// pieces first.
 fn ends(
     rt: &HostRuntime,
     words: &[&str],
@@ -53,13 +53,15 @@ const THREE: &str = "{\"_msg\":\"an error: x\"}\n{\"_msg\":\"all fine\"}\n{\"_ms
 const TWO: &str = "{\"_msg\":\"an error: x\"}\nx\n";
 
 const FIRST: &str =
-    "{\"_msg\":\"an error: x\",\"_stream\":\"{}\",\"_stream_id\":\"44136fa355b3678a1146ad16f7e8649e\",\"_time\":\"1970-01-01T00:00:00.000000005Z\"}\n";
+    "{\"_msg\":\"an error: x\",\"_stream\":\"{}\",\"_stream_id\":\"44136fa355b3678a1146ad16f7e8649e\",\
+    \"_time\":\"1970-01-01T00:00:00.000000005Z\"}\n";
 
 const FLATTENED: &str =
     "{\"host\":{\"os\":\"x\"},\"d\":1.50,\"t\":[1, \"a\"],\"e\":\"\",\"n\":null}\n";
 
 const FLAT: &str =
-    "{\"_stream\":\"{}\",\"_stream_id\":\"44136fa355b3678a1146ad16f7e8649e\",\"_time\":\"1970-01-01T00:00:00.000000005Z\",\"d\":\"1.50\",\"host.os\":\"x\",\"t\":\"[1,\\\"a\\\"]\"}\n";
+    "{\"_stream\":\"{}\",\"_stream_id\":\"44136fa355b3678a1146ad16f7e8649e\",\
+    \"_time\":\"1970-01-01T00:00:00.000000005Z\",\"d\":\"1.50\",\"host.os\":\"x\",\"t\":\"[1,\\\"a\\\"]\"}\n";
 
 /// A query, its input, its answer and the names of the refused lines.
 const ANSWERED: &[(&str, &str, &str, &str)] = &[
@@ -166,7 +168,9 @@ const NO_ROWS: &[(&[u8], &str)] = &[
 ];
 
 const GOOD_TWICE: &str =
-    "{\"_msg\":\"good\",\"_stream\":\"{}\",\"_stream_id\":\"44136fa355b3678a1146ad16f7e8649e\",\"_time\":\"1970-01-01T00:00:00.000000005Z\"}\n{\"_msg\":\"good\",\"_stream\":\"{}\",\"_stream_id\":\"44136fa355b3678a1146ad16f7e8649e\",\"_time\":\"1970-01-01T00:00:00.000000005Z\"}\n";
+    "{\"_msg\":\"good\",\"_stream\":\"{}\",\"_stream_id\":\"44136fa355b3678a1146ad16f7e8649e\",\
+    \"_time\":\"1970-01-01T00:00:00.000000005Z\"}\n{\"_msg\":\"good\",\"_stream\":\"{}\",\
+    \"_stream_id\":\"44136fa355b3678a1146ad16f7e8649e\",\"_time\":\"1970-01-01T00:00:00.000000005Z\"}\n";
 
 /// The line between two good ones.
 fn surrounded(alloc: Global, line: &[u8]) -> Result<Vec<u8>, AllocError> {
@@ -211,10 +215,17 @@ fn deep_nesting_is_refused(rt: HostRuntime) -> Result<(), Fail> {
 }
 
 const CUT: &str =
-    "\n \t\r\n{\"b\":\"2\",\"A\":\"1\"}\r\n { \"a\" : \"1\" , \"a\" : \"2\" } \n{\"a\":\"x\",\"b\":\"\"}\n\n{\"_t\":\"\x7f\"}";
+    "\n \t\r\n{\"b\":\"2\",\"A\":\"1\"}\r\n { \"a\" : \"1\" , \"a\" : \"2\" } \n{\"a\":\"x\",\"b\":\"\"}\n\n\
+    {\"_t\":\"\x7f\"}";
 
 const CUT_ROWS: &str =
-    "{\"A\":\"1\",\"_stream\":\"{}\",\"_stream_id\":\"44136fa355b3678a1146ad16f7e8649e\",\"_time\":\"1970-01-01T00:00:00.000000005Z\",\"b\":\"2\"}\n{\"_stream\":\"{}\",\"_stream_id\":\"44136fa355b3678a1146ad16f7e8649e\",\"_time\":\"1970-01-01T00:00:00.000000005Z\",\"a\":\"2\"}\n{\"_stream\":\"{}\",\"_stream_id\":\"44136fa355b3678a1146ad16f7e8649e\",\"_time\":\"1970-01-01T00:00:00.000000005Z\",\"a\":\"x\"}\n{\"_stream\":\"{}\",\"_stream_id\":\"44136fa355b3678a1146ad16f7e8649e\",\"_t\":\"\x7f\",\"_time\":\"1970-01-01T00:00:00.000000005Z\"}\n";
+    "{\"A\":\"1\",\"_stream\":\"{}\",\"_stream_id\":\"44136fa355b3678a1146ad16f7e8649e\",\
+    \"_time\":\"1970-01-01T00:00:00.000000005Z\",\"b\":\"2\"}\n{\"_stream\":\"{}\",\
+    \"_stream_id\":\"44136fa355b3678a1146ad16f7e8649e\",\"_time\":\"1970-01-01T00:00:00.000000005Z\",\
+    \"a\":\"2\"}\n{\"_stream\":\"{}\",\"_stream_id\":\"44136fa355b3678a1146ad16f7e8649e\",\
+    \"_time\":\"1970-01-01T00:00:00.000000005Z\",\"a\":\"x\"}\n{\"_stream\":\"{}\",\
+    \"_stream_id\":\"44136fa355b3678a1146ad16f7e8649e\",\"_t\":\"\x7f\",\
+    \"_time\":\"1970-01-01T00:00:00.000000005Z\"}\n";
 
 #[test]
 fn lines_are_cut_at_line_feeds_and_blank_ones_are_passed_over(rt: HostRuntime) -> Result<(), Fail> {
@@ -312,8 +323,8 @@ fn spread(alloc: Global, first: &str, feeds: usize, last: &str) -> Result<Vec<u8
     Ok(input)
 }
 
-/// Whether a source that fails at this read, behind a whole group, has the refused lines of the group named before the fault is
-/// told.
+/// Whether a source that fails at this read, behind a whole group, has the refused lines of the group named before the
+/// fault is told.
 fn names_first(rt: &HostRuntime, read: u64) -> Result<bool, AllocError> {
     let input = spread(rt.alloc(), "x", 1_000, "y\n")?;
     let failing = Failing {
@@ -347,7 +358,8 @@ fn repeated(alloc: Global, text: &str, times: usize) -> Result<Vec<u8>, AllocErr
 fn all_are_answered(rt: &HostRuntime, lines: usize) -> Result<bool, AllocError> {
     let input = repeated(rt.alloc(), "{\"_msg\":\"error\"}\n", lines)?;
     let row =
-        "{\"_msg\":\"error\",\"_stream\":\"{}\",\"_stream_id\":\"44136fa355b3678a1146ad16f7e8649e\",\"_time\":\"1970-01-01T00:00:00.000000005Z\"}\n";
+        "{\"_msg\":\"error\",\"_stream\":\"{}\",\"_stream_id\":\"44136fa355b3678a1146ad16f7e8649e\",\
+        \"_time\":\"1970-01-01T00:00:00.000000005Z\"}\n";
     let out = repeated(rt.alloc(), row, lines)?;
     is_answered(rt, &input, &out)
 }

@@ -1,0 +1,63 @@
+//! The lines of rows, by the printer and by the plain program.
+use lq_pipes::{Printer, plain};
+use std::alloc::{AllocError, Global};
+use vl_row::{FieldList, Row, Text, number};
+
+pub fn printed(alloc: Global, rows: &[Row]) -> Result<Vec<u8>, AllocError> {
+    let mut printer = Printer::new(alloc)?;
+    let mut out = Vec::from_slice(alloc, b"printed\n")?;
+    for row in rows {
+        printer.write_row(alloc, row, &mut out)?;
+    }
+    Ok(out)
+}
+
+pub fn plainly_printed(alloc: Global, rows: &[Row]) -> Result<Vec<u8>, AllocError> {
+    let mut out = Vec::from_slice(alloc, b"plainly printed\n")?;
+    for row in rows {
+        plain::write_row(alloc, row, &mut out)?;
+    }
+    Ok(out)
+}
+
+pub fn rows_of(alloc: Global, cases: &str) -> Result<Vec<Row>, AllocError> {
+    let mut rows = Vec::new(alloc);
+    for case in cases.split("\n---\n") {
+        if let Some(row) = row_of(alloc, case)? {
+            rows.push(row)?;
+        }
+    }
+    Ok(rows)
+}
+
+/// The row of a case. None where it is no case.
+fn row_of(alloc: Global, case: &str) -> Result<Option<Row>, AllocError> {
+    let Some((time, labelled)) = case.split_once('\t') else {
+        return Ok(None);
+    };
+    let (Some(time), Some((names, fields))) = (number(time), labelled.split_once('\t')) else {
+        return Ok(None);
+    };
+    let names = texts_of(alloc, names)?;
+    Ok(Row::try_new(alloc, time, names.as_slice(), fields_of(alloc, fields)?).ok())
+}
+
+fn texts_of(alloc: Global, names: &str) -> Result<Vec<Text>, AllocError> {
+    let mut texts = Vec::new(alloc);
+    for name in names.split(',') {
+        texts.push(Text::try_of(alloc, name)?)?;
+    }
+    Ok(texts)
+}
+
+fn fields_of(alloc: Global, fields: &str) -> Result<FieldList, AllocError> {
+    let mut list = FieldList::new(alloc);
+    for field in fields.split('\t') {
+        if let Some((name, value)) = field.split_once('=') {
+            if !name.is_empty() {
+                list.set(alloc, name, value)?;
+            }
+        }
+    }
+    Ok(list)
+}
