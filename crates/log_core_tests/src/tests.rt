@@ -1,6 +1,5 @@
 //! The shared state (`log_core`), and the limits of what it holds.
 
-
 use log_core::{CommitFault, Shelf};
 use std::alloc::{AllocError, Global};
 use std::sync::Arc;

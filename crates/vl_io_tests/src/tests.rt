@@ -1,6 +1,5 @@
 //! Sources, sinks and clocks (`vl_io`).
 
-
 use std::alloc::{AllocError, Global};
 use std::io;
 use std::io::{ErrorKind, Read, Write};

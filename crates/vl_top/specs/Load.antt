@@ -39,7 +39,7 @@ RefusesRows held rows NoMemory = Unit {0}
 abbrev pub CommitsRows : Contents (List Numbered) → Contents (List Numbered) → List Row → Type 0
 CommitsRows old new rows =
     (batch_weight rows ≤ batch_limit)
-        × ((batches : List Batch) → IsHeld old batches → IsHeld new (batches ++ batch_of rows))
+    × ((batches : List Batch) → IsHeld old batches → IsHeld new (batches ++ batch_of rows))
 
 -- a group whose lines have these outcomes was committed
 pub record TakesGroup (now : ℕ) (body : List ℕ) (group : List Outcome)

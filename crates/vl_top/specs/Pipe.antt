@@ -24,7 +24,7 @@ StopsPipe query now source output errors NoMemory = StopsLoad now source errors 
 abbrev pub ReportsInterrupt : Change → Interrupt → Status → Type 0
 ReportsInterrupt errors Unwritable status =
     (status ≡ statuses.WriteFault) × (errors.bytes_after ≡ errors.bytes_before)
-        × (errors.faults_after ≡ errors.faults_before)
+    × (errors.faults_after ≡ errors.faults_before)
 ReportsInterrupt errors Unreadable status =
     (status ≡ statuses.ReadFault) × IsTold errors [] (stop_text model.unreadable)
 ReportsInterrupt errors (Beyond limit) status =

@@ -72,7 +72,7 @@ abbrev pub IsBeyond : (now : ℕ) (source : Change) (groups : List (List Outcome
     → Limit → Type 0
 IsBeyond now source groups begins long =
     (input_limit < length (begins.taken ++ begins.rest))
-        × HaveNoGroup (take (input_limit - length begins.taken) begins.rest)
+    × HaveNoGroup (take (input_limit - length begins.taken) begins.rest)
 IsBeyond now source groups begins (large weight) =
     (group : List Outcome) × BeginsWith now source (groups ++ group ∷ [])
     × (weight ≡ batch_weight (rows_read group)) × (batch_limit < weight)

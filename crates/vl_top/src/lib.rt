@@ -1,5 +1,6 @@
 //! Duvonka, a log database: what the program does. `run` carries the theorem.
 #![tactic(auto)]
+
 ghost use Rattle.std.specs.Prelude.{◌≡◌, ◌≢◌, ◌⊎◌, map};
 ghost use Rattle.vl_io.specs.Change.{change_of};
 ghost use Rattle.vl_top.specs.Run.{IsRun};
@@ -14,13 +15,12 @@ mod query;
 mod report;
 mod status;
 
-pub use report::{report_no_memory, report_usage};
-pub use status::Status;
-
 use command::query_text;
 use pipe::answer_query;
 use query::Query;
 use report::report_refused;
+pub use report::{report_no_memory, report_usage};
+pub use status::Status;
 use vl_io::{Clock, Sink, Source};
 
 /// Does what the words ask for, and answers the status that the process ends with.

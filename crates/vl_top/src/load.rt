@@ -83,7 +83,9 @@ fn commit_rows(alloc: Global, rows: Vec<Row>, shelf: &mut Shelf<RowList>) -> Res
     let batch = match Batch::try_of(rows) {
         Ok(batch) => batch,
         Err((BatchFault::NoRows, _)) => return Ok(()),
-        Err((BatchFault::Large { weight }, _)) => return Err(Interrupt::Beyond(Limit::Large(weight))),
+        Err((BatchFault::Large { weight }, _)) => return Err(Interrupt::Beyond(Limit::Large(
+            weight,
+        ))),
     };
     match shelf.commit(alloc, RowList::from(batch)) {
         Ok(_) => Ok(()),

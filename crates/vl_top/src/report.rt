@@ -4,8 +4,8 @@ ghost use Rattle.vl_io.specs.Change.{IsTold, change_of};
 ghost use Rattle.vl_top.specs.Program.{refused_text, usage_text};
 ghost use Rattle.vl_top.specs.Pipe.{ReportsInterrupt};
 
-use crate::status::Status;
 use crate::interrupt::Interrupt;
+use crate::status::Status;
 use std::alloc::Global;
 use vl_io::{Sink, put_all};
 

@@ -59,8 +59,7 @@ const FIRST: &str =
 const FLATTENED: &str =
     "{\"host\":{\"os\":\"x\"},\"d\":1.50,\"t\":[1, \"a\"],\"e\":\"\",\"n\":null}\n";
 
-const FLAT: &str =
-    "{\"_stream\":\"{}\",\"_stream_id\":\"44136fa355b3678a1146ad16f7e8649e\",\
+const FLAT: &str = "{\"_stream\":\"{}\",\"_stream_id\":\"44136fa355b3678a1146ad16f7e8649e\",\
     \"_time\":\"1970-01-01T00:00:00.000000005Z\",\"d\":\"1.50\",\"host.os\":\"x\",\"t\":\"[1,\\\"a\\\"]\"}\n";
 
 /// A query, its input, its answer and the names of the refused lines.

@@ -57,9 +57,9 @@ loop-reader-preserved g c =
     let goes_on = still_open c.loop-reader.reader.ended _ _ (λ same. let yes = c.if-branch.true in cc) advance.idle in
     let taken = rw c.group.ensures at (simp to_z-of_z at c.in_ok-take_group.ensures.taken) in
     simp to_z-of_z (
-      loading_more (unsigned_abs c.args.now) _ _ _ _ _ _ _ _ _ _ _ _ c.loop-reader.reader c.advance.new.self c.loop-reader.shelf c.take_group.new.shelf c.loop-reader.lines
-          l goes_on (advance.read.0, advance.read.1, advance.read.2) advance.ahead (advance.group (ap Ok c.if-branch.true)) (advance.ended goes_on)
-          advance.faults c.in_ok-take_group.ensures.faults (taken.0, taken.1, taken.2)
+    loading_more (unsigned_abs c.args.now) _ _ _ _ _ _ _ _ _ _ _ _ c.loop-reader.reader c.advance.new.self c.loop-reader.shelf c.take_group.new.shelf c.loop-reader.lines
+    l goes_on (advance.read.0, advance.read.1, advance.read.2) advance.ahead (advance.group (ap Ok c.if-branch.true)) (advance.ended goes_on)
+    advance.faults c.in_ok-take_group.ensures.faults (taken.0, taken.1, taken.2)
     )
 
 pub returns-clause-loaded : goal.returns-clause-loaded
