@@ -1,5 +1,7 @@
 -- Value order is a linear order, and what the definitions of its keys say.
-use Rattle.std.proofs.Common.{◌≡◌, ℕ, suc, ◌-◌, ◌^◌, ◌<◌, ◌≤◌, Bool, true, false, ◌&&◌, cond, List, ◌++◌, length, take, get_or, bytes_eq, codes, ℤ, pos, negsuc, neg_ℤ, int_le, int_lt, FitsSigned, Option, Some, None, refl, sym, ap, subst, ◌∙◌, arith}
+use Rattle.std.proofs.Common.{◌≡◌, ℕ, suc, ◌-◌, ◌^◌, ◌<◌, ◌≤◌, Bool, true, false, ◌&&◌, cond, List, ◌++◌, length, take}
+use Rattle.std.proofs.Common.{get_or, bytes_eq, codes, ℤ, pos, negsuc, neg_ℤ, int_le, int_lt, FitsSigned, Option, Some}
+use Rattle.std.proofs.Common.{None, refl, sym, ap, subst, ◌∙◌, arith}
 use Rattle.std.proofs.lemmas.Bool.{and_parts, and_from, ne_eqb}
 use Rattle.std.proofs.lemmas.Fmt.{digits_decimal, digits_value-decimal, decimal_nonempty}
 use Rattle.std.proofs.lemmas.Int.{ints}
@@ -9,7 +11,8 @@ use Rattle.std.specs.Option.{option_map_or}
 use Rattle.std.proofs.lemmas.Map.Text.{is_eq-slice_cmp}
 use Rattle.std.proofs.lemmas.Slice.Eq.{bytes_eq-Decides}
 use Rattle.std.proofs.lemmas.Str.Parse.{numerals_by_value, tells_digits, digit_at, without_leading_plus_none}
-use Rattle.std.specs.Cmp.{nat_cmp_total, int_cmp_total, on_total, then_total, tied_itself, upto, IsTotalOrder, IsStrictWeakOrder}
+use Rattle.std.specs.Cmp.{nat_cmp_total, int_cmp_total, on_total, then_total, tied_itself, upto, IsTotalOrder}
+use Rattle.std.specs.Cmp.{IsStrictWeakOrder}
 use Rattle.std.specs.Cmp.Lexicographic.{nat_list_cmp_total}
 use Rattle.std.specs.declared.cmp.Ordering.{Ordering}
 use Rattle.std.specs.declared.cmp.Ordering.TheVariants.{Less, Equal, Greater}
@@ -19,12 +22,14 @@ use Rattle.std.specs.Fmt.{decimal, signed_decimal}
 use Rattle.std.specs.Int.{w64}
 use Rattle.std.specs.Str.Parse.{digits_value, signed_digits_value, without_leading_plus, without_leading_sign}
 use Rattle.log_model.specs.Field.{bytes_cmp}
-use Rattle.log_model.specs.Order.{IsIntegerText, number_of, IsMomentText, moment_stem_of, Key, number, moment, other, AreKeys, key_of, key_rank, key_integer, key_bytes, key_cmp, value_cmp, IsLinearOrder}
+use Rattle.log_model.specs.Order.{IsIntegerText, number_of, IsMomentText, moment_stem_of, Key, number, moment, other}
+use Rattle.log_model.specs.Order.{AreKeys, key_of, key_rank, key_integer, key_bytes, key_cmp, value_cmp, IsLinearOrder}
 
 -- ---- numbers
 
 decimal-first : (n : ℕ) → n < 2 ^ 64 → (48 ≤ get_or (decimal n) 0 0) × (get_or (decimal n) 0 0 ≤ 57)
-decimal-first n small = digit_at (decimal n) 0 (digits_decimal (numerals_by_value _ tells_digits) n small) (decimal_nonempty n small)
+decimal-first n small =
+    digit_at (decimal n) 0 (digits_decimal (numerals_by_value _ tells_digits) n small) (decimal_nonempty n small)
 
 -- a text that begins with a digit has no sign
 pub unsigned : (text : List ℕ) → 48 ≤ get_or text 0 0 → get_or text 0 0 ≤ 57 → without_leading_sign text ≡ text
@@ -32,7 +37,8 @@ unsigned text low high =
     let minus = ne_eqb (get_or text 0 0) 45 (λ e. omega arith) in
     rw minus (without_leading_plus_none text (λ e. omega arith))
 
-pub unsigned_value : (text : List ℕ) → 48 ≤ get_or text 0 0 → get_or text 0 0 ≤ 57 → signed_digits_value 10 text ≡ pos (digits_value 10 text)
+pub unsigned_value : (text : List ℕ) → 48 ≤ get_or text 0 0 → get_or text 0 0 ≤ 57
+    → signed_digits_value 10 text ≡ pos (digits_value 10 text)
 unsigned_value text low high =
     let minus = ne_eqb (get_or text 0 0) 45 (λ e. omega arith) in
     let same : without_leading_plus text ≡ text = without_leading_plus_none text (λ e. omega arith) in
@@ -97,10 +103,12 @@ text_of (number z) = signed_decimal z
 text_of (moment stem) = stem ++ codes "Z"
 text_of (other text) = text
 
-chosen : (text : List ℕ) (n : Option ℤ) (m : Option (List ℕ)) → number_of text ≡ n → moment_stem_of text ≡ m → text_of (key_of text) ≡ text
+chosen : (text : List ℕ) (n : Option ℤ) (m : Option (List ℕ)) → number_of text ≡ n → moment_stem_of text ≡ m
+    → text_of (key_of text) ≡ text
 unfolding key_of text_of
 chosen text (Some z) m is_number is_moment = rw is_number (sym (number_of-some text z is_number).spelled)
-chosen text None (Some stem) is_number is_moment = rw (is_number, is_moment) (sym (moment_stem_of-some text stem is_moment).spelled)
+chosen text None (Some stem) is_number is_moment =
+    rw (is_number, is_moment) (sym (moment_stem_of-some text stem is_moment).spelled)
 chosen text None None is_number is_moment = rw (is_number, is_moment) refl
 
 pub text_of-key : (text : List ℕ) → text_of (key_of text) ≡ text
@@ -118,21 +126,25 @@ negative-small : (n : ℕ) → FitsSigned w64 (negsuc n) → suc n < 2 ^ 64
 negative-small n fits = omega (arith, ints)
 
 decimal-digit_at : (n : ℕ) → n < 2 ^ 64 → (i : ℕ) → i < length (decimal n) → get_or (decimal n) i 0 ≤ 57
-decimal-digit_at n small i within = (digit_at (decimal n) i (digits_decimal (numerals_by_value _ tells_digits) n small) within).1
+decimal-digit_at n small i within =
+    (digit_at (decimal n) i (digits_decimal (numerals_by_value _ tells_digits) n small) within).1
 
-ends_in_digit : (digits front : List ℕ) (x : ℕ) → ((i : ℕ) → i < length digits → get_or digits i 0 ≤ 57) → digits ≡ front ++ x ∷ [] → x ≤ 57
+ends_in_digit : (digits front : List ℕ) (x : ℕ) → ((i : ℕ) → i < length digits → get_or digits i 0 ≤ 57)
+    → digits ≡ front ++ x ∷ [] → x ≤ 57
 ends_in_digit digits front x each e =
     let whole : length digits ≡ length front + 1 = ap length e ∙ length-append front (x ∷ []) in
     let last : get_or digits (length front) 0 ≡ x = ap (λ (bs : List ℕ). get_or bs (length front) 0) e ∙ last_appended front x in
     omega (arith, each (length front) (omega arith))
 
-signed_ends : (digits front : List ℕ) (x : ℕ) → ((i : ℕ) → i < length digits → get_or digits i 0 ≤ 57) → 45 ∷ digits ≡ front ++ x ∷ [] → x ≤ 57
+signed_ends : (digits front : List ℕ) (x : ℕ) → ((i : ℕ) → i < length digits → get_or digits i 0 ≤ 57)
+    → 45 ∷ digits ≡ front ++ x ∷ [] → x ≤ 57
 signed_ends digits [] x each e = let first : 45 ≡ x = ap (λ (bs : List ℕ). get_or bs 0 0) e in omega arith
 signed_ends digits (y ∷ front) x each e = ends_in_digit digits front x each (ap (drop 1) e)
 
 integer_ends : (z : ℤ) (front : List ℕ) (x : ℕ) → FitsSigned w64 z → signed_decimal z ≡ front ++ x ∷ [] → x ≤ 57
 integer_ends (pos n) front x fits e = ends_in_digit (decimal n) front x (decimal-digit_at n (positive-small n fits)) e
-integer_ends (negsuc n) front x fits e = signed_ends (decimal (suc n)) front x (decimal-digit_at (suc n) (negative-small n fits)) e
+integer_ends (negsuc n) front x fits e =
+    signed_ends (decimal (suc n)) front x (decimal-digit_at (suc n) (negative-small n fits)) e
 
 missing : {X : Type 0} (o : Option X) → ((x : X) → o ≡ Some x → ⊥) → o ≡ None
 missing None h = refl
@@ -158,25 +170,30 @@ moment_stem_of-is text stem h =
     let tests = and_from _ _ ((bytes_eq-Decides text (stem ++ codes "Z")).1 h.spelled) h.shape in
     rw same (rw tests refl)
 
-key_cases : (text : List ℕ) (n : Option ℤ) (m : Option (List ℕ)) → number_of text ≡ n → moment_stem_of text ≡ m → key_of text ≡ option_map_or number n (option_map_or moment m (other text))
+key_cases : (text : List ℕ) (n : Option ℤ) (m : Option (List ℕ)) → number_of text ≡ n → moment_stem_of text ≡ m
+    → key_of text ≡ option_map_or number n (option_map_or moment m (other text))
 unfolding key_of
 key_cases text n m is_number is_moment = rw (is_number, is_moment) refl
 
-key_is : (text : List ℕ) → key_of text ≡ option_map_or number (number_of text) (option_map_or moment (moment_stem_of text) (other text))
+key_is : (text : List ℕ)
+    → key_of text ≡ option_map_or number (number_of text) (option_map_or moment (moment_stem_of text) (other text))
 unfolding key_of
 key_is text = refl
 
-number_key : (text : List ℕ) (n : Option ℤ) (m : Option (List ℕ)) (z : ℤ) → option_map_or number n (option_map_or moment m (other text)) ≡ number z → n ≡ Some z
+number_key : (text : List ℕ) (n : Option ℤ) (m : Option (List ℕ)) (z : ℤ)
+    → option_map_or number n (option_map_or moment m (other text)) ≡ number z → n ≡ Some z
 number_key text (Some n) m z e = cc
 number_key text None (Some m) z e = absurd cc
 number_key text None None z e = absurd cc
 
-moment_key : (text : List ℕ) (n : Option ℤ) (m : Option (List ℕ)) (stem : List ℕ) → option_map_or number n (option_map_or moment m (other text)) ≡ moment stem → m ≡ Some stem
+moment_key : (text : List ℕ) (n : Option ℤ) (m : Option (List ℕ)) (stem : List ℕ)
+    → option_map_or number n (option_map_or moment m (other text)) ≡ moment stem → m ≡ Some stem
 moment_key text (Some n) m stem e = absurd cc
 moment_key text None (Some m) stem e = cc
 moment_key text None None stem e = absurd cc
 
-other_key : (text : List ℕ) (n : Option ℤ) (m : Option (List ℕ)) (bytes : List ℕ) → option_map_or number n (option_map_or moment m (other text)) ≡ other bytes → bytes ≡ text
+other_key : (text : List ℕ) (n : Option ℤ) (m : Option (List ℕ)) (bytes : List ℕ)
+    → option_map_or number n (option_map_or moment m (other text)) ≡ other bytes → bytes ≡ text
 other_key text (Some n) m bytes e = absurd cc
 other_key text None (Some m) bytes e = absurd cc
 other_key text None None bytes e = cc
@@ -249,6 +266,7 @@ module _ {K : Type 0} (order : K → K → Ordering) (total : IsTotalOrder order
 pub value_cmp_linear : IsLinearOrder value_cmp
 value_cmp_linear = record {
   total = value_cmp_total;
-  equal = λ a b. (value_cmp-same a b, λ e. subst (λ (c : List ℕ). value_cmp a c ≡ Equal) e (tied_itself value_cmp_total a));
+  equal =
+      λ a b. (value_cmp-same a b, λ e. subst (λ (c : List ℕ). value_cmp a c ≡ Equal) e (tied_itself value_cmp_total a));
   weak = weak_order value_cmp value_cmp_total;
 }

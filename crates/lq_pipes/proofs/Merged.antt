@@ -1,5 +1,6 @@
 -- The record of a row is its fields with the three computed ones, each at its place.
-use Rattle.std.proofs.Common.{◌≡◌, ◌≢◌, ℕ, ◌<◌, Bool, true, false, not, ◌&&◌, cond, IsTrue, List, [], ◌∷◌, ◌++◌, length, codes, refl, ap, sym, ◌∙◌, arith, append_assoc}
+use Rattle.std.proofs.Common.{◌≡◌, ◌≢◌, ℕ, ◌<◌, Bool, true, false, not, ◌&&◌, cond, IsTrue, List, [], ◌∷◌, ◌++◌, length}
+use Rattle.std.proofs.Common.{codes, refl, ap, sym, ◌∙◌, arith, append_assoc}
 use Rattle.std.specs.BTreeMap.{insert_entry}
 use Rattle.std.specs.List.{list_all}
 use Rattle.std.specs.Ordering.{is_gt, match_ordering, ordering_reverse}
@@ -27,7 +28,8 @@ both : (a b : Bool) → (a && b) ≡ true → (a ≡ true) × (b ≡ true)
 both true b h = (refl, h)
 both false b h = absurd (false≢true h)
 
-stored_parts : (field : Field) (fields : List Field) → AreStored (field ∷ fields) → IsTrue (is_stored field) × AreStored fields
+stored_parts : (field : Field) (fields : List Field) → AreStored (field ∷ fields)
+    → IsTrue (is_stored field) × AreStored fields
 stored_parts field fields stored = both (is_stored field) (list_all is_stored fields) stored
 
 not_both : (b : Bool) → b ≡ true → not b ≡ true → ⊥
@@ -35,7 +37,8 @@ not_both true h g = false≢true g
 not_both false h g = false≢true h
 
 -- a reserved name is no stored field's
-apart : (name : List ℕ) → IsTrue (is_reserved name) → (field : Field) → IsTrue (is_stored field) → bytes_cmp name field.0 ≢ Equal
+apart : (name : List ℕ) → IsTrue (is_reserved name) → (field : Field) → IsTrue (is_stored field)
+    → bytes_cmp name field.0 ≢ Equal
 apart name reserved field stored e =
     not_both (is_reserved field.0) (sym (ap is_reserved (exact_bytes name field.0 e)) ∙ reserved) stored
 
@@ -63,7 +66,8 @@ stored_from name (field ∷ fields) stored =
 less_from_greater : (x y : List ℕ) → bytes_cmp x y ≡ Greater → bytes_cmp y x ≡ Less
 less_from_greater x y e = nat_list_cmp_total.antisymm y x ∙ ap ordering_reverse e
 
-after_trans : (later name : List ℕ) (field : Field) → bytes_cmp later name ≡ Greater → bytes_cmp name field.0 ≡ Greater → bytes_cmp later field.0 ≡ Greater
+after_trans : (later name : List ℕ) (field : Field) → bytes_cmp later name ≡ Greater → bytes_cmp name field.0 ≡ Greater
+    → bytes_cmp later field.0 ≡ Greater
 after_trans later name field above after =
     nat_list_cmp_total.antisymm later field.0 ∙
     ap ordering_reverse (nat_list_cmp_total.trans field.0 name later (less_from_greater name field.0 after) (less_from_greater later name above))
@@ -74,7 +78,8 @@ insert_past field later new rest above =
     ap (λ order. match_ordering order ((later, new) ∷ field ∷ rest) ((field.0, new) ∷ rest) (field ∷ insert_entry bytes_cmp rest later new)) above
 
 -- what comes after a computed field is inserted behind it
-pub insert_behind : (name value later new : List ℕ) (rest : List Field) → bytes_cmp later name ≡ Greater → (fields : List Field) →
+pub insert_behind : (name value later new : List ℕ) (rest : List Field) → bytes_cmp later name ≡ Greater
+    → (fields : List Field) →
     insert_entry bytes_cmp (fields_before name fields ++ (name, value) ∷ rest) later new ≡ fields_before name fields ++ (name, value) ∷ insert_entry bytes_cmp rest later new
 insert_behind name value later new rest above [] = insert_past (name, value) later new rest above
 insert_behind name value later new rest above (field ∷ fields) =
@@ -87,7 +92,8 @@ insert_behind name value later new rest above (field ∷ fields) =
           ap (λ behind. field ∷ behind) (insert_behind name value later new rest above fields)
     ] refl
 
-set_filled : (fields : List Field) (name value : List ℕ) → 0 < length value → set_field fields name value ≡ insert_entry bytes_cmp fields name value
+set_filled : (fields : List Field) (name value : List ℕ) → 0 < length value
+    → set_field fields name value ≡ insert_entry bytes_cmp fields name value
 set_filled fields name [] some = absurd (omega arith)
 set_filled fields name (byte ∷ bytes) some = refl
 
@@ -96,7 +102,8 @@ unfolding moment_text
 moment_text-some moment = omega arith
 
 -- three reserved names that ascend, each inserted among stored fields
-insert_three : (first second third : Field) → bytes_cmp second.0 first.0 ≡ Greater → bytes_cmp third.0 first.0 ≡ Greater → bytes_cmp third.0 second.0 ≡ Greater →
+insert_three : (first second third : Field) → bytes_cmp second.0 first.0 ≡ Greater → bytes_cmp third.0 first.0 ≡ Greater
+    → bytes_cmp third.0 second.0 ≡ Greater →
     IsTrue (is_reserved first.0) → IsTrue (is_reserved second.0) → IsTrue (is_reserved third.0) → (fields : List Field) → AreStored fields →
     insert_entry bytes_cmp (insert_entry bytes_cmp (insert_entry bytes_cmp fields first.0 first.1) second.0 second.1) third.0 third.1 ≡
     fields_before first.0 fields ++ first ∷
@@ -117,7 +124,8 @@ insert_three first second third second_first third_first third_second reserved_f
     ap (λ later. fields_before second.0 rest ++ second ∷ later) (insert_new third.0 third.1 reserved_third last (stored_from second.0 rest stored_rest)))
 
 -- three values that are not empty, set one after another, are inserted
-set_three : (fields : List Field) (first second third : Field) → 0 < length first.1 → 0 < length second.1 → 0 < length third.1 →
+set_three : (fields : List Field) (first second third : Field) → 0 < length first.1 → 0 < length second.1
+    → 0 < length third.1 →
     set_field (set_field (set_field fields first.0 first.1) second.0 second.1) third.0 third.1 ≡
     insert_entry bytes_cmp (insert_entry bytes_cmp (insert_entry bytes_cmp fields first.0 first.1) second.0 second.1) third.0 third.1
 set_three fields first second third some_first some_second some_third =
@@ -146,7 +154,8 @@ record_of-merged row rules =
     insert_three (stream row) (id row) (time row) refl refl refl refl refl refl row.fields rules.unreserved
 
 -- its members, written in four pieces
-pub tokens-record_of : (row : Row) → IsRow row → (fields rest_first rest_second rest_third : List Field) (text id_text moment : List ℕ) (tokens first second third : List Token) →
+pub tokens-record_of : (row : Row) → IsRow row
+    → (fields rest_first rest_second rest_third : List Field) (text id_text moment : List ℕ) (tokens first second third : List Token) →
     fields ≡ row.fields → text ≡ label_text row.labels → id_text ≡ stream_id row.labels → moment ≡ moment_text row.moment →
     first ≡ tokens ++ members_tokens (fields_before (codes "_stream") fields ++ (codes "_stream", text) ∷ []) → rest_first ≡ fields_from (codes "_stream") fields →
     second ≡ first ++ members_tokens (fields_before (codes "_stream_id") rest_first ++ (codes "_stream_id", id_text) ∷ []) → rest_second ≡ fields_from (codes "_stream_id") rest_first →

@@ -9,9 +9,11 @@ abbrev pub rest_text : Bool → List Field → List ℕ
 rest_text later [] = 125 ∷ []
 rest_text later (label ∷ labels) = cond later (44 ∷ []) [] ++ (labelled label ++ rest_text true labels)
 
-joined : (label : Field) (labels : List Field) → join_with_byte 44 (map labelled (label ∷ labels)) ++ 125 ∷ [] ≡ labelled label ++ rest_text true labels
+joined : (label : Field) (labels : List Field)
+    → join_with_byte 44 (map labelled (label ∷ labels)) ++ 125 ∷ [] ≡ labelled label ++ rest_text true labels
 joined label [] = refl
-joined label (next ∷ labels) = append_assoc (labelled label) _ _ ∙ ap (λ text. labelled label ++ 44 ∷ text) (joined next labels)
+joined label (next ∷ labels) =
+    append_assoc (labelled label) _ _ ∙ ap (λ text. labelled label ++ 44 ∷ text) (joined next labels)
 
 pub label_text-rest : (labels : List Field) → label_text labels ≡ 123 ∷ rest_text false labels
 unfolding label_text

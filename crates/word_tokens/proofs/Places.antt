@@ -1,5 +1,6 @@
 -- The places at which the bytes of a phrase stand in a text.
-use Rattle.std.proofs.Common.{◌≡◌, ◌<◌, ℕ, ◌+◌, List, ◌++◌, length, take, drop, get_or, true, nat_eq, refl, arith, add-zero}
+use Rattle.std.proofs.Common.{◌≡◌, ◌<◌, ℕ, ◌+◌, List, ◌++◌, length, take, drop, get_or, true, nat_eq, refl, arith}
+use Rattle.std.proofs.Common.{add-zero}
 use Rattle.std.specs.List.{starts_with}
 use Rattle.std.specs.Str.{IsUtf8, IsCharBoundary}
 use Rattle.std.proofs.lemmas.Bool.Decides.{Decides-eqb}
@@ -18,7 +19,8 @@ module _ (text phrase : List ℕ) (place : ℕ) where
   pub starts_with-OccursAt : OccursAt text phrase place → starts_with nat_eq (drop place text) phrase ≡ true
   starts_with-OccursAt found = (starts_is Decides-eqb (drop place text) phrase _ refl).1 _ (split_at found)
 
-  pub OccursAt-starts_with : 0 < length phrase → starts_with nat_eq (drop place text) phrase ≡ true → OccursAt text phrase place
+  pub OccursAt-starts_with : 0 < length phrase → starts_with nat_eq (drop place text) phrase ≡ true
+      → OccursAt text phrase place
   OccursAt-starts_with filled starts =
       let split = (starts_is Decides-eqb (drop place text) phrase _ refl).0 starts in
       record {
@@ -27,13 +29,15 @@ module _ (text phrase : List ℕ) (place : ℕ) where
       }
 
   -- the text may be cut before the phrase, and after it
-  pub IsCharBoundary-OccursAt : IsUtf8 phrase → 0 < length phrase → OccursAt text phrase place → IsCharBoundary text place
+  pub IsCharBoundary-OccursAt : IsUtf8 phrase → 0 < length phrase → OccursAt text phrase place
+      → IsCharBoundary text place
   IsCharBoundary-OccursAt utf8 filled found =
       let same : get_or text place 0 ≡ get_or phrase 0 0 = rw add-zero at (found.reads 0 filled) in
       let head = (IsCharBoundary-start phrase utf8).1 filled in
       (omega (arith, found.fits), λ _ high. rw same (head (rw same at high)))
 
-  pub IsCharBoundary-after_OccursAt : IsUtf8 text → IsUtf8 phrase → 0 < length phrase → OccursAt text phrase place → IsCharBoundary text (place + length phrase)
+  pub IsCharBoundary-after_OccursAt : IsUtf8 text → IsUtf8 phrase → 0 < length phrase → OccursAt text phrase place
+      → IsCharBoundary text (place + length phrase)
   IsCharBoundary-after_OccursAt text_utf8 utf8 filled found =
       let before = IsCharBoundary-OccursAt utf8 filled found in
       let front : take (length phrase) (drop place text) ≡ phrase = rw (split_at found) (take-append_seam phrase _) in

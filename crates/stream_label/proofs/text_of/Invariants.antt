@@ -4,4 +4,5 @@ use Rattle.stream_label.proofs.Joined.{rest_text}
 use Rattle.stream_label.proofs.text_of.Given as goal
 
 abbrev pub invariant-loop-place : goal.invariant-loop-place
-invariant-loop-place l = string_bytes l.text ++ rest_text (nat_lt 0 l.place) (drop l.place l.labels) ≡ label_text l.labels
+invariant-loop-place l =
+    string_bytes l.text ++ rest_text (nat_lt 0 l.place) (drop l.place l.labels) ≡ label_text l.labels

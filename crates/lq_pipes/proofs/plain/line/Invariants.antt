@@ -4,4 +4,5 @@ use Rattle.lq_pipes.proofs.Printed.{rest_text}
 use Rattle.lq_pipes.proofs.plain.line.Given as goal
 
 abbrev pub invariant-loop-place : goal.invariant-loop-place
-invariant-loop-place l = string_bytes l.line ++ rest_text (nat_lt 0 l.place) (drop l.place l.fields) ≡ object_text l.fields
+invariant-loop-place l =
+    string_bytes l.line ++ rest_text (nat_lt 0 l.place) (drop l.place l.fields) ≡ object_text l.fields
