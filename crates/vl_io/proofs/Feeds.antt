@@ -15,7 +15,8 @@ other x n = grind (arith, nat_tests)
 
 skip : (x : ℕ) (xs : List ℕ) → (x ≢ 10) → count_by is_feed (x ∷ xs) ≡ count_by is_feed xs
 skip x xs n =
-    sum_by-cons (λ b. cond (is_feed b) 1 0) x xs ∙ ap (λ t. cond t 1 0 + count_by is_feed xs) (other x n) ∙ zero-add (count_by is_feed xs)
+    sum_by-cons (λ b. cond (is_feed b) 1 0) x xs ∙ ap (λ t. cond t 1 0 + count_by is_feed xs) (other x n) ∙ zero-add
+    (count_by is_feed xs)
 
 pub no_feeds : (xs : List ℕ) → ((k : ℕ) → k < length xs → get_or xs k 0 ≢ 10) → count_by is_feed xs ≡ 0
 no_feeds [] none = refl
@@ -41,51 +42,86 @@ pub counts_none : (bytes : List ℕ) (lines : ℕ) → Counts bytes lines 0 line
 counts_none bytes lines = record { within = omega arith; counted = omega arith; ends = λ less. absurd (omega arith) }
 
 pub counts_more : (bytes : List ℕ) (lines end missing place : ℕ) → Counts bytes lines end missing → 0 < missing
-    → place < length (drop end bytes) → get_or (drop end bytes) place 0 ≡ 10 → ((k : ℕ) → k < place → get_or (drop end bytes) k 0 ≢ 10)
+    → place < length (drop end bytes) → get_or (drop end bytes) place 0 ≡ 10 →
+    ((k : ℕ) → k < place → get_or (drop end bytes) k 0 ≢ 10)
     → Counts bytes lines (end + (place + 1)) (missing - 1)
 counts_more bytes lines end missing place before some within feed none =
     let found = first_feed (drop end bytes) place within feed none in
-    let cut : take (end + suc place) bytes ≡ take end bytes ++ take (suc place) (drop end bytes) = take-add end (suc place) bytes in
+    let cut : take (end + suc place) bytes ≡ take end bytes ++ take (suc place) (drop end bytes) = take-add end
+    (suc place) bytes in
     let same : end + (place + 1) ≡ end + suc place = omega arith in
-    let all : take (end + (place + 1)) bytes ≡ take end bytes ++ take (suc place) (drop end bytes) = ap (λ n. take n bytes) same ∙ cut in
+    let all : take (end + (place + 1)) bytes ≡ take end bytes ++ take (suc place) (drop end bytes) = ap
+    (λ n. take n bytes) same ∙ cut in
     record {
       within = omega (arith, before.within, length-drop end bytes);
-      counted = omega (arith, ap (count_by is_feed) all, feeds-append (take end bytes) (take (suc place) (drop end bytes)), found.0, before.counted);
+      counted = omega (
+        arith,
+        ap (count_by is_feed) all,
+        feeds-append (take end bytes) (take (suc place) (drop end bytes)),
+        found.0,
+        before.counted,
+      );
       ends = λ less. (
         take end bytes ++ take place (drop end bytes),
-        all ∙ ap (λ l. take end bytes ++ l) found.1 ∙ sym (append_assoc (take end bytes) (take place (drop end bytes)) (10 ∷ [])),
+        all ∙ ap (λ l. take end bytes ++ l) found.1 ∙ sym
+            (append_assoc (take end bytes) (take place (drop end bytes)) (10 ∷ [])),
       );
     }
 
 -- there are no more
 pub counts_short : (bytes : List ℕ) (lines end missing : ℕ) → Counts bytes lines end missing
-    → ((k : ℕ) → k < length (drop end bytes) → get_or (drop end bytes) k 0 ≢ 10) → count_by is_feed bytes + missing ≡ lines
+    → ((k : ℕ) → k < length (drop end bytes) → get_or (drop end bytes) k 0 ≢ 10) → count_by is_feed bytes + missing
+    ≡ lines
 counts_short bytes lines end missing before none =
-    omega (arith, ap (count_by is_feed) (take-append-drop end bytes), feeds-append (take end bytes) (drop end bytes), no_feeds (drop end bytes) none, before.counted)
+    omega (
+      arith,
+      ap (count_by is_feed) (take-append-drop end bytes),
+      feeds-append (take end bytes) (drop end bytes),
+      no_feeds (drop end bytes) none,
+      before.counted,
+    )
 
-pub counts_all : (bytes : List ℕ) (lines end missing : ℕ) → 0 < lines → Counts bytes lines end missing → missing ≡ 0 → AreLines lines (take end bytes)
+pub counts_all : (bytes : List ℕ) (lines end missing : ℕ) → 0 < lines → Counts bytes lines end missing → missing ≡ 0
+    → AreLines lines (take end bytes)
 counts_all bytes lines end missing some before none =
     let ends = before.ends (omega arith) in
     record { feeds = omega (arith, before.counted); front = ends.0; ends = ends.1 }
 
 -- lines behind lines
-pub lines_after : (bytes : List ℕ) (seen end missing lines : ℕ) → count_by is_feed (take seen bytes) + missing ≡ lines → seen ≤ length bytes
-    → end ≤ length (drop seen bytes) → AreLines missing (take end (drop seen bytes)) → (seen + end ≤ length bytes) × AreLines lines (take (seen + end) bytes)
+pub lines_after : (bytes : List ℕ) (seen end missing lines : ℕ) → count_by is_feed (take seen bytes) + missing ≡ lines
+    → seen ≤ length bytes
+    → end ≤ length (drop seen bytes) → AreLines missing (take end (drop seen bytes)) → (seen + end ≤ length bytes)
+    × AreLines lines (take (seen + end) bytes)
 lines_after bytes seen end missing lines counted within here are =
     let all : take (seen + end) bytes ≡ take seen bytes ++ take end (drop seen bytes) = take-add seen end bytes in (
       omega (arith, length-drop seen bytes),
       record {
-        feeds = omega (arith, ap (count_by is_feed) all, feeds-append (take seen bytes) (take end (drop seen bytes)), are.feeds, counted);
+        feeds = omega (
+          arith,
+          ap (count_by is_feed) all,
+          feeds-append (take seen bytes) (take end (drop seen bytes)),
+          are.feeds,
+          counted,
+        );
         front = take seen bytes ++ are.front;
         ends = all ∙ ap (λ l. take seen bytes ++ l) are.ends ∙ sym (append_assoc (take seen bytes) are.front (10 ∷ []));
       },
     )
 
 -- all bytes have too few
-pub fewer : (bytes : List ℕ) (seen missing fewer lines : ℕ) → count_by is_feed (take seen bytes) + missing ≡ lines → count_by is_feed (drop seen bytes) + fewer ≡ missing
+pub fewer : (bytes : List ℕ) (seen missing fewer lines : ℕ) → count_by is_feed (take seen bytes) + missing ≡ lines
+    → count_by is_feed (drop seen bytes) + fewer ≡ missing
     → count_by is_feed bytes + fewer ≡ lines
 fewer bytes seen missing still lines counted rest =
-    omega (arith, ap (count_by is_feed) (take-append-drop seen bytes), feeds-append (take seen bytes) (drop seen bytes), counted, rest)
+    omega (
+      arith,
+      ap (count_by is_feed) (take-append-drop seen bytes),
+      feeds-append (take seen bytes) (drop seen bytes),
+      counted,
+      rest,
+    )
 
-pub counted_before : (old new piece : List ℕ) (missing lines : ℕ) → new ≡ old ++ piece → count_by is_feed old + missing ≡ lines → count_by is_feed (take (length old) new) + missing ≡ lines
-counted_before old new piece missing lines grown counted = subst (λ l. count_by is_feed l + missing ≡ lines) (sym (ap (take (length old)) grown ∙ take-append_seam old piece)) counted
+pub counted_before : (old new piece : List ℕ) (missing lines : ℕ) → new ≡ old ++ piece
+    → count_by is_feed old + missing ≡ lines → count_by is_feed (take (length old) new) + missing ≡ lines
+counted_before old new piece missing lines grown counted = subst (λ l. count_by is_feed l + missing ≡ lines)
+    (sym (ap (take (length old)) grown ∙ take-append_seam old piece)) counted

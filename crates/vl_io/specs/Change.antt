@@ -1,6 +1,6 @@
 -- What a call does to an object of the outside. Of a source the bytes are those that are left in it, of a sink those
 -- that were written to it. An object need not tell its bytes.
-use Rattle.std.specs.Prelude.{ℕ, ◌<◌, ◌⊎◌, List, [], ◌++◌, length, take, Option}
+use Rattle.std.specs.Prelude.{ℕ, ◌<◌, ◌⊎◌, List, ◌++◌, length, take, Option}
 use Rattle.vl_io.specs.Bytes.{Appends, Consumes, IsAtEnd}
 use Rattle.vl_io.specs.Faults.{Rose}
 

@@ -5,19 +5,20 @@ use Rattle.std.proofs.lemmas.List.{map-append}
 use Rattle.std.proofs.lemmas.List.Elements.{filter-append}
 use Rattle.std.proofs.lemmas.Option.{none-some}
 use Rattle.std.specs.List.{slice_get}
-use Rattle.std.specs.Prelude.{Option}
 use Rattle.log_model.specs.History.{AreInOrder, Numbered, rows_in}
 use Rattle.log_model.specs.Print.{line_text, lines_text}
 use Rattle.log_model.specs.Query.{Query, evaluation, holds}
 use Rattle.log_model.specs.Row.{Row, record_of}
 
-pub lines-append : (query : Query) (rows others : List Row) → lines_text (evaluation query (rows ++ others)) ≡ lines_text (evaluation query rows) ++ lines_text (evaluation query others)
+pub lines-append : (query : Query) (rows others : List Row) → lines_text (evaluation query (rows ++ others))
+    ≡ lines_text (evaluation query rows) ++ lines_text (evaluation query others)
 lines-append query rows others =
     ap (λ rs. lines_text (map record_of rs)) (filter-append (holds query) rows others)
     ∙ ap lines_text (map-append record_of (filter (holds query) rows) (filter (holds query) others))
     ∙ flat_map-append line_text (evaluation query rows) (evaluation query others)
 
-take-part : {X : Type 0} (parts : List X) (i : ℕ) (part : X) → slice_get parts i ≡ Some part → take (suc i) parts ≡ take i parts ++ part ∷ []
+take-part : {X : Type 0} (parts : List X) (i : ℕ) (part : X) → slice_get parts i ≡ Some part → take (suc i) parts
+    ≡ take i parts ++ part ∷ []
 take-part [] i part is = absurd (none-some part is)
 take-part (p ∷ ps) zero part is = let same : Some p ≡ Some part = is in cc
 take-part (p ∷ ps) (suc i) part is = ap (λ l. p ∷ l) (take-part ps i part is)
@@ -31,22 +32,29 @@ rows-part : (parts : List (List Numbered)) (i : ℕ) (part : List Numbered) → 
     → flat_map rows_in (take (i + 1) parts) ≡ flat_map rows_in (take i parts) ++ rows_in part
 rows-part parts i part is =
     ap (λ n. flat_map rows_in (take n parts)) (add-one i) ∙ ap (flat_map rows_in) (take-part parts i part is)
-    ∙ flat_map-append rows_in (take i parts) (part ∷ []) ∙ ap (λ l. flat_map rows_in (take i parts) ++ l) (append_nil (rows_in part))
+    ∙ flat_map-append rows_in (take i parts) (part ∷ []) ∙ ap (λ l. flat_map rows_in (take i parts) ++ l)
+    (append_nil (rows_in part))
 
 -- the lines of one part more
-lines-part : (query : Query) (parts : List (List Numbered)) (i : ℕ) (part : List Numbered) → slice_get parts i ≡ Some part
+lines-part : (query : Query) (parts : List (List Numbered)) (i : ℕ) (part : List Numbered) → slice_get parts i
+    ≡ Some part
     → lines_text (evaluation query (flat_map rows_in (take (i + 1) parts)))
     ≡ lines_text (evaluation query (flat_map rows_in (take i parts))) ++ lines_text (evaluation query (rows_in part))
 lines-part query parts i part is =
-    ap (λ rows. lines_text (evaluation query rows)) (rows-part parts i part is) ∙ lines-append query (flat_map rows_in (take i parts)) (rows_in part)
+    ap (λ rows. lines_text (evaluation query rows)) (rows-part parts i part is) ∙ lines-append query
+    (flat_map rows_in (take i parts)) (rows_in part)
 
 -- what was written is the lines of the parts so far
-pub lines-written : (query : Query) (parts : List (List Numbered)) (i : ℕ) (part : List Numbered) (rows : List Row) (old new : List ℕ)
-    → slice_get parts i ≡ Some part → rows ≡ rows_in part → old ≡ lines_text (evaluation query (flat_map rows_in (take i parts)))
-    → new ≡ old ++ lines_text (evaluation query rows) → new ≡ lines_text (evaluation query (flat_map rows_in (take (i + 1) parts)))
+pub lines-written : (query : Query) (parts : List (List Numbered)) (i : ℕ) (part : List Numbered) (rows : List Row)
+    (old new : List ℕ)
+    → slice_get parts i ≡ Some part → rows ≡ rows_in part → old ≡ lines_text
+    (evaluation query (flat_map rows_in (take i parts)))
+    → new ≡ old ++ lines_text (evaluation query rows) → new ≡ lines_text
+    (evaluation query (flat_map rows_in (take (i + 1) parts)))
 lines-written query parts i part rows old new is same before written =
     written ∙ ap (λ text. text ++ lines_text (evaluation query rows)) before
-    ∙ ap (λ rs. lines_text (evaluation query (flat_map rows_in (take i parts))) ++ lines_text (evaluation query rs)) same
+    ∙ ap (λ rs. lines_text (evaluation query (flat_map rows_in (take i parts))) ++ lines_text
+    (evaluation query rs)) same
     ∙ sym (lines-part query parts i part is)
 
 -- the first parts are in order
@@ -58,7 +66,8 @@ part-at [] i part d is = absurd (none-some part is)
 part-at (p ∷ ps) zero part d is = let same : Some p ≡ Some part = is in cc
 part-at (p ∷ ps) (suc i) part d is = part-at ps i part d is
 
-pub order-more : (parts : List (List Numbered)) (i : ℕ) (part rows : List Numbered) → slice_get parts i ≡ Some part → rows ≡ part → AreInOrder rows
+pub order-more : (parts : List (List Numbered)) (i : ℕ) (part rows : List Numbered) → slice_get parts i ≡ Some part
+    → rows ≡ part → AreInOrder rows
     → OrderedBelow i parts → OrderedBelow (i + 1) parts
 order-more parts i part rows is same ordered before =
     below_more (λ k. (d : List Numbered) → AreInOrder (get_or parts k d)) i before

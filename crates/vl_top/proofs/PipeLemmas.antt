@@ -1,10 +1,10 @@
 -- From the input to the answer.
-use Rattle.std.proofs.Common.{◌≡◌, ◌⊎◌, inl, inr, ℕ, ◌+◌, ◌≤◌, ◌<◌, List, [], ◌∷◌, ◌++◌, length, flat_map, take, Option, All, refl, sym, ap, subst, ◌∙◌, arith, append_assoc}
+use Rattle.std.proofs.Common.{◌≡◌, inl, inr, ℕ, ◌≤◌, List, [], ◌++◌, flat_map, take, Option, All, refl, sym, ap, subst, ◌∙◌, arith}
 use Rattle.vl_io.specs.Bytes.{Appends}
 use Rattle.vl_io.specs.Change.{Change, Gave, IsCut, IsTold, Took}
 use Rattle.vl_io.proofs.Laws.{Appends-trans, Rose-earlier}
 use Rattle.log_model.specs.Core.{Contents, parts_of}
-use Rattle.log_model.specs.History.{AreInOrder, Numbered, rows_in, rows_of}
+use Rattle.log_model.specs.History.{AreInOrder, Numbered, rows_in}
 use Rattle.log_model.specs.Print.{lines_text}
 use Rattle.log_model.specs.Query.{Query, evaluation}
 use Rattle.vl_top.specs.Groups.{batches_of, refusals_of}
@@ -13,7 +13,7 @@ use Rattle.vl_top.specs.Program.{AreFew, IsAnswer, stop_text}
 use Rattle.vl_top.specs.Load.{IsLoaded, StopsLoad, StopsUntold}
 use Rattle.vl_top.specs.Interrupt.{limit_of}
 use Rattle.vl_top.specs.Pipe.{EndsPipe, ReportsInterrupt, StopsPipe}
-use Rattle.vl_top.specs.Run.{IsAnswerCut, IsAnswered, IsNamingCut, IsStopped}
+use Rattle.vl_top.specs.Run.{IsAnswerCut, IsAnswered, IsStopped}
 use Rattle.vl_top.specs.declared.status.Status.{Status}
 use Rattle.vl_top.specs.declared.status.Status.TheVariants as statuses
 use Rattle.vl_top.specs.declared.interrupt.Interrupt.{Interrupt}
@@ -22,8 +22,10 @@ use Rattle.vl_top.proofs.GroupLemmas.{append_nil, AreGroups-weaken}
 use Rattle.vl_top.proofs.HeldLemmas.{held_rows}
 use Rattle.vl_top.proofs.LoadLemmas.{change}
 
-module _ (query : Query) (now : ℕ) (source output errors : Change) (shelf snapshot : Contents (List Numbered)) (text : List ℕ) where
-  answer : (l : IsLoaded now source errors shelf) → snapshot ≡ shelf → text ≡ lines_text (evaluation query (flat_map rows_in (parts_of snapshot)))
+module _ (query : Query) (now : ℕ) (source output errors : Change) (shelf snapshot : Contents (List Numbered))
+    (text : List ℕ) where
+  answer : (l : IsLoaded now source errors shelf) → snapshot ≡ shelf → text ≡ lines_text
+      (evaluation query (flat_map rows_in (parts_of snapshot)))
       → All AreInOrder (parts_of snapshot) → IsAnswer query now l.begins.taken text (refusals_of l.groups)
   answer l same is ordered = record {
     within = l.within;
@@ -33,9 +35,11 @@ module _ (query : Query) (now : ℕ) (source output errors : Change) (shelf snap
     held = l.fits;
     history = l.holding.history;
     entered = l.holding.entered;
-    answered = is ∙ ap (λ (s : Contents (List Numbered)). lines_text (evaluation query (flat_map rows_in (parts_of s)))) same
+    answered = is ∙ ap
+        (λ (s : Contents (List Numbered)). lines_text (evaluation query (flat_map rows_in (parts_of s)))) same
         ∙ ap (λ rows. lines_text (evaluation query rows))
-        (held_rows shelf (batches_of l.groups) l.holding (subst (λ (s : Contents (List Numbered)). All AreInOrder (parts_of s)) same ordered));
+        (held_rows shelf (batches_of l.groups) l.holding
+        (subst (λ (s : Contents (List Numbered)). All AreInOrder (parts_of s)) same ordered));
     named = refl;
   }
 
@@ -44,7 +48,8 @@ module _ (query : Query) (now : ℕ) (source output errors : Change) (shelf snap
       subst (Gave source) (append_nil l.begins.taken)
       (subst (λ rest. Gave source (l.begins.taken ++ rest)) l.all l.begins.gave)
 
-  pub answered : IsLoaded now source errors shelf → snapshot ≡ shelf → text ≡ lines_text (evaluation query (flat_map rows_in (parts_of snapshot)))
+  pub answered : IsLoaded now source errors shelf → snapshot ≡ shelf → text ≡ lines_text
+      (evaluation query (flat_map rows_in (parts_of snapshot)))
       → All AreInOrder (parts_of snapshot) → Took output text → IsAnswered query now source output errors
   answered l same is ordered written = record {
     input = l.begins.taken;
@@ -57,7 +62,8 @@ module _ (query : Query) (now : ℕ) (source output errors : Change) (shelf snap
     named = l.named;
   }
 
-  pub answer_cut : IsLoaded now source errors shelf → snapshot ≡ shelf → text ≡ lines_text (evaluation query (flat_map rows_in (parts_of snapshot)))
+  pub answer_cut : IsLoaded now source errors shelf → snapshot ≡ shelf → text ≡ lines_text
+      (evaluation query (flat_map rows_in (parts_of snapshot)))
       → All AreInOrder (parts_of snapshot) → IsCut output [] text → IsAnswerCut query now source output errors
   answer_cut l same is ordered cut = record {
     input = l.begins.taken;
@@ -71,20 +77,23 @@ module _ (query : Query) (now : ℕ) (source output errors : Change) (shelf snap
   }
 
 -- memory ran out after the input was loaded
-pub stops_loaded : (now : ℕ) (source errors : Change) (shelf : Contents (List Numbered)) → IsLoaded now source errors shelf → StopsUntold now source errors model.no_memory
+pub stops_loaded : (now : ℕ) (source errors : Change) (shelf : Contents (List Numbered))
+    → IsLoaded now source errors shelf → StopsUntold now source errors model.no_memory
 stops_loaded now source errors shelf l = record {
   groups = l.groups;
   behind = record {
     begins = l.begins;
     fits = l.fits;
-    few = subst AreFew (sym l.all) (record { group = []; ahead = []; parts = refl; lines = omega arith; short = omega arith });
+    few = subst AreFew (sym l.all)
+        (record { group = []; ahead = []; parts = refl; lines = omega arith; short = omega arith });
     cause = tt;
   };
   named = l.named;
 }
 
 -- loading stopped
-pub stops_pipe : (query : Query) (now : ℕ) (source output errors : Change) (interrupt : Interrupt) → StopsLoad now source errors interrupt
+pub stops_pipe : (query : Query) (now : ℕ) (source output errors : Change) (interrupt : Interrupt)
+    → StopsLoad now source errors interrupt
     → StopsPipe query now source output errors interrupt
 stops_pipe query now source output errors Unwritable h = inr h
 stops_pipe query now source output errors Unreadable h = h
@@ -93,7 +102,8 @@ stops_pipe query now source output errors NoMemory h = h
 
 module _ (now : ℕ) (source : Change) (err0 err1 err2 : Option (List ℕ)) (f0 f1 f2 : ℕ) where
   -- what is said after the names
-  told_after : (named text : List ℕ) → f0 ≤ f1 → Appends err0 err1 named → IsTold (change err1 err2 f1 f2) [] text → IsTold (change err0 err2 f0 f2) named text
+  told_after : (named text : List ℕ) → f0 ≤ f1 → Appends err0 err1 named → IsTold (change err1 err2 f1 f2) [] text
+      → IsTold (change err0 err2 f0 f2) named text
   told_after named text stays written (inl whole) = inl (Appends-trans err0 err1 err2 named text written whole)
   told_after named text stays written (inr cut) = inr (record {
     len = cut.len;
@@ -102,12 +112,20 @@ module _ (now : ℕ) (source : Change) (err0 err1 err2 : Option (List ℕ)) (f0 
     failed = Rose-earlier f0 f1 f2 stays cut.failed;
   })
 
-  stopped : (stop : model.Stop) → f0 ≤ f1 → StopsUntold now source (change err0 err1 f0 f1) stop → IsTold (change err1 err2 f1 f2) [] (stop_text stop)
+  stopped : (stop : model.Stop) → f0 ≤ f1 → StopsUntold now source (change err0 err1 f0 f1) stop → IsTold
+      (change err1 err2 f1 f2) [] (stop_text stop)
       → IsStopped now source (change err0 err2 f0 f2) stop
-  stopped stop stays h told = record { groups = h.groups; behind = h.behind; said = told_after (refusals_of h.groups) (stop_text stop) stays h.named told }
+  stopped stop stays h told =
+      record {
+        groups = h.groups;
+        behind = h.behind;
+        said = told_after (refusals_of h.groups)
+            (stop_text stop) stays h.named told;
+      }
 
   -- a limit was met, but there was no memory to say so
-  without_memory : (stop : model.Stop) → StopsUntold now source (change err0 err1 f0 f1) stop → StopsUntold now source (change err0 err1 f0 f1) model.no_memory
+  without_memory : (stop : model.Stop) → StopsUntold now source (change err0 err1 f0 f1) stop → StopsUntold now source
+      (change err0 err1 f0 f1) model.no_memory
   without_memory stop h = record {
     groups = h.groups;
     behind = record { begins = h.behind.begins; fits = h.behind.fits; few = h.behind.few; cause = tt };
@@ -116,7 +134,8 @@ module _ (now : ℕ) (source : Change) (err0 err1 err2 : Option (List ℕ)) (f0 
 
   -- what an interrupt is, once it is said
   pub reported : (query : Query) (output : Change) (interrupt : Interrupt) (status : Status) → f0 ≤ f1
-      → StopsPipe query now source output (change err0 err1 f0 f1) interrupt → ReportsInterrupt (change err1 err2 f1 f2) interrupt status
+      → StopsPipe query now source output (change err0 err1 f0 f1) interrupt → ReportsInterrupt
+      (change err1 err2 f1 f2) interrupt status
       → EndsPipe query now source output (change err0 err2 f0 f2) status
   reported query output Unwritable status stays h r =
       subst (EndsPipe query now source output (change err0 err2 f0 f2)) (sym r.0)
@@ -125,7 +144,8 @@ module _ (now : ℕ) (source : Change) (err0 err1 err2 : Option (List ℕ)) (f0 
   reported query output Unreadable status stays h r =
       subst (EndsPipe query now source output (change err0 err2 f0 f2)) (sym r.0) (stopped model.unreadable stays h r.1)
   reported query output (Beyond limit) status stays h (inl r) =
-      subst (EndsPipe query now source output (change err0 err2 f0 f2)) (sym r.0) (limit_of limit, stopped (model.beyond (limit_of limit)) stays h r.1)
+      subst (EndsPipe query now source output (change err0 err2 f0 f2)) (sym r.0)
+      (limit_of limit, stopped (model.beyond (limit_of limit)) stays h r.1)
   reported query output (Beyond limit) status stays h (inr r) =
       subst (EndsPipe query now source output (change err0 err2 f0 f2)) (sym r.0)
       (stopped model.no_memory stays (without_memory (model.beyond (limit_of limit)) h) r.1)

@@ -20,7 +20,8 @@ numbers_fit before number (passed_over ∷ os) few = numbers_fit before (suc num
 numbers_fit before number (read row ∷ os) few = numbers_fit before (suc number) os (omega arith)
 numbers_fit before number (refused kind ∷ os) few = (omega arith, numbers_fit before (suc number) os (omega arith))
 
-same_length : (now : ℕ) (lines : List (List ℕ)) (outcomes : List Outcome) → AllZip (HasOutcome now) lines outcomes → length outcomes ≡ length lines
+same_length : (now : ℕ) (lines : List (List ℕ)) (outcomes : List Outcome) → AllZip (HasOutcome now) lines outcomes
+    → length outcomes ≡ length lines
 same_length now [] [] all = refl
 same_length now [] (o ∷ os) all = absurd all
 same_length now (line ∷ lines) [] all = absurd all
@@ -29,8 +30,10 @@ same_length now (line ∷ lines) (o ∷ os) all = ap suc (same_length now lines 
 names_from : (before number : ℕ) (outcomes : List Outcome)
     → names_after before (refused_from number outcomes) ≡ refusals_from (before + number) outcomes
 names_from before number [] = refl
-names_from before number (passed_over ∷ os) = names_from before (suc number) os ∙ ap (λ n. refusals_from n os) (omega arith)
-names_from before number (read row ∷ os) = names_from before (suc number) os ∙ ap (λ n. refusals_from n os) (omega arith)
+names_from before number (passed_over ∷ os) = names_from before (suc number) os ∙ ap (λ n. refusals_from n os)
+    (omega arith)
+names_from before number (read row ∷ os) = names_from before (suc number) os ∙ ap (λ n. refusals_from n os)
+    (omega arith)
 names_from before number (refused kind ∷ os) =
     ap (λ text. refusal_text (before + number) kind ++ text)
     (names_from before (suc number) os ∙ ap (λ n. refusals_from n os) (omega arith))
@@ -46,7 +49,8 @@ pub record IsGiven (now : ℤ) (lines : List ℕ) (intake : Intake) (outcomes : 
   pub refused : intake.refused ≡ refused_from 1 outcomes
 
 pub is_given : (options : Options) (now : ℤ) (lines : List ℕ) (intake : Intake) (outcomes : List Outcome)
-    → options ≡ plain → pos 0 ≤ℤ now → body.IsTaken options now lines outcomes intake → IsGiven now lines intake outcomes
+    → options ≡ plain → pos 0 ≤ℤ now → body.IsTaken options now lines outcomes intake
+    → IsGiven now lines intake outcomes
 is_given options now lines intake outcomes is_plain low taken = record {
   given = subst (λ n. AllZip (body.IsOutcome plain n) (lines_of lines) outcomes) (same_moment now low)
       (subst (λ o. AllZip (body.IsOutcome o now) (lines_of lines) outcomes) is_plain taken.given);
@@ -59,7 +63,8 @@ pub numbers : (now : ℤ) (lines : List ℕ) (before : ℕ) (intake : Intake) (o
     → AllByRecursion (λ (fault : LineFault). before + fault.line < 2 ^ 64) intake.refused
 numbers now lines before intake outcomes given few =
     subst (AllByRecursion (λ (fault : LineFault). before + fault.line < 2 ^ 64)) (sym given.refused)
-    (numbers_fit before 1 outcomes (omega (arith, same_length (unsigned_abs now) (lines_of lines) outcomes given.given, lines_le lines)))
+    (numbers_fit before 1 outcomes
+    (omega (arith, same_length (unsigned_abs now) (lines_of lines) outcomes given.given, lines_le lines)))
 
 pub is_taken : (now : ℤ) (lines : List ℕ) (before : ℕ) (intake : Intake) (outcomes : List Outcome) (group : Group)
     → IsGiven now lines intake outcomes → group.rows.items ≡ intake.rows

@@ -1,7 +1,6 @@
 -- What was said on the error stream.
-use Rattle.std.proofs.Common.{ℕ, ◌<◌, List, length, take, Option, Result, Ok, Err, OnOk, OnErr, inl, inr, []}
-use Rattle.vl_io.specs.Bytes.{Appends}
-use Rattle.vl_io.specs.Change.{Change, HasFailed, IsTold, Took}
+use Rattle.std.proofs.Common.{ℕ, ◌<◌, List, length, take, Result, Ok, Err, OnOk, OnErr, inl, inr, []}
+use Rattle.vl_io.specs.Change.{Change, IsTold, Took}
 use Rattle.vl_io.specs.Faults.{HasCause}
 
 pub told : {E : Type 0} (result : Result (Unit {0}) E) (sink : Change) (text : List ℕ)

@@ -13,15 +13,20 @@ use Rattle.ingest_row.specs.Intake.{Outcome, passed_over, read, refused, rows_re
 use Rattle.vl_top.specs.Groups.{HasOutcome}
 
 -- what was not chosen
-passed : {A : Type 0} (test : Bool) (fault : A) (others : Option A) → cond test (Some fault) others ≡ None → (test ≡ false) × (others ≡ None)
+passed : {A : Type 0} (test : Bool) (fault : A) (others : Option A) → cond test (Some fault) others ≡ None →
+    (test ≡ false) × (others ≡ None)
 passed true fault others is = absurd (cc)
 passed false fault others is = (refl, is)
 
 light_size : (long : Bool) (count size : ℕ) → size_fault long count size ≡ None → size ≤ 262_144
 light_size long count size none =
-    let few = (passed long NameLong (if nat_lt 1000 count then Some ManyFields else (if nat_lt 262_144 size then Some RowLarge else (if nat_lt count 1 then Some Empty else None))) none).1 in
-    let light = (passed (nat_lt 1000 count) ManyFields (if nat_lt 262_144 size then Some RowLarge else (if nat_lt count 1 then Some Empty else None)) few).1 in
-    let within : nat_lt 262_144 size ≡ false = (passed (nat_lt 262_144 size) RowLarge (if nat_lt count 1 then Some Empty else None) light).0 in
+    let few = (passed long NameLong
+    (if nat_lt 1000 count then Some ManyFields else
+    (if nat_lt 262_144 size then Some RowLarge else (if nat_lt count 1 then Some Empty else None))) none).1 in
+    let light = (passed (nat_lt 1000 count) ManyFields
+    (if nat_lt 262_144 size then Some RowLarge else (if nat_lt count 1 then Some Empty else None)) few).1 in
+    let within : nat_lt 262_144 size ≡ false =
+    (passed (nat_lt 262_144 size) RowLarge (if nat_lt count 1 then Some Empty else None) light).0 in
     grind (arith, nat_tests, within)
 
 light_fields : (time : ℤ) (fields : List Field) → row_fault time fields ≡ None → weight (stored fields) ≤ 262_144
@@ -33,17 +38,25 @@ light_fields time fields none =
 light_row : (now : ℕ) (line : List ℕ) (row : Row) → HasOutcome now line (read row) → weight row.fields ≤ 262_144
 light_row now line row given =
     let made = given.1.is_row in
-    subst (λ (r : Row). weight r.fields ≤ 262_144) (sym made.is_row) (light_fields made.time (row_fields plain given.1.fields) made.faultless)
+    subst (λ (r : Row). weight r.fields ≤ 262_144) (sym made.is_row)
+    (light_fields made.time (row_fields plain given.1.fields) made.faultless)
 
 -- no more than each line may
-pub rows_light : (now : ℕ) (lines : List (List ℕ)) (outcomes : List Outcome) → AllZip (HasOutcome now) lines outcomes → batch_weight (rows_read outcomes) ≤ 262_144 * length lines
+pub rows_light : (now : ℕ) (lines : List (List ℕ)) (outcomes : List Outcome) → AllZip (HasOutcome now) lines outcomes
+    → batch_weight (rows_read outcomes) ≤ 262_144 * length lines
 rows_light now [] [] all = omega arith
 rows_light now [] (o ∷ os) all = absurd all
 rows_light now (line ∷ lines) [] all = absurd all
 rows_light now (line ∷ lines) (passed_over ∷ os) all = omega (arith, rows_light now lines os all.1)
 rows_light now (line ∷ lines) (read row ∷ os) all =
-    omega (arith, rows_light now lines os all.1, light_row now line row all.0, sum_by-cons (λ (r : Row). weight r.fields) row (rows_read os))
+    omega (
+      arith,
+      rows_light now lines os all.1,
+      light_row now line row all.0,
+      sum_by-cons (λ (r : Row). weight r.fields) row (rows_read os),
+    )
 rows_light now (line ∷ lines) (refused kind ∷ os) all = omega (arith, rows_light now lines os all.1)
 
-pub rows_fit : (rows : List Row) (lines : ℕ) → batch_weight rows ≤ 262_144 * lines → lines ≤ 1000 → batch_weight rows < 2 ^ 64
+pub rows_fit : (rows : List Row) (lines : ℕ) → batch_weight rows ≤ 262_144 * lines → lines ≤ 1000
+    → batch_weight rows < 2 ^ 64
 rows_fit rows lines light few = omega arith

@@ -1,11 +1,11 @@
 -- What becomes of an input on its way into the shelf.
 use Rattle.std.specs.Prelude.{◌≡◌, ℕ, ◌+◌, ◌<◌, ◌≤◌, List, [], ◌++◌, length}
-use Rattle.vl_io.specs.Change.{Change, IsCut, IsSpent, Gave, Took}
+use Rattle.vl_io.specs.Change.{Change, IsCut, IsSpent, Took}
 use Rattle.log_model.specs.Core.{Contents, Stands, held_limit}
 use Rattle.log_model.specs.History.{History, Numbered, batches_in}
 use Rattle.log_model.specs.Row.{Batch, Row, batch_limit, batch_weight}
 use Rattle.ingest_row.specs.Intake.{Outcome, rows_read}
-use Rattle.vl_top.specs.Groups.{BeginsWith, CanBeHeld, HaveOutcomes, batch_of, batches_of, outcomes_in, refusals_from, refusals_of}
+use Rattle.vl_top.specs.Groups.{BeginsWith, CanBeHeld, HaveOutcomes, batch_of, batches_of, refusals_from, refusals_of}
 use Rattle.vl_top.specs.Program as model
 use Rattle.vl_top.specs.Program.{StopsBehind, input_limit}
 use Rattle.vl_top.specs.Run.{IsNamingCut}

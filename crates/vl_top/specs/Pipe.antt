@@ -1,5 +1,5 @@
 -- How a query ends.
-use Rattle.std.specs.Prelude.{◌≡◌, ◌⊎◌, ℕ, [], ◌∷◌}
+use Rattle.std.specs.Prelude.{◌≡◌, ◌⊎◌, ℕ, []}
 use Rattle.vl_io.specs.Change.{Change, IsTold}
 use Rattle.log_model.specs.Query.{Query}
 use Rattle.vl_top.specs.Program as model

@@ -1,6 +1,6 @@
-use Rattle.std.proofs.Common.{◌≡◌, ℕ, ◌<◌, take, flat_map, get_or}
+use Rattle.std.proofs.Common.{◌≡◌, take, flat_map}
 use Rattle.log_model.specs.Core.{parts_of}
-use Rattle.log_model.specs.History.{AreInOrder, rows_in}
+use Rattle.log_model.specs.History.{rows_in}
 use Rattle.log_model.specs.Print.{lines_text}
 use Rattle.log_model.specs.Query.{evaluation}
 use Rattle.vl_top.specs.Query.{meaning}

@@ -5,5 +5,6 @@ use Rattle.vl_top.proofs.intake.names_after.Given as goal
 
 abbrev pub invariant-loop-fault : goal.invariant-loop-fault
 invariant-loop-fault l =
-    (string_bytes l.text ++ names_after l.lines_before (drop l.fault-index l.refused) ≡ names_after l.lines_before l.refused)
+    (string_bytes l.text ++ names_after l.lines_before (drop l.fault-index l.refused)
+    ≡ names_after l.lines_before l.refused)
     × AllByRecursion (λ fault. l.lines_before + fault.line < 2 ^ 64) (drop l.fault-index l.refused)

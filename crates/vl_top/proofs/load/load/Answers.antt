@@ -1,4 +1,4 @@
-use Rattle.std.proofs.Common.{◌≤◌, length, Ok, Err, unsigned_abs, arith, FitsSigned, w64, ap, sym, subst, ◌∙◌}
+use Rattle.std.proofs.Common.{◌≤◌, length, Ok, Err, unsigned_abs, FitsSigned, w64, ap, sym, subst, ◌∙◌}
 use Rattle.std.proofs.lemmas.Int.{to_z-of_z}
 use Rattle.log_model.specs.Line.{lines_of}
 use Rattle.vl_top.specs.Load.{StopsLoad}
@@ -8,12 +8,15 @@ use Rattle.vl_top.proofs.load.load.Goals as goal
 pub returns-in_err-reader-clause-stopped : goal.returns-in_err-reader-clause-stopped
 returns-in_err-reader-clause-stopped g c =
     if_err c.from_residual.result _ _ c.from_residual.ensures.1
-    (λ interrupt is. subst (StopsLoad _ _ _) (sym is) (stops_unread (unsigned_abs c.args.now) (g.S.Source.left c.args.src.now) _ _ (g.E.Sink.written c.args.err.now) _ _))
+    (λ interrupt is. subst (StopsLoad _ _ _) (sym is)
+    (stops_unread (unsigned_abs c.args.now) (g.S.Source.left c.args.src.now) _ _
+    (g.E.Sink.written c.args.err.now) _ _))
 
 pub loop-reader-init : goal.loop-reader-init
 loop-reader-init g c =
     let fits : FitsSigned w64 c.args.now = c.ranges.now in
-    simp to_z-of_z (loading_starts (unsigned_abs c.args.now) _ _ _ _ c.in_ok-reader.reader c.args.shelf.now c.in_ok-reader.ensures c.requires.fresh)
+    simp to_z-of_z (loading_starts
+    (unsigned_abs c.args.now) _ _ _ _ c.in_ok-reader.reader c.args.shelf.now c.in_ok-reader.ensures c.requires.fresh)
 
 pub returns-in_err-advance-clause-stopped : goal.returns-in_err-advance-clause-stopped
 returns-in_err-advance-clause-stopped g c =
@@ -24,13 +27,16 @@ returns-in_err-advance-clause-stopped g c =
     (λ interrupt is. subst (StopsLoad _ _ _) (sym is)
     (stops_reading (unsigned_abs c.args.now) _ _ _ _ _ _ _ _ _ _ c.loop-reader.reader c.loop-reader.shelf c.loop-reader.lines l
     (still_open c.loop-reader.reader.ended _ _ (λ same. cc) advance.idle) c.in_err-advance.field-0.0
-    (λ is_long. advance.long (ap Err is_long)) (λ not_long. advance.short (λ is_long. not_long (let same = is_long in cc))) (λ failed. advance.failed (ap Err failed))))
+    (λ is_long. advance.long (ap Err is_long))
+    (λ not_long. advance.short (λ is_long. not_long (let same = is_long in cc)))
+    (λ failed. advance.failed (ap Err failed))))
 
 pub take_group-requires-clause-lines : goal.take_group-requires-clause-lines
 take_group-requires-clause-lines g c =
     let advance = c.in_ok-advance.ensures in
     subst (λ body. length (lines_of body) ≤ 1000) (sym c.group.ensures)
-    (lines_at_most c.advance.new.self (advance.read.2.lines ∙ c.loop-reader.invariant.group_lines) (advance.group (ap Ok c.if-branch.true)))
+    (lines_at_most c.advance.new.self (advance.read.2.lines ∙ c.loop-reader.invariant.group_lines)
+    (advance.group (ap Ok c.if-branch.true)))
 
 pub returns-in_err-take_group-clause-stopped : goal.returns-in_err-take_group-clause-stopped
 returns-in_err-take_group-clause-stopped g c =
@@ -42,7 +48,8 @@ returns-in_err-take_group-clause-stopped g c =
     if_err c.from_residual-in_err-take_group.result _ _ c.from_residual-in_err-take_group.ensures.1
     (λ interrupt is. subst (StopsLoad _ _ _) (sym is)
     (stops_at_group (unsigned_abs c.args.now) _ _ _ _ _ _ _ _ _ _ _ _ c.loop-reader.reader c.advance.new.self c.loop-reader.shelf c.take_group.new.shelf c.loop-reader.lines
-    l goes_on (advance.read.0, advance.read.1, advance.read.2) advance.ahead (advance.group (ap Ok c.if-branch.true)) (advance.ended goes_on) c.in_err-take_group.field-0.0 stopped))
+    l goes_on (advance.read.0, advance.read.1, advance.read.2) advance.ahead (advance.group (ap Ok c.if-branch.true))
+    (advance.ended goes_on) c.in_err-take_group.field-0.0 stopped))
 
 pub loop-reader-smaller : goal.loop-reader-smaller
 loop-reader-smaller g c =
@@ -58,7 +65,8 @@ loop-reader-preserved g c =
     let taken = rw c.group.ensures at (simp to_z-of_z at c.in_ok-take_group.ensures.taken) in
     simp to_z-of_z (
     loading_more (unsigned_abs c.args.now) _ _ _ _ _ _ _ _ _ _ _ _ c.loop-reader.reader c.advance.new.self c.loop-reader.shelf c.take_group.new.shelf c.loop-reader.lines
-    l goes_on (advance.read.0, advance.read.1, advance.read.2) advance.ahead (advance.group (ap Ok c.if-branch.true)) (advance.ended goes_on)
+    l goes_on (advance.read.0, advance.read.1, advance.read.2) advance.ahead (advance.group (ap Ok c.if-branch.true))
+    (advance.ended goes_on)
     advance.faults c.in_ok-take_group.ensures.faults (taken.0, taken.1, taken.2)
     )
 

@@ -5,7 +5,8 @@ use Rattle.vl_top.proofs.load.load.Given as goal
 
 abbrev pub invariant-loop-reader : goal.invariant-loop-reader
 invariant-loop-reader g l =
-    Loading (unsigned_abs l.now) (change_of g.S.Source.left g.S.Source.faults l.initial.src l.src) (change_of g.E.Sink.written g.E.Sink.faults l.initial.err l.err)
+    Loading (unsigned_abs l.now) (change_of g.S.Source.left g.S.Source.faults l.initial.src l.src)
+    (change_of g.E.Sink.written g.E.Sink.faults l.initial.err l.err)
     l.reader l.shelf l.lines
 
 abbrev pub decreases-loop-reader : goal.decreases-loop-reader

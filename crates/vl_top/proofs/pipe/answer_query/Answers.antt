@@ -7,9 +7,11 @@ use Rattle.vl_top.proofs.pipe.answer_query.Goals as goal
 
 pub returns-in-Err-clause-ends : goal.returns-in-Err-clause-ends
 returns-in-Err-clause-ends g c =
-    let fits : FitsSigned w64 c.now-now.result = fits_signed_from_abs w64 c.now-now.result c.now-now.ensures.in_range.0 in (
+    let fits : FitsSigned w64 c.now-now.result =
+    fits_signed_from_abs w64 c.now-now.result c.now-now.ensures.in_range.0 in (
       unsigned_abs c.now-now.result,
       FirstTold-from_one _ _ _ c.now-now.ensures.told,
-      reported (unsigned_abs c.now-now.result) _ _ _ _ _ _ _ (meaning c.args.query.now) _ c.in-Err.interrupt c.report_interrupt.result c.in-Err.ensures.faults
+      reported (unsigned_abs c.now-now.result) _ _ _ _ _ _ _
+          (meaning c.args.query.now) _ c.in-Err.interrupt c.report_interrupt.result c.in-Err.ensures.faults
           (simp to_z-of_z at c.in-Err.ensures.stopped) c.report_interrupt.ensures,
     )

@@ -10,7 +10,9 @@ returns-clause-bytes c =
     let inside = c.self.inside in
     let here : drop inside.at inside.bytes.items ≡ left = ap (λ s. s.left) c.self.view_is in
     let read = c.copy_front-count in
-    let count : read.result ≡ min (min (slice_index_or inside.pieces.items inside.calls room) room) (length left) = grind (arith, common_steps) in (
-      piece_taken left inside.bytes.items _ inside.at read.result here (rw c.deref-3.ensures.value at read.ensures.copied),
+    let count : read.result ≡ min (min (slice_index_or inside.pieces.items inside.calls room) room) (length left) =
+    grind (arith, common_steps) in (
+      piece_taken left inside.bytes.items _ inside.at read.result here
+          (rw c.deref-3.ensures.value at read.ensures.copied),
       λ none some. nothing_left left inside.bytes.items inside.pieces.items inside.calls inside.at room read.result here c.self.invariant.1 (omega arith) count none,
     )
