@@ -1,5 +1,6 @@
 -- When a batch is not committed.
-use Rattle.std.specs.Prelude.{◌≡◌, ℕ, ◌-◌, ◌^◌, ◌==◌, List, length, codes, decimal, ◌++◌, Option, Some, None, if◌then◌else◌}
+use Rattle.std.specs.Prelude.{◌≡◌, ℕ, ◌-◌, ◌^◌, ◌==◌, List, length, codes, decimal, ◌++◌, Option, Some, None}
+use Rattle.std.specs.Prelude.{if◌then◌else◌}
 use Rattle.log_model.specs.Core.{Contents, count_of, held_limit}
 use Rattle.log_core.specs.declared.fault.CommitFault.{CommitFault}
 use Rattle.log_core.specs.declared.fault.CommitFault.TheVariants.{Full, Spent, Memory}
@@ -12,9 +13,9 @@ commit_fault held =
     else None)
 
 -- A part is refused for what stands against it, and is handed back. Where nothing does, memory ran out.
-abbrev pub IsRefused : {P : Type 0} → Option CommitFault → P → CommitFault × Option P → Type 0
-IsRefused (Some fault) part refusal = (refusal.0 ≡ fault) × (refusal.1 ≡ Some part)
-IsRefused None part refusal = refusal.0 ≡ Memory
+abbrev pub IsPartRefused : {P : Type 0} → Option CommitFault → P → CommitFault × Option P → Type 0
+IsPartRefused (Some fault) part refusal = (refusal.0 ≡ fault) × (refusal.1 ≡ Some part)
+IsPartRefused None part refusal = refusal.0 ≡ Memory
 
 -- how a fault prints
 abbrev pub fault_text : CommitFault → List ℕ

@@ -1,9 +1,11 @@
-ghost use Rattle.std.specs.Prelude.{◌≡◌, ◌+◌, ◌++◌, ◌^◌, ◌<◌, length, IfNone, None, OnErr, OnOk, IfErr, IfOk, [], ◌∷◌, map};
+ghost use Rattle.std.specs.Prelude.{◌≡◌, ◌+◌, ◌++◌, ◌^◌, ◌<◌, length, IfNone, None, OnErr, OnOk, IfErr, IfOk, []};
+ghost use Rattle.std.specs.Prelude.{◌∷◌, map};
 ghost use Rattle.std.specs.Arc.{arc_value};
-ghost use Rattle.log_model.specs.Core.{Goes, Stands, StandsAfterAll, after, commit, count_of, held_limit, look, nothing, with_part};
+ghost use Rattle.log_model.specs.Core.{Goes, Stands, StandsAfterAll, after, commit, count_of, held_limit, look};
+ghost use Rattle.log_model.specs.Core.{nothing, with_part};
 ghost use Rattle.log_model.specs.History.{AreBatch, AreRowsOf, Entry, History, entry_rows};
 ghost use Rattle.log_core.specs.Shared.{parts_in};
-ghost use Rattle.log_core.specs.Faults.{IsRefused, commit_fault};
+ghost use Rattle.log_core.specs.Faults.{IsPartRefused, commit_fault};
 
 use crate::fault::CommitFault;
 use crate::snapshot::Snapshot;
@@ -63,7 +65,7 @@ impl<P: Held> Shelf<P> {
 
         // A batch is refused exactly where something stands against it, or for memory.
         ensures accepted { OnOk result (commit_fault self.old ≡ None) }
-        ensures refused { IfErr result (IsRefused (commit_fault self.old) part) }
+        ensures refused { IfErr result (IsPartRefused (commit_fault self.old) part) }
         ensures err { OnErr result (self.new ≡ self.old) }
     {
         if let Some(fault) = self.fault() {
@@ -167,7 +169,6 @@ fn copied<P: Drop>(alloc: Global, parts: &[Arc<P>]) -> Result<Vec<Arc<P>>, Alloc
 /// Over every list of steps, of any callers, the shelf stands for the history of the batches that were committed. The
 /// steps are those of which `Shelf::commit` and `Shelf::look` say that they happen. This function does nothing: its
 /// contract is the law.
-
 pub fn stands_after_all<P: Held>()
     ensures { StandsAfterAll P.numbered }
 {}

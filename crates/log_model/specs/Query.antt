@@ -1,5 +1,6 @@
 -- Queries (LogsQL reference), as far as they are built: every row, or the rows whose message has a word.
-use Rattle.std.specs.Prelude.{ℕ, Bool, true, not, ◌&&◌, ◌||◌, List, map, filter, bytes_eq, codes, Option, Some, None, if◌then◌else◌}
+use Rattle.std.specs.Prelude.{ℕ, Bool, true, not, ◌&&◌, ◌||◌, List, map, filter, bytes_eq, codes, Option, Some, None}
+use Rattle.std.specs.Prelude.{if◌then◌else◌}
 use Rattle.std.specs.Str.{str_to_ascii_lowercase}
 use Rattle.log_model.specs.Field.{Field}
 use Rattle.log_model.specs.Row.{Row, value_of, record_of}

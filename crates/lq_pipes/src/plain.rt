@@ -5,7 +5,7 @@ ghost use Rattle.log_model.specs.Row.{record_of};
 
 use std::alloc::{AllocError, Global};
 use stream_label::{label_text, push_quoted, stream_id};
-use time_text::write_moment;
+use time_text::plain::write_moment;
 use vl_row::{Field, FieldList, Row, Text};
 
 /// Appends the row's record as one JSON object with its keys in byte order, and a line feed.

@@ -20,7 +20,7 @@ use vl_row::Text;
 
 /// Appends the moment `time`, in nanoseconds since 1970-01-01T00:00:00Z, as RFC 3339 text:
 /// `2024-05-01T10:00:00.5Z`, with no zeros at the fraction's end and no fraction for a whole
-/// second. Where memory is wanting, `out` stays as it was.
+/// second. If allocation fails, `out` is unchanged.
 pub fn write_moment(alloc: Global, time: i64, out: &mut Text) -> Result<(), AllocError>
     requires { pos 0 ≤ℤ time }
     ensures ok { OnOk result (out.new ≡ out.old ++ moment_text (unsigned_abs time)) }

@@ -30,7 +30,7 @@ impl Model for Date {
 }
 
 /// Appends the moment `time`, in nanoseconds since 1970-01-01T00:00:00Z, as RFC 3339 text, as
-/// [`crate::write_moment`] does. Where memory is wanting, `out` stays as it was.
+/// [`crate::write_moment`] does. If allocation fails, `out` is unchanged.
 pub fn write_moment(alloc: Global, time: i64, out: &mut Text) -> Result<(), AllocError>
     requires { pos 0 ≤ℤ time }
     ensures ok { OnOk result (out.new ≡ out.old ++ spec.moment_text (unsigned_abs time)) }

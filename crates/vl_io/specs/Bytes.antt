@@ -1,6 +1,7 @@
 -- What reads and writes do to the bytes that are left in a source and written to a sink.
 -- `None` stands for an object that does not tell them: it says nothing, and does not begin to tell.
-use Rattle.std.specs.Prelude.{◌≡◌, ℕ, ◌<◌, ◌≤◌, List, [], ◌++◌, length, take, Option, None, Some, Result, IfOk, MatchResult, ⊤}
+use Rattle.std.specs.Prelude.{◌≡◌, ℕ, ◌<◌, ◌≤◌, List, [], ◌++◌, length, take, Option, None, Some, Result, IfOk}
+use Rattle.std.specs.Prelude.{MatchResult, ⊤}
 
 -- what was left begins with these bytes, and what is left now comes after them
 abbrev pub Consumes : Option (List ℕ) → Option (List ℕ) → List ℕ → Type 0

@@ -1,6 +1,6 @@
 -- What a call does to an object of the outside. Of a source the bytes are those that are left in it, of a sink those
 -- that were written to it. An object need not tell its bytes.
-use Rattle.std.specs.Prelude.{ℕ, ◌<◌, ◌⊎◌, List, ◌++◌, length, take, Option}
+use Rattle.std.specs.Prelude.{◌≡◌, ℕ, ◌<◌, ◌⊎◌, List, ◌++◌, length, take, Option}
 use Rattle.vl_io.specs.Bytes.{Appends, Consumes, IsAtEnd}
 use Rattle.vl_io.specs.Faults.{Rose}
 
@@ -34,6 +34,10 @@ IsSpent source = IsAtEnd source.bytes_after
 -- the sink took this text
 abbrev pub Took : Change → List ℕ → Type 0
 Took sink text = Appends sink.bytes_before sink.bytes_after text
+
+-- nothing was written to the sink
+abbrev pub IsUntold : Change → Type 0
+IsUntold sink = sink.bytes_after ≡ sink.bytes_before
 
 -- The sink took `sure`, and of the text behind it a proper prefix alone, since it failed.
 pub record IsCut (sink : Change) (sure text : List ℕ) : Type 0 where

@@ -1,5 +1,6 @@
 -- The forms of the outside in memory, as callers see them. Calls are numbered from 0. A count ends at 2^64 - 1.
-use Rattle.std.specs.Prelude.{ℕ, zero, suc, ◌+◌, ◌-◌, ◌^◌, min, ℤ, pos, unsigned_abs, List, [], ◌∷◌, ◌++◌, length, slice_index_or, nat_lt, Option, Some, None, if◌then◌else◌}
+use Rattle.std.specs.Prelude.{ℕ, zero, suc, ◌+◌, ◌-◌, ◌^◌, min, ℤ, pos, unsigned_abs, List, [], ◌∷◌, ◌++◌, length}
+use Rattle.std.specs.Prelude.{slice_index_or, nat_lt, Option, Some, None, if◌then◌else◌}
 
 -- one more, as far as a count goes
 abbrev pub counted : ℕ → ℕ

@@ -1,8 +1,10 @@
 //! Reading a source in groups of lines.
-ghost use Rattle.std.specs.Prelude.{◌≡◌, ◌≢◌, ℕ, ◌+◌, ◌++◌, ◌-◌, ◌<◌, ◌≤◌, List, [], IfOk, IfErr, OnOk, OnErr, length, take, true, false, vec_len, count_by, max};
+ghost use Rattle.std.specs.Prelude.{◌≡◌, ◌≢◌, ℕ, ◌+◌, ◌++◌, ◌-◌, ◌<◌, ◌≤◌, List, [], IfOk, IfErr, OnOk, OnErr};
+ghost use Rattle.std.specs.Prelude.{length, take, true, false, vec_len, count_by, max};
 ghost use Rattle.vl_io.specs.Bytes.{AddsPiece, Consumes, IsAtEnd};
 ghost use Rattle.vl_io.specs.Faults.{Rose};
-ghost use Rattle.vl_io.specs.Lines.{Advances, AreFewer, AreLines, FallsShort, IsGroup, IsLinesEnd, IsOver, IsTooLong, is_feed, piece_len};
+ghost use Rattle.vl_io.specs.Lines.{Advances, AreFewer, AreLines, FallsShort, IsGroup, IsLinesEnd, IsOver, IsTooLong};
+ghost use Rattle.vl_io.specs.Lines.{is_feed, piece_len};
 
 use crate::outside::Source;
 use crate::transfer::{ReadFault, piece_buffer, read_piece};

@@ -1,5 +1,6 @@
 //! A source, a sink and a clock in memory, which tell all that they give and take.
-ghost use Rattle.std.specs.Prelude.{◌≡◌, ◌↔◌, ◌<◌, ◌≤◌, ◌++◌, [], All, Contains, IfOk, IsErr, OnErr, OnOk, Some, drop, length, min, take};
+ghost use Rattle.std.specs.Prelude.{◌≡◌, ◌↔◌, ◌<◌, ◌≤◌, ◌++◌, [], All, Contains, IfOk, IsErr, OnErr, OnOk, Some};
+ghost use Rattle.std.specs.Prelude.{drop, length, min, take};
 ghost use Rattle.vl_io.specs.Bytes.{ReadConsumes, TakesSome, WriteAppends};
 ghost use Rattle.vl_io.specs.Faults.{HasCause};
 ghost use Rattle.vl_io.specs.Memory.{counted, moment_at, moments_told, read_count};

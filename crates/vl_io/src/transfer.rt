@@ -1,5 +1,6 @@
 //! Whole transfers, over single reads and writes.
-ghost use Rattle.std.specs.Prelude.{◌≡◌, ◌≢◌, ◌+◌, ℕ, ◌<◌, ◌≤◌, List, [], IfOk, OnErr, OnOk, length, take, true, false, vec_len};
+ghost use Rattle.std.specs.Prelude.{◌≡◌, ◌≢◌, ◌+◌, ℕ, ◌<◌, ◌≤◌, List, [], IfOk, OnErr, OnOk, length, take, true};
+ghost use Rattle.std.specs.Prelude.{false, vec_len};
 ghost use Rattle.vl_io.specs.Bytes.{AddsPiece, Appends, Consumes, IsAtEnd};
 ghost use Rattle.vl_io.specs.Faults.{HasCause, Rose};
 ghost use Rattle.vl_io.specs.Lines.{piece_len};

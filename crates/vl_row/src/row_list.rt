@@ -1,5 +1,6 @@
 ghost use Rattle.std.specs.Prelude.{◌≡◌, IfOk, length};
-ghost use Rattle.log_model.specs.History.{AreBatch, AreInOrder, AreOfOneBatch, AreRowsOf, numbered_in, rows_in, with_batch};
+ghost use Rattle.log_model.specs.History.{AreBatch, AreInOrder, AreOfOneBatch, AreRowsOf, numbered_in, rows_in};
+ghost use Rattle.log_model.specs.History.{with_batch};
 ghost use Rattle.log_model.specs.Row.{batch_weight};
 
 use crate::batch::Batch;

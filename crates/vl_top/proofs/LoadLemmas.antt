@@ -6,7 +6,7 @@ use Rattle.std.specs.Prelude.{IfErr, IsErrAnd, Result, count_by}
 use Rattle.vl_io.specs.Bytes.{Appends, Consumes, IsAtEnd}
 use Rattle.vl_io.specs.Change.{Change, Gave, IsCut, IsSpent, Took}
 use Rattle.vl_io.specs.Faults.{Rose}
-use Rattle.vl_io.specs.Lines.{Advances, AreFewer, FallsShort, IsGroup, IsOver, IsTooLong, Reading, bytes_read, is_feed, piece_len}
+use Rattle.vl_io.specs.Lines.{Advances, AreFewer, AreLines, FallsShort, IsGroup, IsOver, IsTooLong, Reading, bytes_read, is_feed, piece_len}
 use Rattle.vl_io.proofs.Laws.{Appends-nil, Appends-trans, Consumes-nil, Consumes-trans, Rose-earlier}
 use Rattle.log_model.specs.Core.{Contents}
 use Rattle.log_model.specs.History.{Numbered}
@@ -16,7 +16,8 @@ use Rattle.log_model.proofs.Lines.{lines_le, lines_of-none}
 use Rattle.ingest_row.specs.Intake.{Outcome, rows_read}
 use Rattle.vl_top.specs.Groups.{AreGroups, BeginsWith, CanBeHeld, EndsLine, HasOutcome, HaveOutcomes, batches_of, outcomes_in, refusals_from, refusals_of}
 use Rattle.vl_top.specs.Program as model
-use Rattle.vl_top.specs.Program.{AreFew, HaveNoGroup, IsBeyond, IsCause, StopsBehind, input_limit}
+use Rattle.vl_top.specs.Program.{AreFew, HaveNoGroup, IsBeyond, IsCause, StopsBehind}
+use Rattle.vl_top.specs.Groups.{input_limit}
 use Rattle.vl_top.specs.Load.{IsHeld, IsLoaded, IsTooMuch, StopsGroup, StopsLoad, StopsUntold, TakesGroup}
 use Rattle.vl_top.specs.Interrupt.{limit_of, interrupt_at}
 use Rattle.vl_io.specs.declared.transfer.ReadFault.{ReadFault}
@@ -176,12 +177,13 @@ fits_more shelf groups group fits light held = record {
 
 -- whole groups, and whatever comes behind them
 begins_whole : (now : ℕ) (source : Change) (taken rest : List ℕ) (groups : List (List Outcome)) → Gave source
-    (taken ++ rest) → EndsLine taken → AreWhole groups
+    (taken ++ rest) → length taken ≤ input_limit → EndsLine taken → AreWhole groups
     → HaveOutcomes now taken (outcomes_in groups) → BeginsWith now source groups
-begins_whole now source taken rest groups gave ends whole given = record {
+begins_whole now source taken rest groups gave within ends whole given = record {
   taken = taken;
   rest = rest;
   gave = gave;
+  within = within;
   whole = inl ends;
   given = given;
   grouped = AreGroups-whole groups ((rest ≡ []) × IsSpent source) whole;
@@ -267,7 +269,7 @@ module _ (now : ℕ) (left0 left1 left2 : Option (List ℕ)) (s0 s1 s2 : ℕ) (e
       (change left0 left2 s0 s2) l.groups
   begins_before l goes_on advanced =
       begins_whole now (change left0 left2 s0 s2) l.taken (next.group ++ next.ahead) l.groups (gave_more l advanced)
-      (l.open_ends goes_on) (l.open_whole goes_on) l.given
+      (omega (arith, l.passed, l.within)) (l.open_ends goes_on) (l.open_whole goes_on) l.given
 
   -- the input with the next group
   begins_with : (l : Before) → reader.ended ≡ false → Advanced left1 left2 reader next → IsGroup next
@@ -280,6 +282,15 @@ module _ (now : ℕ) (left0 left1 left2 : Option (List ℕ)) (s0 s1 s2 : ℕ) (e
         taken = l.taken ++ next.group;
         rest = next.ahead;
         gave = gave_group l advanced;
+        within = omega (
+          arith,
+          advanced.2.within,
+          advanced.2.limit,
+          l.limit,
+          advanced.2.passed,
+          l.passed,
+          length-append l.taken next.group,
+        );
         whole = ends next.ended size.open_ends at_end;
         given = intake-more now l.taken next.group l.groups group (l.open_ends goes_on) l.given given;
         grouped = AreGroups-more l.groups group ((next.ahead ≡ []) × IsAtEnd left2)
@@ -306,9 +317,9 @@ module _ (now : ℕ) (left0 left1 left2 : Option (List ℕ)) (s0 s1 s2 : ℕ) (e
     short = short;
   }
     where
-      feeds : IsGroup next → count_by is_feed next.group ≤ 1000
-      feeds (inl whole) = omega (arith, whole.feeds, advanced.2.lines, l.group_lines)
-      feeds (inr few) = omega (arith, few.1, advanced.2.lines, l.group_lines)
+      feeds : IsGroup next → HaveNoGroup next.group ⊎ AreLines 1000 next.group
+      feeds (inl whole) = inr (subst (λ n. AreLines n next.group) (advanced.2.lines ∙ l.group_lines) whole)
+      feeds (inr few) = let fewer : HaveNoGroup next.group = omega (arith, few.1, advanced.2.lines, l.group_lines) in inl fewer
 
   -- the run stops at the next group
   pub stops_at_group : (l : Before) → reader.ended ≡ false → Advanced left1 left2 reader next
@@ -378,7 +389,7 @@ module _ (now : ℕ) (left0 left1 left2 : Option (List ℕ)) (s0 s1 s2 : ℕ) (e
       begins_whole now Source l.taken (reader.ahead ++ piece) l.groups
       (subst (Consumes left0 left2) (append_assoc l.taken reader.ahead piece)
       (Consumes-trans left0 left1 left2 _ _ l.gave consumed))
-      (l.open_ends goes_on) (l.open_whole goes_on) l.given
+      (omega (arith, l.passed, l.within)) (l.open_ends goes_on) (l.open_whole goes_on) l.given
 
   no_group : (l : Until) → (piece : List ℕ) → AreFewer reader.lines (reader.ahead ++ piece) → HaveNoGroup
       (reader.ahead ++ piece)
@@ -390,7 +401,7 @@ module _ (now : ℕ) (left0 left1 left2 : Option (List ℕ)) (s0 s1 s2 : ℕ) (e
     group = reader.ahead ++ piece;
     ahead = [];
     parts = sym (append_nil (reader.ahead ++ piece));
-    lines = omega (arith, fewer, l.group_lines);
+    lines = inl (no_group l piece fewer);
     short = omega arith;
   }
 
@@ -400,7 +411,7 @@ module _ (now : ℕ) (left0 left1 left2 : Option (List ℕ)) (s0 s1 s2 : ℕ) (e
     group = reader.ahead ++ piece;
     ahead = more;
     parts = sym (append_assoc reader.ahead piece more);
-    lines = omega (arith, fewer, l.group_lines);
+    lines = inl (no_group l piece fewer);
     short = omega arith;
   }
 
@@ -502,6 +513,7 @@ module _ (now : ℕ) (left0 left1 left2 : Option (List ℕ)) (s0 s1 s2 : ℕ) (e
         begins = record {
           taken = l.taken;
           rest = [];
+          within = omega (arith, l.passed, l.within);
           gave = subst (Consumes left0 left2) all (Consumes-trans left0 left1 left2 _ _ l.gave advanced.1);
           whole = ends_all reader.ended l.taken [] l.open_ends refl end;
           given = l.given;
@@ -509,7 +521,6 @@ module _ (now : ℕ) (left0 left1 left2 : Option (List ℕ)) (s0 s1 s2 : ℕ) (e
         };
         all = refl;
         spent = end;
-        within = omega (arith, l.passed, l.within);
         fits = l.fits;
         holding = l.held;
         named = l.named;
@@ -525,12 +536,13 @@ stops_unread now left s0 s1 err f0 f1 = record {
       taken = [];
       rest = [];
       gave = Consumes-nil left;
+      within = omega arith;
       whole = inl (inl refl);
       given = subst (λ ls. AllZip (HasOutcome now) ls []) (sym lines_of-none) tt;
       grouped = tt;
     };
     fits = record { few = omega arith; light = tt };
-    few = record { group = []; ahead = []; parts = refl; lines = omega arith; short = omega arith };
+    few = record { group = []; ahead = []; parts = refl; lines = inl (let none : count_by is_feed [] < 1000 = omega arith in none); short = omega arith };
     cause = tt;
   };
   named = Appends-nil err;

@@ -1,7 +1,9 @@
 -- From the input to the answer.
-use Rattle.std.proofs.Common.{◌≡◌, inl, inr, ℕ, ◌≤◌, List, [], ◌++◌, flat_map, take, Option, All, refl, sym, ap, subst, ◌∙◌, arith}
+use Rattle.std.proofs.Common.{◌<◌, ◌≡◌, inl, inr, ℕ, ◌≤◌, List, [], ◌++◌, flat_map, take, Option, All, refl, sym, ap, subst, ◌∙◌, arith}
 use Rattle.vl_io.specs.Bytes.{Appends}
-use Rattle.vl_io.specs.Change.{Change, Gave, IsCut, IsTold, Took}
+use Rattle.vl_io.specs.Change.{Change, Gave, IsCut, IsTold, IsUntold, Took}
+use Rattle.vl_io.specs.Lines.{is_feed}
+use Rattle.std.specs.Prelude.{count_by}
 use Rattle.vl_io.proofs.Laws.{Appends-trans, Rose-earlier}
 use Rattle.log_model.specs.Core.{Contents, parts_of}
 use Rattle.log_model.specs.History.{AreInOrder, Numbered, rows_in}
@@ -28,7 +30,7 @@ module _ (query : Query) (now : ℕ) (source output errors : Change) (shelf snap
       (evaluation query (flat_map rows_in (parts_of snapshot)))
       → All AreInOrder (parts_of snapshot) → IsAnswer query now l.begins.taken text (refusals_of l.groups)
   answer l same is ordered = record {
-    within = l.within;
+    within = l.begins.within;
     groups = l.groups;
     intake = l.begins.given;
     grouped = AreGroups-weaken l.groups _ (Unit {0}) (λ _. tt) l.begins.grouped;
@@ -85,20 +87,11 @@ stops_loaded now source errors shelf l = record {
     begins = l.begins;
     fits = l.fits;
     few = subst AreFew (sym l.all)
-        (record { group = []; ahead = []; parts = refl; lines = omega arith; short = omega arith });
+        (record { group = []; ahead = []; parts = refl; lines = inl (let none : count_by is_feed [] < 1000 = omega arith in none); short = omega arith });
     cause = tt;
   };
   named = l.named;
 }
-
--- loading stopped
-pub stops_pipe : (query : Query) (now : ℕ) (source output errors : Change) (interrupt : Interrupt)
-    → StopsLoad now source errors interrupt
-    → StopsPipe query now source output errors interrupt
-stops_pipe query now source output errors Unwritable h = inr h
-stops_pipe query now source output errors Unreadable h = h
-stops_pipe query now source output errors (Beyond limit) h = h
-stops_pipe query now source output errors NoMemory h = h
 
 module _ (now : ℕ) (source : Change) (err0 err1 err2 : Option (List ℕ)) (f0 f1 f2 : ℕ) where
   -- what is said after the names

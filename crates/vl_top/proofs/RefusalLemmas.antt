@@ -10,7 +10,7 @@ use Rattle.ingest_row.specs.Intake.{Outcome, passed_over, read, refused, refused
 use Rattle.ingest_row.specs.declared.body.LineFault.{LineFault}
 use Rattle.ingest_row.specs.declared.body.Intake.{Intake}
 use Rattle.vl_top.specs.declared.intake.Group.{Group}
-use Rattle.vl_top.specs.Groups.{HasOutcome, IsTaken, names_after, refusal_text, refusals_from}
+use Rattle.vl_top.specs.Groups.{HasOutcome, IsGroupTaken, names_after, refusal_text, refusals_from}
 
 -- no number of a line is beyond the lines
 numbers_fit : (before number : ℕ) (outcomes : List Outcome) → before + number + length outcomes ≤ 2 ^ 64
@@ -69,7 +69,7 @@ numbers now lines before intake outcomes given few =
 pub is_taken : (now : ℤ) (lines : List ℕ) (before : ℕ) (intake : Intake) (outcomes : List Outcome) (group : Group)
     → IsGiven now lines intake outcomes → group.rows.items ≡ intake.rows
     → string_bytes group.refusals ≡ names_after before intake.refused
-    → (all : List Outcome) × IsTaken (unsigned_abs now) lines before all group
+    → (all : List Outcome) × IsGroupTaken (unsigned_abs now) lines before all group
 is_taken now lines before intake outcomes group given rows named = (
   outcomes,
   record {

@@ -1,5 +1,6 @@
 -- What an input of the program gives: rows, in batches, and the names of its refused lines.
-use Rattle.std.specs.Prelude.{◌≡◌, ◌⊎◌, ℕ, ◌+◌, pos, ◌<◌, ◌≤◌, List, [], ◌∷◌, ◌++◌, length, flat_map, codes, decimal, string_bytes}
+use Rattle.std.specs.Prelude.{◌≡◌, ◌⊎◌, ℕ, ◌+◌, pos, ◌<◌, ◌≤◌, List, [], ◌∷◌, ◌++◌, length, flat_map, codes, decimal}
+use Rattle.std.specs.Prelude.{string_bytes}
 use Rattle.std.specs.List.{AllByRecursion, AllZip}
 use Rattle.vl_io.specs.Change.{Change, Gave, IsSpent}
 use Rattle.log_model.specs.Core.{held_limit}
@@ -55,17 +56,22 @@ pub record CanBeHeld (groups : List (List Outcome)) : Type 0 where
   pub few : length (batches_of groups) ≤ held_limit
   pub light : AllByRecursion (λ group. batch_weight (rows_read group) ≤ batch_limit) groups
 
+-- how many bytes an input may have
+abbrev pub input_limit : ℕ
+input_limit = 4_294_967_296
+
 -- nothing, or whole lines
 abbrev pub EndsLine : List ℕ → Type 0
 EndsLine bytes = (bytes ≡ []) ⊎ ((text : List ℕ) × (bytes ≡ text ++ 10 ∷ []))
 
--- The source gave the lines of these groups first. They are whole: only the last one of an input may lack its line
--- feed.
+-- The source gave the lines of these groups first, within the limit of an input. They are whole: only the last one of an
+-- input may lack its line feed.
 pub record BeginsWith (now : ℕ) (source : Change) (groups : List (List Outcome)) : Type 0 where
   pub taken : List ℕ
   -- what it gave behind them
   pub rest : List ℕ
   pub gave : Gave source (taken ++ rest)
+  pub within : length taken ≤ input_limit
   pub whole : EndsLine taken ⊎ ((rest ≡ []) × IsSpent source)
   pub given : HaveOutcomes now taken (outcomes_in groups)
   pub grouped : AreGroups groups ((rest ≡ []) × IsSpent source)
@@ -76,7 +82,7 @@ names_after before faults = flat_map (λ fault. refusal_text (before + fault.lin
 
 -- The lines of a group have these outcomes. These are its rows, and the text that names its refused lines, where so
 -- many lines came before.
-pub record IsTaken (now : ℕ) (body : List ℕ) (before : ℕ) (outcomes : List Outcome) (group : Group) : Type 0 where
+pub record IsGroupTaken (now : ℕ) (body : List ℕ) (before : ℕ) (outcomes : List Outcome) (group : Group) : Type 0 where
   pub given : HaveOutcomes now body outcomes
   pub rows : group.rows.items ≡ rows_read outcomes
   pub refusals : string_bytes group.refusals ≡ refusals_from (before + 1) outcomes

@@ -1,14 +1,14 @@
 -- What becomes of an input on its way into the shelf.
 use Rattle.std.specs.Prelude.{◌≡◌, ℕ, ◌+◌, ◌<◌, ◌≤◌, List, [], ◌++◌, length}
-use Rattle.vl_io.specs.Change.{Change, IsCut, IsSpent, Took}
+use Rattle.vl_io.specs.Change.{Change, IsCut, IsSpent, IsUntold, Took}
 use Rattle.log_model.specs.Core.{Contents, Stands, held_limit}
 use Rattle.log_model.specs.History.{History, Numbered, batches_in}
 use Rattle.log_model.specs.Row.{Batch, Row, batch_limit, batch_weight}
 use Rattle.ingest_row.specs.Intake.{Outcome, rows_read}
 use Rattle.vl_top.specs.Groups.{BeginsWith, CanBeHeld, HaveOutcomes, batch_of, batches_of, refusals_from, refusals_of}
 use Rattle.vl_top.specs.Program as model
-use Rattle.vl_top.specs.Program.{StopsBehind, input_limit}
-use Rattle.vl_top.specs.Run.{IsNamingCut}
+use Rattle.vl_top.specs.Program.{StopsBehind}
+use Rattle.vl_top.specs.Run.{IsNamingFault}
 use Rattle.vl_top.specs.Interrupt.{limit_of}
 use Rattle.vl_top.specs.declared.interrupt.Limit.{Limit}
 use Rattle.vl_top.specs.declared.interrupt.Limit.TheVariants.{Long, Large, Full}
@@ -47,10 +47,6 @@ pub record TakesGroup (now : ℕ) (body : List ℕ) (group : List Outcome)
   pub intake : HaveOutcomes now body group
   pub commits : CommitsRows old new (rows_read group)
 
--- nothing was written
-abbrev pub IsUntold : Change → Type 0
-IsUntold sink = sink.bytes_after ≡ sink.bytes_before
-
 -- why the run stops at a group, where so many lines came before
 abbrev pub StopsGroup : ℕ → List ℕ → ℕ → Contents (List Numbered) → Contents (List Numbered) → Change → Interrupt
     → Type 0
@@ -67,7 +63,6 @@ pub record IsLoaded (now : ℕ) (source errors : Change) (held : Contents (List 
   pub begins : BeginsWith now source groups
   pub all : begins.rest ≡ []
   pub spent : IsSpent source
-  pub within : length begins.taken ≤ input_limit
   pub fits : CanBeHeld groups
   pub holding : IsHeld held (batches_of groups)
   pub named : Took errors (refusals_of groups)
@@ -81,6 +76,6 @@ pub record StopsUntold (now : ℕ) (source errors : Change) (stop : model.Stop) 
 -- why the run stops while it loads
 abbrev pub StopsLoad : ℕ → Change → Change → Interrupt → Type 0
 StopsLoad now source errors Unreadable = StopsUntold now source errors model.unreadable
-StopsLoad now source errors Unwritable = IsNamingCut now source errors
+StopsLoad now source errors Unwritable = IsNamingFault now source errors
 StopsLoad now source errors (Beyond limit) = StopsUntold now source errors (model.beyond (limit_of limit))
 StopsLoad now source errors NoMemory = StopsUntold now source errors model.no_memory

@@ -1,6 +1,6 @@
 -- How a query ends.
 use Rattle.std.specs.Prelude.{◌≡◌, ◌⊎◌, ℕ, []}
-use Rattle.vl_io.specs.Change.{Change, IsTold}
+use Rattle.vl_io.specs.Change.{Change, IsTold, IsUntold}
 use Rattle.log_model.specs.Query.{Query}
 use Rattle.vl_top.specs.Program as model
 use Rattle.vl_top.specs.Program.{stop_text}
@@ -15,7 +15,7 @@ use Rattle.vl_top.specs.declared.interrupt.Interrupt.TheVariants.{Unreadable, Un
 -- why loading and answering stop, and what was written
 abbrev pub StopsPipe : Query → ℕ → Change → Change → Change → Interrupt → Type 0
 StopsPipe query now source output errors Unwritable =
-    IsAnswerCut query now source output errors ⊎ IsNamingCut now source errors
+    IsAnswerCut query now source output errors ⊎ IsNamingCut now source output errors
 StopsPipe query now source output errors Unreadable = StopsLoad now source errors Unreadable
 StopsPipe query now source output errors (Beyond limit) = StopsLoad now source errors (Beyond limit)
 StopsPipe query now source output errors NoMemory = StopsLoad now source errors NoMemory
@@ -23,7 +23,7 @@ StopsPipe query now source output errors NoMemory = StopsLoad now source errors 
 -- What is said of an interrupt, and the status that it gives. That a stream can't be written to is not said.
 abbrev pub ReportsInterrupt : Change → Interrupt → Status → Type 0
 ReportsInterrupt errors Unwritable status =
-    (status ≡ statuses.WriteFault) × (errors.bytes_after ≡ errors.bytes_before)
+    (status ≡ statuses.WriteFault) × IsUntold errors
     × (errors.faults_after ≡ errors.faults_before)
 ReportsInterrupt errors Unreadable status =
     (status ≡ statuses.ReadFault) × IsTold errors [] (stop_text model.unreadable)
@@ -39,7 +39,7 @@ EndsPipe query now source output errors statuses.QueryRefused = ⊥
 EndsPipe query now source output errors statuses.Usage = ⊥
 EndsPipe query now source output errors statuses.ReadFault = IsStopped now source errors model.unreadable
 EndsPipe query now source output errors statuses.WriteFault =
-    IsAnswerCut query now source output errors ⊎ IsNamingCut now source errors
+    IsAnswerCut query now source output errors ⊎ IsNamingCut now source output errors
 EndsPipe query now source output errors statuses.Limit =
     (limit : model.Limit) × IsStopped now source errors (model.beyond limit)
 EndsPipe query now source output errors statuses.NoMemory = IsStopped now source errors model.no_memory

@@ -1,14 +1,15 @@
 -- What the program is to do: its words, the texts that it writes, and the answer to an input.
-use Rattle.std.specs.Prelude.{◌≡◌, ℕ, ◌-◌, ◌<◌, ◌≤◌, List, [], ◌∷◌, ◌++◌, length, take, count_by, bytes_eq, codes, decimal, Option, Some, None, if◌then◌else◌}
+use Rattle.std.specs.Prelude.{◌≡◌, ℕ, ◌-◌, ◌⊎◌, ◌<◌, ◌≤◌, List, [], ◌∷◌, ◌++◌, length, take, count_by, bytes_eq, codes}
+use Rattle.std.specs.Prelude.{decimal, Option, Some, None, if◌then◌else◌}
 use Rattle.vl_io.specs.Change.{Change, HasFailed}
-use Rattle.vl_io.specs.Lines.{AreFewer, is_feed, piece_len}
+use Rattle.vl_io.specs.Lines.{AreFewer, AreLines, piece_len}
 use Rattle.log_model.specs.Core.{held_limit}
 use Rattle.log_model.specs.History.{History, batches_in, rows_of}
 use Rattle.log_model.specs.Print.{lines_text}
 use Rattle.log_model.specs.Query.{Query, evaluation, query_of}
 use Rattle.log_model.specs.Row.{batch_limit, batch_weight}
 use Rattle.ingest_row.specs.Intake.{Outcome, rows_read}
-use Rattle.vl_top.specs.Groups.{AreGroups, BeginsWith, CanBeHeld, HaveOutcomes, batches_of, outcomes_in, refusals_of}
+use Rattle.vl_top.specs.Groups.{AreGroups, BeginsWith, CanBeHeld, HaveOutcomes, batches_of, input_limit, outcomes_in, refusals_of}
 
 -- what the words ask for
 pub data Command : Type 0 where
@@ -21,10 +22,6 @@ command_of [] = None
 command_of (command ∷ []) = None
 command_of (command ∷ text ∷ []) = if bytes_eq command (codes "pipe") then Some (pipe text) else None
 command_of (command ∷ text ∷ word ∷ words) = None
-
--- how many bytes an input may have
-abbrev pub input_limit : ℕ
-input_limit = 4_294_967_296
 
 -- `answer` is what the query gives over the history of the batches that the input becomes, whoever made its entries,
 -- and `refusals` names the lines that are no rows.
@@ -63,7 +60,7 @@ pub record AreFew (bytes : List ℕ) : Type 0 where
   pub group : List ℕ
   pub ahead : List ℕ
   pub parts : bytes ≡ group ++ ahead
-  pub lines : count_by is_feed group ≤ 1000
+  pub lines : HaveNoGroup group ⊎ AreLines 1000 group
   pub short : length ahead ≤ piece_len
 
 -- The limit is met behind these groups, which are the first ones of the input. Of an input that is too long they are
@@ -106,11 +103,9 @@ stop_text unreadable = codes "read fault" ++ 10 ∷ []
 stop_text (beyond limit) = limit_text limit ++ 10 ∷ []
 stop_text no_memory = codes "no memory" ++ 10 ∷ []
 
--- the words are a command whose query is not one that is built
-pub record IsRefused (words : List (List ℕ)) : Type 0 where
-  pub text : List ℕ
-  pub is_command : command_of words ≡ Some (pipe text)
-  pub unspelled : query_of text ≡ None
+-- what the command asks for is not built
+abbrev pub IsUnspelled : Command → Type 0
+IsUnspelled (pipe text) = query_of text ≡ None
 
 abbrev pub refused_text : List ℕ
 refused_text = codes "query: NotBuilt" ++ 10 ∷ []

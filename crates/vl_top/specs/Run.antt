@@ -1,14 +1,15 @@
 -- What one run of the program does to the objects of the outside.
 use Rattle.std.specs.Prelude.{◌≡◌, ◌⊎◌, ◌↔◌, ℕ, ◌+◌, ◌≤◌, List, [], ◌∷◌, ◌++◌, length, Option, Some, None}
-use Rattle.vl_io.specs.Change.{Change, Gave, HasFailed, IsCut, IsSpent, IsTold, Took}
+use Rattle.vl_io.specs.Change.{Change, Gave, HasFailed, IsCut, IsSpent, IsTold, IsUntold, Took}
 use Rattle.vl_io.specs.Lines.{piece_len}
 use Rattle.vl_io.specs.Moments.{FirstTold}
 use Rattle.log_model.specs.Query.{Query, query_of}
 use Rattle.ingest_row.specs.Intake.{Outcome}
 use Rattle.vl_top.specs.Groups.{BeginsWith, CanBeHeld, outcomes_in, refusals_from, refusals_of}
-use Rattle.vl_top.specs.Status.{number_of}
+use Rattle.vl_top.specs.Status.{status_number}
 use Rattle.vl_top.specs.declared.status.Status.{Status}
-use Rattle.vl_top.specs.Program.{Command, pipe, IsAnswer, IsRefused, Limit, Stop, unreadable, beyond, no_memory, StopsBehind, command_of, refused_text, stop_text, usage_text}
+use Rattle.vl_top.specs.Program.{Command, pipe, IsAnswer, IsUnspelled, Limit, Stop, unreadable, beyond, no_memory}
+use Rattle.vl_top.specs.Program.{StopsBehind, command_of, refused_text, stop_text, usage_text}
 
 -- a run: what the words are, what it does to each object, what the clock gave before and after, and the status
 pub record Run : Type 0 where
@@ -44,13 +45,18 @@ pub record IsAnswerCut (query : Query) (now : ℕ) (source output errors : Chang
   pub named : Took errors refusals
 
 -- The error stream failed while the refused lines of a group were named, right after it was taken in.
-pub record IsNamingCut (now : ℕ) (source errors : Change) : Type 0 where
+pub record IsNamingFault (now : ℕ) (source errors : Change) : Type 0 where
   pub groups : List (List Outcome)
   pub group : List Outcome
   pub begins : BeginsWith now source (groups ++ group ∷ [])
   pub fits : CanBeHeld (groups ++ group ∷ [])
   pub short : length begins.rest ≤ piece_len
   pub named : IsCut errors (refusals_of groups) (refusals_from (length (outcomes_in groups) + 1) group)
+
+-- The error stream failed so, and nothing was written to the output.
+pub record IsNamingCut (now : ℕ) (source output errors : Change) : Type 0 where
+  pub fault : IsNamingFault now source errors
+  pub unwritten : IsUntold output
 
 -- Groups were taken in and their refused lines named. Then the run stopped, and says why.
 pub record IsStopped (now : ℕ) (source errors : Change) (stop : Stop) : Type 0 where
@@ -74,7 +80,7 @@ IsDone run (pipe text) = ForQuery run text (λ query now. IsAnswered query now r
 abbrev pub IsCutShort : Run → Command → Type 0
 IsCutShort run (pipe text) =
     ForQuery run text
-    (λ query now. IsAnswerCut query now run.source run.output run.errors ⊎ IsNamingCut now run.source run.errors)
+    (λ query now. IsAnswerCut query now run.source run.output run.errors ⊎ IsNamingCut now run.source run.output run.errors)
 
 -- the command stopped for this cause
 abbrev pub HasStopped : Run → Stop → Command → Type 0
@@ -90,13 +96,13 @@ IsAsked run (pipe text) = (query : Query) × (query_of text ≡ Some query)
 
 -- the statuses that there are
 abbrev pub IsStatus : ℕ → Type 0
-IsStatus number = (status : Status) × (number ≡ number_of status)
+IsStatus number = (status : Status) × (number ≡ status_number status)
 
 -- What each status says. Want of memory alone, 9, is free.
 pub record IsRun (run : Run) : Type 0 where
   -- the answer is the naive evaluation of the query over the batches that the input is
   pub done : run.status ≡ 0 → ForCommand run (IsDone run)
-  pub refused : (run.status ≡ 1) ↔ IsRefused run.words
+  pub refused : (run.status ≡ 1) ↔ ForCommand run IsUnspelled
   pub usage : (run.status ≡ 2) ↔ (command_of run.words ≡ None)
   pub read_fault : run.status ≡ 3 → ForCommand run (HasStopped run unreadable)
   pub write_fault : run.status ≡ 4 → ForCommand run (IsCutShort run)

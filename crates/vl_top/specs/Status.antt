@@ -1,13 +1,14 @@
 -- The statuses as numbers.
 use Rattle.std.specs.Prelude.{ℕ}
 use Rattle.vl_top.specs.declared.status.Status.{Status}
-use Rattle.vl_top.specs.declared.status.Status.TheVariants.{Done, QueryRefused, Usage, ReadFault, WriteFault, Limit, NoMemory}
+use Rattle.vl_top.specs.declared.status.Status.TheVariants.{Done, QueryRefused, Usage, ReadFault, WriteFault, Limit}
+use Rattle.vl_top.specs.declared.status.Status.TheVariants.{NoMemory}
 
-abbrev pub number_of : Status → ℕ
-number_of Done = 0
-number_of QueryRefused = 1
-number_of Usage = 2
-number_of ReadFault = 3
-number_of WriteFault = 4
-number_of Limit = 8
-number_of NoMemory = 9
+abbrev pub status_number : Status → ℕ
+status_number Done = 0
+status_number QueryRefused = 1
+status_number Usage = 2
+status_number ReadFault = 3
+status_number WriteFault = 4
+status_number Limit = 8
+status_number NoMemory = 9

@@ -2,7 +2,7 @@
 ghost use Rattle.std.specs.Prelude.{◌≡◌, ◌≤ℤ◌, ◌+◌, ◌^◌, ◌<◌, List, length, pos, unsigned_abs, string_bytes, IfOk};
 ghost use Rattle.std.specs.List.{AllByRecursion};
 ghost use Rattle.ingest_row.specs.Intake.{Outcome};
-ghost use Rattle.vl_top.specs.Groups.{IsTaken, names_after};
+ghost use Rattle.vl_top.specs.Groups.{IsGroupTaken, names_after};
 
 use ingest_row::{LineFault, Options, batch_of_body};
 use std::alloc::{AllocError, Global};
@@ -38,7 +38,7 @@ pub fn take_in(alloc: Global, now: i64, body: &[u8], lines_before: u64) -> Resul
     requires moment { pos 0 ≤ℤ now }
     requires numbers { lines_before + length body.now < 2 ^ 64 }
     ensures { IfOk result (λ group. (outcomes : List Outcome)
-        × IsTaken (unsigned_abs now) body.now lines_before outcomes group) }
+        × IsGroupTaken (unsigned_abs now) body.now lines_before outcomes group) }
 {
     let intake = batch_of_body(alloc, &Options::plain(alloc), now, body)?;
     let refusals = names_after(alloc, lines_before, intake.refused.as_slice())?;

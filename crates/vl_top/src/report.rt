@@ -1,7 +1,7 @@
 //! What is said on the error stream where a run ends before all is done.
 ghost use Rattle.std.specs.Prelude.{◌≡◌, []};
 ghost use Rattle.vl_io.specs.Change.{IsTold, change_of};
-ghost use Rattle.vl_top.specs.Program.{refused_text, usage_text};
+ghost use Rattle.vl_top.specs.Program.{no_memory, refused_text, stop_text, usage_text};
 ghost use Rattle.vl_top.specs.Pipe.{ReportsInterrupt};
 
 use crate::interrupt::Interrupt;
@@ -29,7 +29,8 @@ pub fn report_refused<E: Sink>(err: &mut E) -> Status
 
 /// There is no memory.
 pub fn report_no_memory<E: Sink>(err: &mut E) -> Status
-    ensures { ReportsInterrupt (change_of E.written E.faults err.old err.new) Interrupt.NoMemory result }
+    ensures status { result ≡ Status.NoMemory }
+    ensures said { IsTold (change_of E.written E.faults err.old err.new) [] (stop_text no_memory) }
 {
     say(err, "no memory\n");
     Status::NoMemory

@@ -13,10 +13,10 @@ pub enum Status {
 }
 
 impl Status {
-    ghost use Rattle.vl_top.specs.Status.{number_of};
+    ghost use Rattle.vl_top.specs.Status.{status_number};
 
     pub fn number(self) -> u8
-        ensures { result ≡ number_of self }
+        ensures { result ≡ status_number self }
     {
         self as u8
     }
