@@ -64,8 +64,8 @@ input_limit = 4_294_967_296
 abbrev pub EndsLine : List ℕ → Type 0
 EndsLine bytes = (bytes ≡ []) ⊎ ((text : List ℕ) × (bytes ≡ text ++ 10 ∷ []))
 
--- The source gave the lines of these groups first, within the limit of an input. They are whole: only the last one of an
--- input may lack its line feed.
+-- The source gave the lines of these groups first, within the limit of an input. They are whole: only the last one of
+-- an input may lack its line feed.
 pub record BeginsWith (now : ℕ) (source : Change) (groups : List (List Outcome)) : Type 0 where
   pub taken : List ℕ
   -- what it gave behind them

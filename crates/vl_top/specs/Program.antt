@@ -9,7 +9,8 @@ use Rattle.log_model.specs.Print.{lines_text}
 use Rattle.log_model.specs.Query.{Query, evaluation, query_of}
 use Rattle.log_model.specs.Row.{batch_limit, batch_weight}
 use Rattle.ingest_row.specs.Intake.{Outcome, rows_read}
-use Rattle.vl_top.specs.Groups.{AreGroups, BeginsWith, CanBeHeld, HaveOutcomes, batches_of, input_limit, outcomes_in, refusals_of}
+use Rattle.vl_top.specs.Groups.{AreGroups, BeginsWith, CanBeHeld, HaveOutcomes, batches_of, input_limit, outcomes_in}
+use Rattle.vl_top.specs.Groups.{refusals_of}
 
 -- what the words ask for
 pub data Command : Type 0 where

@@ -80,7 +80,8 @@ IsDone run (pipe text) = ForQuery run text (λ query now. IsAnswered query now r
 abbrev pub IsCutShort : Run → Command → Type 0
 IsCutShort run (pipe text) =
     ForQuery run text
-    (λ query now. IsAnswerCut query now run.source run.output run.errors ⊎ IsNamingCut now run.source run.output run.errors)
+    (λ query now. IsAnswerCut query now run.source run.output run.errors
+        ⊎ IsNamingCut now run.source run.output run.errors)
 
 -- the command stopped for this cause
 abbrev pub HasStopped : Run → Stop → Command → Type 0

@@ -1,0 +1,10 @@
+pub mod Sets
+pub mod Table
+pub mod Complete
+pub mod Sound
+pub mod Good
+pub mod Choice
+pub mod Rules
+pub mod Names
+pub mod Whole
+pub mod Turns

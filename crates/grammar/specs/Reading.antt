@@ -1,0 +1,110 @@
+-- A reader of any rule, from the left, with one token of sight.
+use Rattle.std.specs.Prelude.{ℕ, zero, suc, Bool, true, false, ◌&&◌, ◌||◌, List, [], ◌∷◌, ◌++◌, length, Result, Ok}
+use Rattle.std.specs.Prelude.{Err, if◌then◌else◌}
+use Rattle.grammar.specs.Rule.{Token, Class, has, next, Rule, empty, one, unless, both, either, many, checked, deeper}
+use Rattle.grammar.specs.Rule.{Grammar}
+use Rattle.grammar.specs.Spelling.{Flaw, too_deep, refused, Outcome, ◌>>=◌, place, IsStuck, IsFlawed}
+
+-- ---- what a rule begins with
+
+-- whether it spells the empty text
+abbrev pub nullable : {X F N V A : Type 0} → Rule X F N V A → Bool
+nullable (empty x) = true
+nullable (one class f) = false
+nullable (unless class x) = true
+nullable (both f a b) = nullable a && nullable b
+nullable (either a b) = nullable a || nullable b
+nullable (many f a) = true
+nullable (checked f a) = nullable a
+nullable (deeper n f) = false
+
+-- the first tokens of its texts
+abbrev pub first : {X F N V A : Type 0} → (N → Class) → Rule X F N V A → Class
+first heads (empty x) = []
+first heads (one class f) = class
+first heads (unless class x) = []
+first heads (both f a b) = first heads a ++ (if nullable a then first heads b else [])
+first heads (either a b) = first heads a ++ first heads b
+first heads (many f a) = first heads a
+first heads (checked f a) = first heads a
+first heads (deeper n f) = heads n
+
+-- ---- reading
+
+-- No text goes on so, where so many tokens are left, or the item at this place has the flaw.
+pub data Stop (F : Type 0) : Type 0 where
+  stuck : ℕ → Stop F
+  flawed : Flaw F → ℕ → Stop F
+
+-- a value and the tokens behind it
+abbrev pub Answer : Type 0 → Type 0 → Type 0 → Type 0
+Answer X F A = Result (A × List (Token X)) (Stop F)
+
+abbrev pub Reader : Type 0 → Type 0 → Type 0 → Type 0
+Reader X F A = List (Token X) → Answer X F A
+
+abbrev pub one_at : {X F A : Type 0} → Class → (Token X → A) → Reader X F A
+one_at class f [] = Err (stuck 0)
+one_at class f (t ∷ ts) = if has class t then Ok (f t, ts) else Err (stuck (suc (length ts)))
+
+-- The number bounds how often it reads.
+abbrev pub series_at : {X F A : Type 0} → Class → Reader X F A → ℕ → Reader X F (List A)
+series_at class r zero u = if next class u then Err (stuck (length u)) else Ok ([], u)
+series_at class r (suc n) u =
+    if next class u then r u >>= (λ x. series_at class r n x.1 >>= λ xs. Ok (x.0 ∷ xs.0, xs.1)) else Ok ([], u)
+
+abbrev pub passes : {X F B : Type 0} → ℕ → List (Token X) → Result B F → Answer X F B
+passes at rest (Ok y) = Ok (y, rest)
+passes at rest (Err reason) = Err (flawed (refused reason) at)
+
+abbrev pub read : {X F N V A : Type 0} → (N → Class) → (N → Reader X F V) → Rule X F N V A → Reader X F A
+read heads inner (empty x) u = Ok (x, u)
+read heads inner (one class f) u = one_at class f u
+read heads inner (unless class x) u = if next class u then Err (stuck (length u)) else Ok (x, u)
+read heads inner (both f a b) u = read heads inner a u >>= (λ x. read heads inner b x.1 >>= λ y. Ok (f x.0 y.0, y.1))
+read heads inner (either a b) u = if next (first heads a) u then read heads inner a u else read heads inner b u
+read heads inner (many f a) u = series_at (first heads a) (read heads inner a) (length u) u >>= λ xs. Ok (f xs.0, xs.1)
+read heads inner (checked f a) u = read heads inner a u >>= λ x. passes (place u) x.1 (f x.0)
+read heads inner (deeper n f) u = inner n u >>= λ x. Ok (f x.0, x.1)
+
+-- behind the token that opens
+abbrev pub opened : {X F N V : Type 0} → (N → Class) → (N → Reader X F V) → N → Reader X F V
+opened heads r n [] = Err (stuck 0)
+opened heads r n (t ∷ ts) = if has (heads n) t then r n ts else Err (stuck (suc (length ts)))
+
+-- the names, where so many may be open at one place
+unfoldable pub reads : {X F N V : Type 0} → (N → Class) → (N → Rule X F N V V) → ℕ → N → Reader X F V
+reads heads rules zero n u = if next (heads n) u then Err (flawed too_deep (place u)) else Err (stuck (length u))
+reads heads rules (suc depth) n u = opened heads (λ n. read heads (reads heads rules depth) (rules n)) n u
+
+-- what the rule reads, where so many names may be open
+abbrev pub read_at : {X F N V A : Type 0} → Grammar X F N V → ℕ → Rule X F N V A → Reader X F A
+read_at g depth e u = read g.heads (reads g.heads g.rules depth) e u
+
+-- what becomes of the value that was read
+abbrev pub mapped : {X F A B : Type 0} → (A → B) → Answer X F A → Answer X F B
+mapped made r = r >>= λ x. Ok (made x.0, x.1)
+
+-- the values as long as the rule goes on
+abbrev pub items_at : {X F N V A : Type 0} → Grammar X F N V → ℕ → Rule X F N V A → Reader X F (List A)
+items_at g depth e u = series_at (first g.heads e) (read_at g depth e) (length u) u
+
+abbrev pub end_at : {X F A : Type 0} → A → List (Token X) → Result A (Stop F)
+end_at x [] = Ok x
+end_at x (t ∷ ts) = Err (stuck (suc (length ts)))
+
+-- the value of a whole text
+abbrev pub whole : {X F A : Type 0} → Reader X F A → List (Token X) → Result A (Stop F)
+whole r u = r u >>= λ x. end_at x.0 x.1
+
+-- What an answer to a whole text says of it.
+abbrev pub Answers : {X F A : Type 0} → (Outcome F A → List (Token X) → Type 0) → List (Token X) → Result A (Stop F)
+    → Type 0
+Answers S u (Ok x) = S (Ok x) u
+Answers S u (Err (stuck left)) = IsStuck S u left
+Answers S u (Err (flawed flaw at)) = IsFlawed S u flaw at
+
+-- what is answered for a text of this outcome
+abbrev pub as_read : {F A : Type 0} → Outcome F A → Result A (Stop F)
+as_read (Ok x) = Ok x
+as_read (Err flaw) = Err (flawed flaw.0 flaw.1)

@@ -1,0 +1,112 @@
+-- What a rule spells, and how a text can fail to be spelled.
+use Rattle.std.specs.Prelude.{◌≡◌, ℕ, zero, suc, false, List, [], ◌∷◌, ◌++◌, length, Result, Ok, Err, IsTrue, ◌⊎◌}
+use Rattle.grammar.specs.Rule.{Token, Class, has, next, Rule, empty, one, unless, both, either, many, checked, deeper}
+use Rattle.grammar.specs.Rule.{Grammar}
+
+-- ---- outcomes
+
+-- what is wrong with an item: too many names are open round it, or its value is refused
+pub data Flaw (F : Type 0) : Type 0 where
+  too_deep : Flaw F
+  refused : F → Flaw F
+
+-- a value, or the first flaw and the place of its item
+abbrev pub Outcome : Type 0 → Type 0 → Type 0
+Outcome F A = Result A (Flaw F × ℕ)
+
+infixl 10 ◌>>=◌
+abbrev pub ◌>>=◌ : {A B E : Type 0} → Result A E → (A → Result B E) → Result B E
+(Ok x) >>= f = f x
+(Err stop) >>= f = Err stop
+
+-- where the next token stands
+abbrev pub place : {X : Type 0} → List (Token X) → ℕ
+place [] = 0
+place (t ∷ ts) = t.place
+
+abbrev pub judged : {F B : Type 0} → Result B F → ℕ → Outcome F B
+judged (Ok y) at = Ok y
+judged (Err reason) at = Err (refused reason, at)
+
+abbrev pub all : {F A : Type 0} → List (Outcome F A) → Outcome F (List A)
+all [] = Ok []
+all (x ∷ xs) = x >>= λ y. all xs >>= λ ys. Ok (y ∷ ys)
+
+-- ---- what a rule spells
+
+-- The tokens of the first list up to the second spell this.
+abbrev pub Span : Type 0 → Type 0 → Type 0 → Type 1
+Span X F A = Outcome F A → List (Token X) → List (Token X) → Type 0
+
+abbrev pub Series : {X F A : Type 0} → Span X F A → List (Outcome F A) → List (Token X) → List (Token X) → Type 0
+Series P [] u w = u ≡ w
+Series {X} P (x ∷ xs) u w = (m : List (Token X)) × P x u m × Series P xs m w
+
+abbrev pub Spelled : {X F N V A : Type 0} → (N → Span X F V) → Rule X F N V A → Span X F A
+Spelled inner (empty x) r u w = (r ≡ Ok x) × (u ≡ w)
+Spelled {X} inner (one class f) r u w = (t : Token X) × (u ≡ t ∷ w) × IsTrue (has class t) × (r ≡ Ok (f t))
+Spelled inner (unless class x) r u w = (r ≡ Ok x) × (u ≡ w) × (next class w ≡ false)
+Spelled {X} {F} inner (both {A} {B} f a b) r u w =
+    (p : Outcome F A) × (q : Outcome F B) × (m : List (Token X))
+    × Spelled inner a p u m × Spelled inner b q m w × (r ≡ (p >>= λ x. q >>= λ y. Ok (f x y)))
+Spelled inner (either a b) r u w = Spelled inner a r u w ⊎ Spelled inner b r u w
+Spelled {X} {F} inner (many {A} f a) r u w =
+    (xs : List (Outcome F A)) × Series (Spelled inner a) xs u w × (r ≡ (all xs >>= λ ys. Ok (f ys)))
+Spelled {X} {F} inner (checked {A} f a) r u w =
+    (p : Outcome F A) × Spelled inner a p u w × (r ≡ (p >>= λ x. judged (f x) (place u)))
+Spelled {X} {F} {N} {V} inner (deeper n f) r u w = (p : Outcome F V) × inner n p u w × (r ≡ (p >>= λ x. Ok (f x)))
+
+-- a token of the class, and then what the rule spells
+abbrev pub Opened : {X F N V : Type 0} → (N → Class) → (N → Rule X F N V V) → (N → Span X F V) → N → Span X F V
+Opened {X} heads rules inner n r u w =
+    (t : Token X) × (m : List (Token X)) × (u ≡ t ∷ m) × IsTrue (has (heads n) t) × Spelled inner (rules n) r m w
+
+-- The names, where so many may be open at one place. The first number bounds the height of what is spelled. Where no
+-- more may be open, the item has a flaw, and what is inside must have its form all the same.
+abbrev pub Within : {X F N V : Type 0} → (N → Class) → (N → Rule X F N V V) → ℕ → ℕ → N → Span X F V
+Within heads rules zero depth n r u w = ⊥
+Within {X} {F} {N} {V} heads rules (suc height) zero n r u w =
+    (r ≡ Err (too_deep, place u)) × (p : Outcome F V) × Opened heads rules (Within heads rules height zero) n p u w
+Within heads rules (suc height) (suc depth) n r u w = Opened heads rules (Within heads rules height depth) n r u w
+
+-- The rule spells this text, where so many names may be open at one place.
+abbrev pub Spells : {X F N V A : Type 0} → Grammar X F N V → ℕ → Rule X F N V A → Outcome F A → List (Token X) → Type 0
+Spells g depth e r u = (height : ℕ) × Spelled (Within g.heads g.rules height depth) e r u []
+
+-- ---- what some text begins with
+
+-- the next tokens are the same, or both texts are at their end
+abbrev pub SameHead : {X : Type 0} → List (Token X) → List (Token X) → Type 0
+SameHead [] [] = Unit {0}
+SameHead [] (y ∷ b) = ⊥
+SameHead (x ∷ a) [] = ⊥
+SameHead (x ∷ a) (y ∷ b) = x ≡ y
+
+-- the place of one of the tokens
+pub record PlaceIn {X : Type 0} (at : ℕ) (text : List (Token X)) : Type 0 where
+  pub before : List (Token X)
+  pub token : Token X
+  pub behind : List (Token X)
+  pub parts : text ≡ before ++ token ∷ behind
+  pub place_is : at ≡ token.place
+
+module _ {X F A : Type 0} (S : Outcome F A → List (Token X) → Type 0) (u : List (Token X)) where
+  -- Some text begins with the tokens before the last so many, and none with the next one too, or none ends here.
+  pub record IsStuck (left : ℕ) : Type 0 where
+    pub before : List (Token X)
+    pub rest : List (Token X)
+    pub parts : u ≡ before ++ rest
+    pub left_is : left ≡ length rest
+    pub begins : (more : List (Token X)) × (r : Outcome F A) × S r (before ++ more)
+    pub longest : (more : List (Token X)) (r : Outcome F A) → SameHead rest more → S r (before ++ more) → ⊥
+
+  -- Some text begins with these tokens and has this first flaw, at one of them, and so has each that goes on with the
+  -- next one too.
+  pub record IsFlawed (flaw : Flaw F) (at : ℕ) : Type 0 where
+    pub before : List (Token X)
+    pub rest : List (Token X)
+    pub parts : u ≡ before ++ rest
+    pub inside : PlaceIn at before
+    pub begins : (more : List (Token X)) × S (Err (flaw, at)) (before ++ more)
+    pub each : (more : List (Token X)) (r : Outcome F A) → SameHead rest more → S r (before ++ more) → r
+        ≡ Err (flaw, at)

@@ -1,0 +1,10 @@
+pub mod Widths
+pub mod Steps
+pub mod Quotes
+pub mod Classes
+pub mod TokenLaws
+pub mod Spaces
+pub mod Chains
+pub mod Nexts
+pub mod Collecting
+pub mod TextLaws

@@ -1,0 +1,11 @@
+use Rattle.std.proofs.Common.{◌≡◌, chars, length}
+use denote.Text.{Utf8}
+use denote.Shadow.{shadow}
+use Rattle.lq_lex.specs.Reading.{first_bad}
+use Rattle.lq_lex.proofs.quote.first_bad.Given as goal
+
+abbrev pub invariant-characters : goal.invariant-characters
+invariant-characters l = shadow (Utf8 l.rest) × (first_bad l.quote (chars l.rest) ≡ first_bad l.quote (chars l.fn.text))
+
+abbrev pub decreases-characters : goal.decreases-characters
+decreases-characters l = length l.rest

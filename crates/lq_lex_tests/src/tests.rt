@@ -1,0 +1,31 @@
+use lq_lex::{LexFault, tokens};
+use std::alloc::{AllocError, Global};
+use std::test::Fail;
+
+/// As many letters.
+fn letters(alloc: Global, count: usize) -> Result<String, AllocError> {
+    let mut text = String::new(alloc);
+    for _ in 0..count {
+        text.push('a')?;
+    }
+    Ok(text)
+}
+
+/// How many tokens the text has, or its fault.
+fn count(alloc: Global, text: &str) -> Result<usize, LexFault> {
+    Ok(tokens(alloc, text)?.len())
+}
+
+#[test]
+fn the_longest_text(rt: HostRuntime) -> Result<(), Fail> {
+    let text = letters(rt.alloc(), 16_384)?;
+    assert!(rt; count(rt.alloc(), text.as_str()) == Ok(1));
+    Ok(())
+}
+
+#[test]
+fn one_byte_too_many(rt: HostRuntime) -> Result<(), Fail> {
+    let text = letters(rt.alloc(), 16_385)?;
+    assert!(rt; count(rt.alloc(), text.as_str()) == Err(LexFault::TooLong));
+    Ok(())
+}
