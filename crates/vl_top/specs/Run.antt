@@ -81,7 +81,7 @@ abbrev pub IsCutShort : Run → Command → Type 0
 IsCutShort run (pipe text) =
     ForQuery run text
     (λ query now. IsAnswerCut query now run.source run.output run.errors
-        ⊎ IsNamingCut now run.source run.output run.errors)
+    ⊎ IsNamingCut now run.source run.output run.errors)
 
 -- the command stopped for this cause
 abbrev pub HasStopped : Run → Stop → Command → Type 0
