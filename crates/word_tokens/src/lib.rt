@@ -2,12 +2,17 @@
 #![tactic(auto)]
 
 ghost use Rattle.std.specs.Prelude.{◌≡◌, ◌<◌, length};
-ghost use Rattle.log_model.specs.Words.{is_word_char, is_word_text as is_word_text_of, has_word as has_word_of};
+ghost use Rattle.log_model.specs.Words.{is_word_char, is_word_text as is_word_text_of, has_word as has_word_of, occurs};
+ghost use Rattle.word_tokens.specs.Prefix.{occurs_as_prefix};
 
 use unicode::properties::{GeneralCategory, GeneralCategoryGroup};
 
 pub mod plain;
 mod search;
+mod words;
+
+pub use search::Finder;
+pub use words::{Words, words};
 
 /// Whether the character is part of words: the underscore, a letter (Unicode's general categories L*)
 /// or a decimal digit (Nd).
@@ -34,5 +39,23 @@ pub fn has_word(text: &str, word: &str) -> bool
     requires { 0 < length word.now }
     ensures { result ≡ has_word_of text.now word.now }
 {
-    search::occurs_in(text, word) && is_word_text(word)
+    is_word_text(word) && Finder::new(word).has_phrase(text)
+}
+
+/// Whether the phrase stands somewhere in the text, with no word character right before it if it begins with one,
+/// and none right after it if it ends with one (LogsQL, "Phrase filter").
+pub fn has_phrase(text: &str, phrase: &str) -> bool
+    requires { 0 < length phrase.now }
+    ensures { result ≡ occurs text.now phrase.now }
+{
+    Finder::new(phrase).has_phrase(text)
+}
+
+/// Whether the prefix stands somewhere in the text, with no word character right before it if it begins with one
+/// (LogsQL, "Prefix filter").
+pub fn has_prefix(text: &str, prefix: &str) -> bool
+    requires { 0 < length prefix.now }
+    ensures { result ≡ occurs_as_prefix text.now prefix.now }
+{
+    Finder::new(prefix).has_prefix(text)
 }
