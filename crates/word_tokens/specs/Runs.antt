@@ -1,7 +1,7 @@
 -- The words of a text (LogsQL, "Word"): its longest runs of word characters, each as the bytes where it begins and ends.
 use Rattle.std.specs.Prelude.{◌≡◌, ℕ, suc, Bool, true, false, not, ◌&&◌, ◌||◌, nat_lt, nat_le, List, length, take, drop, chars, map, filter, slice_index, slice_range}
 use Rattle.std.specs.List.{flat_map, list_all, range_with_len}
-use Rattle.std.specs.Str.{IsCharBoundary}
+use Rattle.std.specs.Str.{IsCharBoundary, IsUtf8}
 use Rattle.log_model.specs.Words.{is_word_char, begins_word, ends_word, is_word_text}
 
 -- a character begins at this byte, or the text ends there
@@ -49,7 +49,8 @@ pub record IsRun (text : List ℕ) (n : ℕ) : Type 0 where
   pub words : list_all is_word_char (chars (take n text)) ≡ true
   pub then : begins_word (chars (drop n text)) ≡ false
 
--- a character begins at this byte, or the text ends there, and no word goes on across it
+-- a character of the text begins at this byte, or the text ends there, and no word goes on across it
 pub record IsBetweenWords (text : List ℕ) (place : ℕ) : Type 0 where
+  pub utf8 : IsUtf8 text
   pub cut : IsCharBoundary text place
   pub apart : (ends_word (chars (take place text)) && begins_word (chars (drop place text))) ≡ false

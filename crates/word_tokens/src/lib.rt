@@ -4,15 +4,16 @@
 ghost use Rattle.std.specs.Prelude.{◌≡◌, ◌<◌, length};
 ghost use Rattle.log_model.specs.Words.{is_word_char, is_word_text as is_word_text_of, has_word as has_word_of, occurs};
 ghost use Rattle.word_tokens.specs.Prefix.{occurs_as_prefix};
+ghost use Rattle.word_tokens.specs.Runs.{words_of};
 
 use unicode::properties::{GeneralCategory, GeneralCategoryGroup};
 
 pub mod plain;
+mod runs;
 mod search;
-mod words;
 
+pub use runs::Words;
 pub use search::Finder;
-pub use words::{Words, words};
 
 /// Whether the character is part of words: the underscore, a letter (Unicode's general categories L*)
 /// or a decimal digit (Nd).
@@ -32,6 +33,14 @@ pub fn is_word_text(text: &str) -> bool
     ensures { result ≡ is_word_text_of text.now }
 {
     !text.is_empty() && text.chars().all(is_word)
+}
+
+/// The words of the text, in order, each as the bytes where it begins and where it ends. They are its longest runs of
+/// word characters (LogsQL, "Word").
+pub fn words(text: &str) -> Words<'_>
+    ensures { result ≡ words_of text.now }
+{
+    Words::new(text)
 }
 
 /// Whether `word` is one of the words of `text`, which are its longest runs of word characters.

@@ -22,11 +22,12 @@ impl<'a> Model for Words<'a> {
     ghost invariant = { λ w. IsBetweenWords w.text.now w.from };
 }
 
-/// The words of the text, which are its longest runs of word characters (LogsQL, "Word").
-pub fn words(text: &str) -> Words<'_>
-    ensures { result ≡ words_of text.now }
-{
-    Words { text, from: 0 }
+impl<'a> Words<'a> {
+    pub(crate) fn new(text: &'a str) -> Words<'a>
+        ensures { result ≡ words_of text.now }
+    {
+        Words { text, from: 0 }
+    }
 }
 
 impl<'a> Iterator for Words<'a> {
