@@ -2,6 +2,7 @@ pub mod Ascii
 pub mod Finds
 pub mod LastChar
 pub mod Occurrences
+pub mod OneOfWords
 pub mod Places
 pub mod Rest
 pub mod WordLists

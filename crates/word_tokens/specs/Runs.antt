@@ -1,6 +1,6 @@
 -- The words of a text (LogsQL, "Word"): its longest runs of word characters, each as the bytes where it begins and ends.
 use Rattle.std.specs.Prelude.{◌≡◌, ℕ, suc, Bool, true, false, not, ◌&&◌, ◌||◌, nat_lt, nat_le, List, length, take, drop, chars, map, filter, slice_index, slice_range}
-use Rattle.std.specs.List.{flat_map, list_all, range_with_len}
+use Rattle.std.specs.List.{Any, flat_map, list_all, range_with_len}
 use Rattle.std.specs.Str.{IsCharBoundary, IsUtf8}
 use Rattle.log_model.specs.Words.{is_word_char, begins_word, ends_word, is_word_text}
 
@@ -30,9 +30,9 @@ words_between text from n = flat_map (words_at text) (range_with_len from n)
 abbrev pub words_of : List ℕ → List (ℕ × ℕ)
 words_of text = words_between text 0 (suc (length text))
 
--- their texts
-abbrev pub word_texts : List ℕ → List (List ℕ)
-word_texts text = map (λ (word : ℕ × ℕ). slice_range text word.0 word.1) (words_of text)
+-- this is the text of one of them
+abbrev pub IsOneOfWords : List ℕ → List ℕ → Type 0
+IsOneOfWords text word = Any (λ (place : ℕ × ℕ). slice_range text place.0 place.1 ≡ word) (words_of text)
 
 abbrev pub is_other_char : ℕ → Bool
 is_other_char c = not (is_word_char c)

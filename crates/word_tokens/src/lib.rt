@@ -1,10 +1,10 @@
 //! Words in texts (LogsQL, "Word"): which characters make words, and whether a text has a word.
 #![tactic(auto)]
 
-ghost use Rattle.std.specs.Prelude.{◌≡◌, ◌<◌, length};
+ghost use Rattle.std.specs.Prelude.{◌≡◌, ◌↔◌, ◌<◌, IsTrue, length};
 ghost use Rattle.log_model.specs.Words.{is_word_char, is_word_text as is_word_text_of, has_word as has_word_of, occurs};
 ghost use Rattle.word_tokens.specs.Prefix.{occurs_as_prefix};
-ghost use Rattle.word_tokens.specs.Runs.{words_of};
+ghost use Rattle.word_tokens.specs.Runs.{IsOneOfWords, words_of};
 
 use unicode::properties::{GeneralCategory, GeneralCategoryGroup};
 
@@ -46,7 +46,8 @@ pub fn words(text: &str) -> Words<'_>
 /// Whether `word` is one of the words of `text`, which are its longest runs of word characters.
 pub fn has_word(text: &str, word: &str) -> bool
     requires { 0 < length word.now }
-    ensures { result ≡ has_word_of text.now word.now }
+    ensures as_phrase { result ≡ has_word_of text.now word.now }
+    ensures one_of_words { IsTrue result ↔ IsOneOfWords text.now word.now }
 {
     is_word_text(word) && Finder::new(word).has_phrase(text)
 }

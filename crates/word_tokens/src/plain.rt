@@ -1,15 +1,17 @@
 //! The plain program: each place of the text is tried in turn, and each character is looked up. It is slow, and there
 //! to be compared with.
-ghost use Rattle.std.specs.Prelude.{◌≡◌, ◌&&◌, ◌<◌, ◌≤◌, length, chars};
+ghost use Rattle.std.specs.Prelude.{◌≡◌, ◌&&◌, ◌↔◌, IsTrue, ◌<◌, ◌≤◌, length, chars};
 ghost use Rattle.log_model.specs.Words.{begins_word, ends_word, has_word, is_word_char, is_word_text, occurs, stands_at};
 ghost use Rattle.word_tokens.specs.Prefix.{occurs_as_prefix, stands_as_prefix};
+ghost use Rattle.word_tokens.specs.Runs.{IsOneOfWords, is_word_at};
 
 use unicode::properties::{GeneralCategory, GeneralCategoryGroup};
 
 /// Whether `word` is one of the words of `text`.
 pub fn has_word(text: &str, word: &str) -> bool
     requires { 0 < length word.now }
-    ensures { result ≡ has_word text.now word.now }
+    ensures as_phrase { result ≡ has_word text.now word.now }
+    ensures one_of_words { IsTrue result ↔ IsOneOfWords text.now word.now }
 {
     is_one_word(word) && has_phrase(text, word)
 }
@@ -38,6 +40,17 @@ pub fn has_prefix(text: &str, prefix: &str) -> bool
         }
     }
     false
+}
+
+/// Whether the bytes from `start` up to `end` are a word of the text.
+pub fn is_word_at(text: &str, start: usize, end: usize) -> bool
+    ensures { result ≡ is_word_at text.now start end }
+{
+    if !text.is_char_boundary(start) || !text.is_char_boundary(end) || end < start {
+        return false;
+    }
+    let apart = !ends_in_word(&text[..start]) && !begins_in_word(&text[end..]);
+    apart && is_one_word(&text[start..end])
 }
 
 // Whether the phrase stands at `place`, and no word goes on across an end of it.

@@ -1,4 +1,4 @@
-use Rattle.std.proofs.Common.{◌≡◌, suc, ◌+◌, ◌<◌, ◌≤◌, true, false, drop, nat_eq, length, sym, ◌∙◌, below_more, arith}
+use Rattle.std.proofs.Common.{◌≡◌, suc, ◌+◌, ◌<◌, ◌≤◌, true, false, drop, nat_eq, length, sym, below_more, arith}
 use Rattle.std.specs.List.{starts_with}
 use Rattle.word_tokens.specs.Prefix.{stands_between, occurs_between}
 use Rattle.word_tokens.proofs.Places.{starts_with-OccursAt, IsCharBoundary-OccursAt, IsCharBoundary-after_OccursAt}
