@@ -1,19 +1,34 @@
 //! Tests of `word_tokens`.
 //!
-//! The program answers a table. For a text and a word with a tab between them: whether the text has the word, by the
-//! search and by the plain program. For a text alone: whether it is a word, and which of its characters are part of
-//! words. The answers are those of Python: its `unicodedata` gives the categories, and the words are the longest runs.
+//! The program answers a table. For a text and a needle with a tab between them: whether the text has the word, the
+//! phrase and the prefix, by the search and by the plain program. For a text alone: whether it is a word, which of its
+//! characters are part of words, and its words, by the iterator and by a trial of each pair of places. The answers are
+//! those of Python: its `unicodedata` gives the categories, and the words are the longest runs.
 #![tactic(auto)]
 
 use std::io;
-use word_tokens::{has_word, is_word, is_word_text, plain};
+use word_tokens::{has_phrase, has_prefix, has_word, is_word, is_word_text, plain, words};
 
 fn main(rt: HostRuntime) -> io::Result<()> {
     for line in rt.stdin().lines(rt.alloc()) {
         let line = line?;
         match line.as_str().split_once('\t') {
-            Some((text, word)) if !word.is_empty() => {
-                println!(rt; "{} {}", has_word(text, word), plain::has_word(text, word))?;
+            Some((text, needle)) if !needle.is_empty() => {
+                print!(rt;
+                    "{} {} ",
+                    has_word(text, needle),
+                    plain::has_word(text, needle)
+                )?;
+                print!(rt;
+                    "{} {} ",
+                    has_phrase(text, needle),
+                    plain::has_phrase(text, needle)
+                )?;
+                println!(rt;
+                    "{} {}",
+                    has_prefix(text, needle),
+                    plain::has_prefix(text, needle)
+                )?;
             }
             _ => print_text(&rt, line.as_str())?,
         }
@@ -26,5 +41,26 @@ fn print_text(rt: &HostRuntime, text: &str) -> io::Result<()> {
     for c in text.chars() {
         print!(rt; "{}", if is_word(c) { 'w' } else { '-' })?;
     }
+    print_words(rt, text)?;
+    print!(rt; " by trial")?;
+    for start in 0..text.len() {
+        print_words_at(rt, text, start)?;
+    }
     println!(rt)
+}
+
+fn print_words(rt: &HostRuntime, text: &str) -> io::Result<()> {
+    for (start, end) in words(text) {
+        print!(rt; " {start}-{end}")?;
+    }
+    Ok(())
+}
+
+fn print_words_at(rt: &HostRuntime, text: &str, start: usize) -> io::Result<()> {
+    for end in start..text.len() {
+        if plain::is_word_at(text, start, end + 1) {
+            print!(rt; " {start}-{}", end + 1)?;
+        }
+    }
+    Ok(())
 }
