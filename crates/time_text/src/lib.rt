@@ -1,16 +1,22 @@
 //! Moments as text, written and read: the `date-time` of RFC 3339, section 5.6, and counts.
+//! Bounds, which name a year or a part of one, and durations.
 #![tactic(auto)]
 
 ghost use Rattle.std.specs.Prelude.{◌≡◌, ◌++◌, ◌/◌, ◌≤ℤ◌, pos, unsigned_abs, OnOk, OnErr};
 ghost use Rattle.log_model.specs.Moment.{moment_text};
 
+mod bound;
+mod calendar;
 mod count;
 mod date_time;
 mod digits;
+mod duration;
 mod fault;
 pub mod plain;
 mod read;
 
+pub use bound::{Span, read_bound};
+pub use duration::{DurationFault, read_duration};
 pub use fault::TimeFault;
 use jiff::Timestamp;
 use jiff::fmt::temporal::DateTimePrinter;

@@ -5,6 +5,7 @@ ghost use Rattle.log_model.specs.Moment as spec;
 
 mod read;
 
+use crate::calendar::{days_in_month, days_in_year};
 pub use read::read_moment;
 use std::alloc::{AllocError, Global};
 use std::marker::Model;
@@ -43,29 +44,6 @@ pub fn write_moment(alloc: Global, time: i64, out: &mut Text) -> Result<(), Allo
     push_clock(&mut text, moment % NANOSECONDS_A_DAY)?;
     text.push('Z')?;
     out.push_str(alloc, text.as_str())
-}
-
-fn is_leap_year(year: u64) -> bool
-    ensures { result ≡ spec.is_leap_year year }
-{
-    year % 4 == 0 && (year % 100 != 0 || year % 400 == 0)
-}
-
-fn days_in_year(year: u64) -> u64
-    ensures { result ≡ spec.days_in_year year }
-{
-    if is_leap_year(year) { 366 } else { 365 }
-}
-
-fn days_in_month(year: u64, month: u64) -> u64
-    ensures { result ≡ spec.days_in_month year month }
-{
-    match month {
-        2 if is_leap_year(year) => 29,
-        2 => 28,
-        4 | 6 | 9 | 11 => 30,
-        _ => 31,
-    }
 }
 
 // The date of a day that is numbered from 1 January 1970 on.

@@ -10,7 +10,7 @@ ghost use Rattle.log_model.specs.MomentText.{unit_of, nanoseconds_of};
 ghost use Rattle.time_text.specs.Reading.{Answers, digits_len, fraction_at, number_of, day_at, tail_at, date_time_at};
 ghost use Rattle.time_text.specs.Reading.{pair, time_at, hours_at, offset_at, after_number, count_at, moment_at};
 
-use super::{days_in_month, days_in_year};
+use crate::calendar::{days_in_month, days_in_year};
 use crate::TimeFault;
 
 /// What [`pair`] gives for two bytes that are no digits.
