@@ -111,9 +111,12 @@ pair_takes bytes x a b unit some more spelled test e =
     (two_first bytes a b some more (eqb-true (slice_index bytes 0) a parts.0) (eqb-true (slice_index bytes 1) b parts.1)
     ∙ ap (λ (t : List ℕ). t ++ drop 2 bytes) (sym spelled)) e
 
+abbrev is_micro : List ℕ → Bool
+is_micro bytes = (slice_index bytes 0 == 194) && ((slice_index bytes 1 == 181) && (slice_index bytes 2 == 115))
+
 unit_takes : (bytes : List ℕ) (x : ℕ × List ℕ) → unit_at bytes ≡ Some x → HasUnit bytes x
 unfolding unit_at
-unit_takes bytes x e = elim (either _ _ _ x e) [
+unit_takes bytes x e = elim (either (is_micro bytes) _ _ x e) [
   | inl is ↦
       let tests = and_parts (slice_index bytes 0 == 194) _ is.0 in
       let more = and_parts (slice_index bytes 1 == 181) (slice_index bytes 2 == 115) tests.1 in
