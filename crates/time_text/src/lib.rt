@@ -16,8 +16,8 @@ pub mod plain;
 mod read;
 
 pub use bound::{Span, read_bound};
-pub use duration::{DurationFault, read_duration};
-pub use fault::TimeFault;
+pub use duration::read_duration;
+pub use fault::{DurationFault, TimeFault};
 use jiff::Timestamp;
 use jiff::fmt::temporal::DateTimePrinter;
 pub use read::read_moment;
