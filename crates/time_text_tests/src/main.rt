@@ -1,13 +1,16 @@
 //! Reads a text on each line, and writes the moment that it says in nanoseconds, as text, and the number of its day; or
-//! why it says none. Both bodies are asked, and a line says so where they differ.
+//! why it says none. Both bodies are asked, and a line says so where they differ. Behind `bound ` stands a bound, of
+//! which it writes the first and the last nanosecond, and behind `duration ` a duration, of which it writes the
+//! nanoseconds.
 //!
-//! The answers in `stdout` are not the program's own: the moments, their texts and their days are as Python's
-//! `datetime` has them, and the counts by their size.
+//! The answers in `stdout` are not the program's own: the moments, their texts and their days, and the ends of bounds,
+//! are as Python's `datetime` and `calendar` have them, the counts by their size, and the durations as sums of
+//! Python's whole numbers.
 #![tactic(auto)]
 
 use std::alloc::{AllocError, Global};
 use std::io;
-use time_text::{day_of, plain, read_moment, write_moment};
+use time_text::{day_of, plain, read_bound, read_duration, read_moment, write_moment};
 use vl_row::Text;
 
 fn main(rt: HostRuntime) -> io::Result<()> {
@@ -18,7 +21,31 @@ fn main(rt: HostRuntime) -> io::Result<()> {
     Ok(())
 }
 
-fn answer(alloc: Global, text: &str) -> Result<String, AllocError> {
+fn answer(alloc: Global, line: &str) -> Result<String, AllocError> {
+    if let Some(bound) = line.strip_prefix("bound ") {
+        return bound_answer(alloc, bound);
+    }
+    if let Some(duration) = line.strip_prefix("duration ") {
+        return duration_answer(alloc, duration);
+    }
+    moment_answer(alloc, line)
+}
+
+fn bound_answer(alloc: Global, text: &str) -> Result<String, AllocError> {
+    match read_bound(text) {
+        Ok(span) => format!(in alloc; "{} {}", span.from, span.to),
+        Err(fault) => format!(in alloc; "{fault:?}"),
+    }
+}
+
+fn duration_answer(alloc: Global, text: &str) -> Result<String, AllocError> {
+    match read_duration(text) {
+        Ok(nanoseconds) => format!(in alloc; "{nanoseconds}"),
+        Err(fault) => format!(in alloc; "{fault:?}"),
+    }
+}
+
+fn moment_answer(alloc: Global, text: &str) -> Result<String, AllocError> {
     let read = read_moment(text);
     if read != plain::read_moment(text) {
         return format!(in alloc; "the plain reading differs");
