@@ -1,7 +1,8 @@
 //! The plain program: each place of the text is tried in turn, and each character is looked up. It is slow, and there
 //! to be compared with.
 ghost use Rattle.std.specs.Prelude.{◌≡◌, ◌&&◌, ◌↔◌, IsTrue, ◌<◌, ◌≤◌, length, chars};
-ghost use Rattle.log_model.specs.Words.{begins_word, ends_word, has_word, is_word_char, is_word_text, occurs, stands_at};
+ghost use Rattle.log_model.specs.Words.{begins_word, ends_word, has_word, is_word_char, is_word_text, occurs};
+ghost use Rattle.log_model.specs.Words.{stands_at};
 ghost use Rattle.word_tokens.specs.Prefix.{occurs_as_prefix, stands_as_prefix};
 ghost use Rattle.word_tokens.specs.Runs.{IsOneOfWords, is_word_at};
 

@@ -4,7 +4,8 @@ ghost use Rattle.std.specs.Prelude.{◌≡◌, ◌<◌, ◌≤◌, ℕ, List, le
 ghost use Rattle.std.specs.Str.{IsCharBoundary, IsUtf8};
 ghost use Rattle.memchr.specs.Find.{FindsNeedle};
 ghost use Rattle.log_model.specs.Words.{begins_word as begins_word_of, ends_word as ends_word_of, occurs};
-ghost use Rattle.word_tokens.specs.Prefix.{IsSought, has_boundaries as has_boundaries_of, occurs_as_prefix, occurs_between};
+ghost use Rattle.word_tokens.specs.Prefix.{IsSought, has_boundaries as has_boundaries_of, occurs_as_prefix};
+ghost use Rattle.word_tokens.specs.Prefix.{occurs_between};
 
 use crate::is_word;
 use memchr::memmem;
