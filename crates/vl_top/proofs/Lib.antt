@@ -6,4 +6,5 @@ pub mod LoadLemmas
 pub mod PipeLemmas
 pub mod ReportLemmas
 pub mod RefusalLemmas
+pub mod RefusedLemmas
 pub mod WeightLemmas
