@@ -1,0 +1,206 @@
+use crate::fault::PrepareFault;
+use crate::matchers::Matchers;
+use crate::pattern::Pattern;
+use lq_ast::{Group, How, LabelTest, Select};
+use std::alloc::{AllocError, Global};
+use std::marker::Model;
+use vl_row::{Stream, Text};
+
+ghost use Rattle.std.specs.Prelude.{◌≡◌, ◌+◌, ℕ, Err, length, flat_map, IfOk, IfErr, IsOk};
+ghost use Rattle.std.specs.List.{list_all};
+ghost use Rattle.lq_ast.specs.Holds.{passes, selects};
+ghost use Rattle.lq_ast.specs.Patterns.{patterns_of_test};
+ghost use Rattle.lq_ast.specs.View.{groups_of, test_of, tests_of};
+ghost use Rattle.lq_filter.specs.Labels.{groups_of as prepared_groups, how_of, test_of as prepared_test};
+ghost use Rattle.lq_filter.specs.Labels.{tests_of as prepared_tests, text_of};
+ghost use Rattle.lq_filter.specs.Refusal.{IsRefusal};
+
+/// A selector of streams, whose patterns are read.
+#[derive(Drop)]
+pub(crate) struct Selector {
+    groups: Vec<PreparedGroup>,
+}
+
+#[derive(Drop)]
+struct PreparedGroup {
+    tests: Vec<PreparedTest>,
+}
+
+#[derive(Drop)]
+struct PreparedTest {
+    name: Text,
+    asked: Asked,
+}
+
+/// What is asked of a label's value.
+#[derive(Drop)]
+enum Asked {
+    Is(Text),
+    IsNot(Text),
+    Matches(WholePattern),
+    MatchesNot(WholePattern),
+}
+
+/// A pattern that a whole value has to match.
+#[derive(Drop)]
+struct WholePattern {
+    text: Text,
+    pattern: Pattern,
+}
+
+impl Model for WholePattern {
+    ghost use Rattle.std.specs.Prelude.{◌≡◌, ℕ, List};
+    ghost use Rattle.lq_ast.specs.Patterns.{whole};
+
+    ghost Value = { List ℕ };
+
+    ghost view = { λ p. p.text };
+
+    ghost invariant = { λ p. p.pattern ≡ whole p.text };
+}
+
+impl Selector {
+    /// Prepares a selector, whose first pattern has the number `nth`, and raises it by the number of patterns.
+    pub(crate) fn new(alloc: Global, select: &Select, nth: &mut u32) -> Result<Selector, PrepareFault>
+        ensures same { IfOk result (λ selector. prepared_groups selector ≡ groups_of select.now) }
+        ensures counted { IsOk result →
+            nth.new ≡ nth.old + length (flat_map (flat_map patterns_of_test) (groups_of select.now)) }
+        ensures refused { IfErr result (IsRefusal nth.old (flat_map (flat_map patterns_of_test) (groups_of select.now))) }
+    {
+        let mut groups = Vec::new(alloc);
+        for group in &select.groups {
+            let prepared = PreparedGroup::new(alloc, group, nth)?;
+            groups.push(prepared)?;
+        }
+        Ok(Selector { groups })
+    }
+
+    /// Whether some group has all its tests true. Without groups every stream is selected.
+    pub(crate) fn selects<'p>(
+        &'p self,
+        alloc: Global,
+        matchers: &mut Matchers<'p>,
+        stream: &Stream,
+    ) -> Result<bool, AllocError>
+        ensures { IfOk result (λ found. found ≡ selects (prepared_groups self.now) stream.now) }
+    {
+        if self.groups.is_empty() {
+            return Ok(true);
+        }
+        for group in &self.groups {
+            let found = group.selects(alloc, matchers, stream)?;
+            if found {
+                return Ok(true);
+            }
+        }
+        Ok(false)
+    }
+}
+
+impl PreparedGroup {
+    fn new(alloc: Global, group: &Group, nth: &mut u32) -> Result<PreparedGroup, PrepareFault>
+        ensures same { IfOk result (λ prepared. prepared_tests prepared ≡ tests_of group.now) }
+        ensures counted { IsOk result → nth.new ≡ nth.old + length (flat_map patterns_of_test (tests_of group.now)) }
+        ensures refused { IfErr result (IsRefusal nth.old (flat_map patterns_of_test (tests_of group.now))) }
+    {
+        let mut tests = Vec::new(alloc);
+        for test in &group.labels {
+            let prepared = PreparedTest::new(alloc, test, nth)?;
+            tests.push(prepared)?;
+        }
+        Ok(PreparedGroup { tests })
+    }
+
+    fn selects<'p>(
+        &'p self,
+        alloc: Global,
+        matchers: &mut Matchers<'p>,
+        stream: &Stream,
+    ) -> Result<bool, AllocError>
+        ensures { IfOk result (λ found. found ≡ list_all (passes stream.now) (prepared_tests self.now)) }
+    {
+        for test in &self.tests {
+            let found = test.holds(alloc, matchers, stream)?;
+            if !found {
+                return Ok(false);
+            }
+        }
+        Ok(true)
+    }
+}
+
+impl PreparedTest {
+    fn new(alloc: Global, test: &LabelTest, nth: &mut u32) -> Result<PreparedTest, PrepareFault>
+        ensures same { IfOk result (λ prepared. prepared_test prepared ≡ test_of test.now) }
+        ensures counted { IsOk result → nth.new ≡ nth.old + length (patterns_of_test (test_of test.now)) }
+        ensures refused { IfErr result (IsRefusal nth.old (patterns_of_test (test_of test.now))) }
+    {
+        let name = test.name.try_copy(alloc)?;
+        let asked = Asked::new(alloc, test.how, &test.text, nth)?;
+        Ok(PreparedTest { name, asked })
+    }
+
+    fn holds<'p>(
+        &'p self,
+        alloc: Global,
+        matchers: &mut Matchers<'p>,
+        stream: &Stream,
+    ) -> Result<bool, AllocError>
+        ensures { IfOk result (λ found. found ≡ passes stream.now (prepared_test self.now)) }
+    {
+        let value = stream.value(self.name.as_str());
+        match &self.asked {
+            Asked::Is(text) => Ok(value == text.as_str()),
+            Asked::IsNot(text) => Ok(value != text.as_str()),
+            Asked::Matches(pattern) => pattern.is_found(alloc, matchers, value),
+            Asked::MatchesNot(pattern) => Ok(!pattern.is_found(alloc, matchers, value)?),
+        }
+    }
+}
+
+impl Asked {
+    ghost use Rattle.std.specs.Prelude.{[]};
+
+    fn new(alloc: Global, how: How, text: &Text, nth: &mut u32) -> Result<Asked, PrepareFault>
+        ensures how { IfOk result (λ asked. how_of asked ≡ how) }
+        ensures text { IfOk result (λ asked. text_of asked ≡ text.now) }
+        ensures counted { IsOk result → nth.new ≡ nth.old + length (patterns_of_test ([], how, text.now)) }
+        ensures refused { IfErr result (IsRefusal nth.old (patterns_of_test ([], how, text.now))) }
+    {
+        match how {
+            How::Is => Ok(Asked::Is(text.try_copy(alloc)?)),
+            How::IsNot => Ok(Asked::IsNot(text.try_copy(alloc)?)),
+            How::Matches => Ok(Asked::Matches(WholePattern::new(alloc, text, nth)?)),
+            How::MatchesNot => Ok(Asked::MatchesNot(WholePattern::new(alloc, text, nth)?)),
+        }
+    }
+}
+
+impl WholePattern {
+    ghost use Rattle.std.specs.Prelude.{[], ◌∷◌};
+    ghost use Rattle.lq_ast.specs.Patterns.{is_found, whole};
+
+    fn new(alloc: Global, text: &Text, nth: &mut u32) -> Result<WholePattern, PrepareFault>
+        ensures same { IfOk result (λ pattern. pattern ≡ text.now) }
+        ensures counted { IsOk result → nth.new ≡ nth.old + 1 }
+        ensures refused { IfErr result (IsRefusal nth.old ((text.now, whole text.now) ∷ [])) }
+    {
+        let number = *nth;
+        let pattern = Pattern::of_whole(alloc, text.as_str(), number)?;
+        let text = text.try_copy(alloc)?;
+        *nth = number.checked_add(1).ok_or(PrepareFault::Memory)?;
+        Ok(WholePattern { text, pattern })
+    }
+
+    /// Whether the whole value matches.
+    fn is_found<'p>(
+        &'p self,
+        alloc: Global,
+        matchers: &mut Matchers<'p>,
+        value: &str,
+    ) -> Result<bool, AllocError>
+        ensures { IfOk result (λ found. found ≡ is_found (whole self.now) value.now) }
+    {
+        matchers.is_found(alloc, &self.pattern, value)
+    }
+}

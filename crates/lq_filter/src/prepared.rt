@@ -1,0 +1,102 @@
+use crate::fault::PrepareFault;
+use crate::labels::Selector;
+use crate::matchers::Matchers;
+use crate::tree::Tree;
+use lq_ast::{Query, Select};
+use std::alloc::{AllocError, Global};
+use vl_row::{Row, Stream};
+
+ghost use Rattle.std.specs.Prelude.{◌≡◌, IfOk, IfErr};
+ghost use Rattle.lq_ast.specs.Holds.{holds, selects};
+ghost use Rattle.lq_ast.specs.Patterns.{patterns_of};
+ghost use Rattle.lq_ast.specs.View.{condition, groups_of};
+ghost use Rattle.lq_filter.specs.Labels.{groups_of as prepared_groups};
+ghost use Rattle.lq_filter.specs.Refusal.{IsRefusal};
+ghost use Rattle.lq_filter.specs.Tree.{condition_of, moment_of, scanned};
+
+/// A query whose filter is prepared.
+#[derive(Drop)]
+pub struct Prepared {
+    filter: Tree,
+}
+
+/// Prepares a query: each regular expression is read, and all that does not depend on a row is done. `RegexRefused`
+/// comes only where the regular expression with that number cannot be read; numbers count from 0 in the order of the
+/// text.
+pub fn prepare(alloc: Global, q: &Query) -> Result<Prepared, PrepareFault>
+    ensures same { IfOk result (λ prepared. condition_of prepared ≡ condition q.now.filter) }
+    ensures refused { IfErr result (IsRefusal 0 (patterns_of (condition q.now.filter))) }
+{
+    let mut nth = 0;
+    let filter = Tree::new(alloc, &q.filter, &mut nth)?;
+    Ok(Prepared { filter })
+}
+
+impl Prepared {
+    /// Whether the filter holds for the row, at the moment `now`, in nanoseconds since 1970. Memory is taken only where
+    /// a pattern, a text in any case of its letters, or a computed text of the row is asked.
+    pub fn holds(&self, alloc: Global, now: i64, row: &Row) -> Result<bool, AllocError>
+        ensures { IfOk result (λ found. found ≡ holds now (condition_of self.now) row.now) }
+    {
+        let mut scan = self.scan(alloc, now);
+        scan.holds(row)
+    }
+
+    /// Whether the selector selects the stream.
+    pub fn selects(&self, alloc: Global, group: &Select, s: &Stream) -> Result<bool, AllocError>
+        ensures { IfOk result (λ found. found ≡ selects (groups_of group.now) s.now) }
+    {
+        let selector = selector_of(alloc, group)?;
+        selects_by(&selector, alloc, s)
+    }
+
+    /// Begins a scan of rows, at the moment `now`, which makes the matcher of a pattern once.
+    pub fn scan(&self, alloc: Global, now: i64) -> Scan<'_>
+        ensures filter { scanned result ≡ condition_of self.now }
+        ensures moment { moment_of result ≡ now }
+    {
+        Scan {
+            alloc,
+            now,
+            filter: &self.filter,
+            matchers: Matchers::new(alloc),
+        }
+    }
+}
+
+fn selector_of(alloc: Global, group: &Select) -> Result<Selector, AllocError>
+    ensures { IfOk result (λ selector. prepared_groups selector ≡ groups_of group.now) }
+{
+    let mut nth = 0;
+    match Selector::new(alloc, group, &mut nth) {
+        Ok(selector) => Ok(selector),
+        Err(_) => Err(AllocError),
+    }
+}
+
+fn selects_by<'p>(selector: &'p Selector, alloc: Global, s: &Stream) -> Result<bool, AllocError>
+    ensures { IfOk result (λ found. found ≡ selects (prepared_groups selector.now) s.now) }
+{
+    let mut matchers: Matchers<'p> = Matchers::new(alloc);
+    selector.selects(alloc, &mut matchers, s)
+}
+
+/// A scan of many rows, which makes the matcher of a pattern once.
+#[derive(Drop)]
+pub struct Scan<'p> {
+    alloc: Global,
+    now: i64,
+    filter: &'p Tree,
+    matchers: Matchers<'p>,
+}
+
+impl<'p> Scan<'p> {
+    /// Whether the filter holds for the row.
+    pub fn holds(&mut self, row: &Row) -> Result<bool, AllocError>
+        ensures value { IfOk result (λ found. found ≡ holds (moment_of self.old) (scanned self.old) row.now) }
+        ensures filter { scanned self.new ≡ scanned self.old }
+        ensures moment { moment_of self.new ≡ moment_of self.old }
+    {
+        self.filter.holds(self.alloc, &mut self.matchers, self.now, row)
+    }
+}

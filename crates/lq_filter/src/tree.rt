@@ -1,0 +1,218 @@
+use crate::fault::PrepareFault;
+use crate::forms;
+use crate::labels::Selector;
+use crate::matchers::Matchers;
+use crate::value::FieldTest;
+use lq_ast::{Filter, Select};
+use std::alloc::{AllocError, Global};
+use vl_row::{Row, Text};
+
+ghost use Rattle.std.specs.Prelude.{◌≡◌, ◌+◌, ◌-ℤ◌, ◌&&◌, ℕ, List, [], ◌∷◌, pos, int_le, int_lt, length, map};
+ghost use Rattle.std.specs.Prelude.{IfOk, IfErr, IsOk};
+ghost use Rattle.lq_ast.specs.Condition as is;
+ghost use Rattle.lq_ast.specs.Condition.{conditions};
+ghost use Rattle.lq_ast.specs.Holds.{all_hold, holds, is_within, some_holds};
+ghost use Rattle.lq_ast.specs.Patterns.{Pattern, patterns_among, patterns_of};
+ghost use Rattle.lq_ast.specs.View.{condition, groups_of};
+ghost use Rattle.lq_filter.specs.Refusal.{IsRefusal};
+ghost use Rattle.lq_filter.specs.Tree.{condition_of_tree};
+ghost use Rattle.lq_filter.specs.Value.{condition_of_field};
+
+/// A filter for which everything that does not depend on a row is done.
+#[derive(Drop)]
+pub(crate) enum Tree {
+    Always,
+    Field(FieldTest),
+    Last { span: i64 },
+    Times { from: i128, to: i128 },
+    Selected(Selector),
+    Not(Box<Tree>),
+    All(Vec<Tree>),
+    Any(Vec<Tree>),
+}
+
+impl Tree {
+    /// Prepares a filter, whose first pattern has the number `nth`, and raises it by the number of patterns.
+    #[cycle(planting)]
+    pub(crate) fn new(alloc: Global, filter: &Filter, nth: &mut u32) -> Result<Tree, PrepareFault>
+        ensures same { IfOk result (λ tree. condition_of_tree tree ≡ condition filter.now) }
+        ensures counted { IsOk result → nth.new ≡ nth.old + length (patterns_of (condition filter.now)) }
+        ensures refused { IfErr result (IsRefusal nth.old (patterns_of (condition filter.now))) }
+    {
+        match filter {
+            Filter::All => Ok(Tree::Always),
+            Filter::Any { field } => of_field(forms::filled(alloc, field)),
+            Filter::Empty { field } => of_field(forms::missing(alloc, field)),
+            Filter::Phrase { field, text } => of_field(forms::phrase(alloc, field, text)),
+            Filter::Prefix { field, text } => of_field(forms::prefix(alloc, field, text)),
+            Filter::Exact { field, text } => of_field(forms::exact(alloc, field, text)),
+            Filter::ExactPrefix { field, text } => of_field(forms::exact_prefix(alloc, field, text)),
+            Filter::OneOf { field, texts } => of_field(forms::one_of(alloc, field, texts.as_slice())),
+            Filter::Regex { field, pattern } => of_pattern(alloc, field, pattern, nth),
+            Filter::Fold { field, text } => of_field(forms::folded(alloc, field, text)),
+            Filter::Seq { field, texts } => of_field(forms::sequence(alloc, field, texts.as_slice())),
+            Filter::Length { field, low, high } => of_field(forms::length(alloc, field, *low, *high)),
+            Filter::Between { field, low, high } => of_field(forms::between(alloc, field, low, high)),
+            Filter::Range { field, low, high } => of_field(forms::number(alloc, field, *low, *high)),
+            Filter::Last { span } => Ok(Tree::Last { span: *span }),
+            Filter::Times { from, to } => Ok(Tree::Times { from: *from, to: *to }),
+            Filter::Select(select) => of_selector(alloc, select, nth),
+            Filter::Not(filter) => negated(alloc, filter, nth),
+            Filter::All2(filters) => all_of(alloc, filters.as_slice(), nth),
+            Filter::Any2(filters) => any_of(alloc, filters.as_slice(), nth),
+        }
+    }
+}
+
+#[cycle(planting)]
+fn negated(alloc: Global, filter: &Filter, nth: &mut u32) -> Result<Tree, PrepareFault>
+    ensures same { IfOk result (λ tree. condition_of_tree tree ≡ is.negated (condition filter.now)) }
+    ensures counted { IsOk result → nth.new ≡ nth.old + length (patterns_of (condition filter.now)) }
+    ensures refused { IfErr result (IsRefusal nth.old (patterns_of (condition filter.now))) }
+{
+    let tree = Tree::new(alloc, filter, nth)?;
+    Ok(Tree::Not(Box::new(alloc, tree)?))
+}
+
+#[cycle(planting)]
+fn all_of(alloc: Global, filters: &[Filter], nth: &mut u32) -> Result<Tree, PrepareFault>
+    ensures same { IfOk result (λ tree. condition_of_tree tree ≡ is.all_of (conditions (map condition filters.now))) }
+    ensures counted { IsOk result → nth.new ≡ nth.old + length (patterns_among (conditions (map condition filters.now))) }
+    ensures refused { IfErr result (IsRefusal nth.old (patterns_among (conditions (map condition filters.now)))) }
+{
+    let trees = trees(alloc, filters, nth)?;
+    Ok(Tree::All(trees))
+}
+
+#[cycle(planting)]
+fn any_of(alloc: Global, filters: &[Filter], nth: &mut u32) -> Result<Tree, PrepareFault>
+    ensures same { IfOk result (λ tree. condition_of_tree tree ≡ is.any_of (conditions (map condition filters.now))) }
+    ensures counted { IsOk result → nth.new ≡ nth.old + length (patterns_among (conditions (map condition filters.now))) }
+    ensures refused { IfErr result (IsRefusal nth.old (patterns_among (conditions (map condition filters.now)))) }
+{
+    let trees = trees(alloc, filters, nth)?;
+    Ok(Tree::Any(trees))
+}
+
+#[cycle(planting)]
+fn trees(alloc: Global, filters: &[Filter], nth: &mut u32) -> Result<Vec<Tree>, PrepareFault>
+    ensures same { IfOk result (λ trees. map condition_of_tree trees.items ≡ map condition filters.now) }
+    ensures counted { IsOk result → nth.new ≡ nth.old + length (patterns_among (conditions (map condition filters.now))) }
+    ensures refused { IfErr result (IsRefusal nth.old (patterns_among (conditions (map condition filters.now)))) }
+{
+    let mut trees = Vec::new(alloc);
+    for filter in filters {
+        let tree = Tree::new(alloc, filter, nth)?;
+        trees.push(tree)?;
+    }
+    Ok(trees)
+}
+
+// A test of a field's value, which has no pattern.
+fn of_field(made: Result<FieldTest, AllocError>) -> Result<Tree, PrepareFault>
+    ensures same { (asked : is.Condition) → IfOk made (λ field. condition_of_field field ≡ asked)
+        → IfOk result (λ tree. condition_of_tree tree ≡ asked) }
+    ensures refused { (first : ℕ) (patterns : List Pattern) → IfErr result (IsRefusal first patterns) }
+{
+    match made {
+        Ok(field) => Ok(Tree::Field(field)),
+        Err(_) => Err(PrepareFault::Memory),
+    }
+}
+
+fn of_pattern(alloc: Global, field: &Text, pattern: &Text, nth: &mut u32) -> Result<Tree, PrepareFault>
+    ensures same { IfOk result (λ tree. condition_of_tree tree ≡ is.pattern field.now pattern.now) }
+    ensures counted { IsOk result → nth.new ≡ nth.old + 1 }
+    ensures refused { IfErr result (IsRefusal nth.old ((pattern.now, pattern.now) ∷ [])) }
+{
+    let field = forms::pattern(alloc, field, pattern, nth)?;
+    Ok(Tree::Field(field))
+}
+
+fn of_selector(alloc: Global, select: &Select, nth: &mut u32) -> Result<Tree, PrepareFault>
+    ensures same { IfOk result (λ tree. condition_of_tree tree ≡ is.selected (groups_of select.now)) }
+    ensures counted { IsOk result → nth.new ≡ nth.old + length (patterns_of (is.selected (groups_of select.now))) }
+    ensures refused { IfErr result (IsRefusal nth.old (patterns_of (is.selected (groups_of select.now)))) }
+{
+    let selector = Selector::new(alloc, select, nth)?;
+    Ok(Tree::Selected(selector))
+}
+
+impl Tree {
+    /// Whether the filter holds for the row, at the moment `now`. The filters of an AND or an OR are asked in their
+    /// order, up to the first that settles it.
+    #[cycle(holding)]
+    pub(crate) fn holds<'p>(
+        &'p self,
+        alloc: Global,
+        matchers: &mut Matchers<'p>,
+        now: i64,
+        row: &Row,
+    ) -> Result<bool, AllocError>
+        ensures { IfOk result (λ found. found ≡ holds now (condition_of_tree self.now) row.now) }
+    {
+        match self {
+            Tree::Always => Ok(true),
+            Tree::Field(field) => field.holds(alloc, matchers, row),
+            Tree::Last { span } => Ok(is_recent(now, *span, row)),
+            Tree::Times { from, to } => Ok(is_during(*from, *to, row)),
+            Tree::Selected(selector) => selector.selects(alloc, matchers, row.stream()),
+            Tree::Not(tree) => Ok(!tree.holds(alloc, matchers, now, row)?),
+            Tree::All(trees) => all_hold(trees.as_slice(), alloc, matchers, now, row),
+            Tree::Any(trees) => some_holds(trees.as_slice(), alloc, matchers, now, row),
+        }
+    }
+}
+
+#[cycle(holding)]
+fn all_hold<'p>(
+    trees: &'p [Tree],
+    alloc: Global,
+    matchers: &mut Matchers<'p>,
+    now: i64,
+    row: &Row,
+) -> Result<bool, AllocError>
+    ensures { IfOk result (λ found. found ≡ all_hold now (conditions (map condition_of_tree trees.now)) row.now) }
+{
+    for tree in trees {
+        let found = tree.holds(alloc, matchers, now, row)?;
+        if !found {
+            return Ok(false);
+        }
+    }
+    Ok(true)
+}
+
+#[cycle(holding)]
+fn some_holds<'p>(
+    trees: &'p [Tree],
+    alloc: Global,
+    matchers: &mut Matchers<'p>,
+    now: i64,
+    row: &Row,
+) -> Result<bool, AllocError>
+    ensures { IfOk result (λ found. found ≡ some_holds now (conditions (map condition_of_tree trees.now)) row.now) }
+{
+    for tree in trees {
+        let found = tree.holds(alloc, matchers, now, row)?;
+        if found {
+            return Ok(true);
+        }
+    }
+    Ok(false)
+}
+
+// Whether the row is not older than so many nanoseconds, and not of the future.
+fn is_recent(now: i64, span: i64, row: &Row) -> bool
+    ensures { result ≡ (int_lt (now -ℤ span) (pos row.now.moment) && int_le (pos row.now.moment) now) }
+{
+    let time = row.time();
+    now as i128 - (span as i128) < time as i128 && time <= now
+}
+
+fn is_during(from: i128, to: i128, row: &Row) -> bool
+    ensures { result ≡ is_within from to (pos row.now.moment) }
+{
+    let time = row.time() as i128;
+    from <= time && time <= to
+}

@@ -1,0 +1,233 @@
+use crate::matchers::Matchers;
+use crate::pattern::Pattern;
+use crate::phrase::Phrase;
+use caseless::Caseless;
+use std::alloc::{AllocError, Global};
+use std::marker::Model;
+use stream_label::{label_text, stream_id};
+use time_text::write_moment;
+use vl_row::{Row, Text, number};
+
+ghost use Rattle.std.specs.Prelude.{◌≡◌, ◌&&◌, ◌≤◌, ◌∷◌, ℕ, List, false, not, nat_le, length, chars, bytes_eq};
+ghost use Rattle.std.specs.Prelude.{IfOk, IfSome, IsTrue, MatchOption, if◌then◌else◌};
+ghost use Rattle.std.specs.List.{list_any};
+ghost use Rattle.std.specs.Option.{option_map_or};
+ghost use Rattle.std.specs.Ordering.{is_lt};
+ghost use Rattle.log_model.specs.Field.{bytes_cmp, is_empty, is_reserved};
+ghost use Rattle.log_model.specs.Order.{number_of};
+ghost use Rattle.log_model.specs.Row.{value_of};
+ghost use Rattle.log_model.specs.Words.{occurs};
+ghost use Rattle.lq_ast.specs.Holds.{is_within};
+ghost use Rattle.lq_ast.specs.Phrases.{case_folded, in_order, occurs_prefix};
+
+/// What is asked of the value of a field.
+#[derive(Drop)]
+pub(crate) enum ValueTest {
+    Filled,
+    Missing,
+    Phrase(Phrase),
+    Prefix(Phrase),
+    Exact(Text),
+    ExactPrefix(Text),
+    OneOf(Vec<Text>),
+    Pattern(Pattern),
+    Folded(Folded),
+    Sequence(Vec<Phrase>),
+    Length { low: u64, high: u64 },
+    Between { low: Text, high: Text },
+    Number { low: i128, high: i128 },
+}
+
+impl ValueTest {
+    ghost use Rattle.lq_filter.specs.Value.{value_holds};
+
+    fn holds<'p>(
+        &'p self,
+        alloc: Global,
+        matchers: &mut Matchers<'p>,
+        value: &str,
+    ) -> Result<bool, AllocError>
+        ensures { IfOk result (λ found. found ≡ value_holds self.now value.now) }
+    {
+        match self {
+            ValueTest::Filled => Ok(!value.is_empty()),
+            ValueTest::Missing => Ok(value.is_empty()),
+            ValueTest::Phrase(phrase) => Ok(phrase.occurs_in(value)),
+            ValueTest::Prefix(phrase) => Ok(has_prefix(phrase, value)),
+            ValueTest::Exact(text) => Ok(value == text.as_str()),
+            ValueTest::ExactPrefix(text) => Ok(value.as_bytes().starts_with(text.as_str().as_bytes())),
+            ValueTest::OneOf(texts) => Ok(is_one_of(texts.as_slice(), value)),
+            ValueTest::Pattern(pattern) => matchers.is_found(alloc, pattern, value),
+            ValueTest::Folded(folded) => folded.is_in(alloc, value),
+            ValueTest::Sequence(phrases) => Ok(are_in_order(phrases.as_slice(), value)),
+            ValueTest::Length { low, high } => Ok(has_length(value, *low, *high)),
+            ValueTest::Between { low, high } => Ok(is_between(value, low.as_str(), high.as_str())),
+            ValueTest::Number { low, high } => Ok(is_number_within(value, *low, *high)),
+        }
+    }
+}
+
+/// A field, and what is asked of its value.
+#[derive(Drop)]
+pub(crate) struct FieldTest {
+    pub(crate) name: Text,
+    pub(crate) test: ValueTest,
+}
+
+impl FieldTest {
+    ghost use Rattle.lq_filter.specs.Value.{value_holds};
+
+    pub(crate) fn holds<'p>(
+        &'p self,
+        alloc: Global,
+        matchers: &mut Matchers<'p>,
+        row: &Row,
+    ) -> Result<bool, AllocError>
+        ensures { IfOk result (λ found. found ≡ value_holds self.now.test (value_of row.now self.now.name)) }
+    {
+        let name = self.name.as_str();
+        if !is_computed(name) {
+            return self.test.holds(alloc, matchers, row.value(name));
+        }
+        let text = computed(alloc, name, row)?;
+        self.test.holds(alloc, matchers, text.as_str())
+    }
+}
+
+// Whether the field is no stored one: the moment, or the text or the id of the stream.
+fn is_computed(name: &str) -> bool
+    ensures { result ≡ is_reserved name.now }
+{
+    name == "_time" || name == "_stream" || name == "_stream_id"
+}
+
+fn computed(alloc: Global, name: &str, row: &Row) -> Result<Text, AllocError>
+    requires { IsTrue (is_reserved name.now) }
+    ensures { IfOk result (λ text. text ≡ value_of row.now name.now) }
+{
+    let mut text = Text::new();
+    if name == "_time" {
+        write_moment(alloc, row.time(), &mut text)?;
+        return Ok(text);
+    }
+    if name == "_stream" {
+        label_text(alloc, row.stream(), &mut text)?;
+        return Ok(text);
+    }
+    stream_id(alloc, row.stream(), &mut text)?;
+    Ok(text)
+}
+
+fn has_prefix(phrase: &Phrase, value: &str) -> bool
+    ensures { result ≡ (if is_empty phrase.now then not (is_empty value.now) else occurs_prefix value.now phrase.now) }
+{
+    if phrase.is_empty() {
+        !value.is_empty()
+    } else {
+        phrase.occurs_as_prefix_in(value)
+    }
+}
+
+fn is_one_of(texts: &[Text], value: &str) -> bool
+    ensures { result ≡ list_any (bytes_eq value.now) texts.now }
+{
+    texts.iter().any(|text| value == text.as_str())
+}
+
+/// A phrase that is looked for whatever the case of its letters.
+#[derive(Drop)]
+pub(crate) struct Folded {
+    text: Text,
+    phrase: Phrase,
+}
+
+impl Model for Folded {
+    ghost use Rattle.std.specs.Prelude.{◌≡◌, ℕ, List};
+    ghost use Rattle.lq_ast.specs.Phrases.{case_folded};
+
+    ghost Value = { List ℕ };
+
+    ghost view = { λ f. f.text };
+
+    ghost invariant = { λ f. f.phrase ≡ case_folded f.text };
+}
+
+impl Folded {
+    pub(crate) fn new(alloc: Global, text: &str) -> Result<Folded, AllocError>
+        ensures { IfOk result (λ folded. folded ≡ text.now) }
+    {
+        let folded = caseless::default_case_fold_str(alloc, text)?;
+        let phrase = Phrase::new(alloc, folded.as_str())?;
+        let text = Text::try_of(alloc, text)?;
+        Ok(Folded { text, phrase })
+    }
+
+    fn is_in(&self, alloc: Global, value: &str) -> Result<bool, AllocError>
+        ensures { IfOk result (λ found. found ≡ (if is_empty self.now then is_empty value.now
+            else occurs (case_folded value.now) (case_folded self.now))) }
+    {
+        if self.text.as_str().is_empty() {
+            return Ok(value.is_empty());
+        }
+        let folded = caseless::default_case_fold_str(alloc, value)?;
+        Ok(self.phrase.occurs_in(folded.as_str()))
+    }
+}
+
+// Whether the phrases stand in the value in this order, each from the end of the one before or later.
+fn are_in_order(phrases: &[Phrase], value: &str) -> bool
+    ensures { result ≡ in_order value.now 0 phrases.now }
+{
+    let mut from = 0;
+    for phrase in phrases {
+        let Some(end) = end_from(phrase, value, from) else {
+            return false;
+        };
+        from = end;
+    }
+    true
+}
+
+// The end of the first place from `from` on at which the phrase stands, which leaves most room for others; an empty
+// one is passed over.
+fn end_from(phrase: &Phrase, value: &str, from: usize) -> Option<usize>
+    requires { from ≤ length value.now }
+    ensures found { IfSome result (λ end. end ≤ length value.now) }
+    ensures others { (more : List (List ℕ)) → MatchOption result (in_order value.now from (phrase.now ∷ more) ≡ false)
+        (λ end. in_order value.now from (phrase.now ∷ more) ≡ in_order value.now end more) }
+{
+    if phrase.is_empty() {
+        return Some(from);
+    }
+    let place = phrase.place_from(value, from)?;
+    Some(place + phrase.len())
+}
+
+fn has_length(value: &str, low: u64, high: u64) -> bool
+    ensures { result ≡ (nat_le low (length (chars value.now)) && nat_le (length (chars value.now)) high) }
+{
+    let length = characters(value) as u64;
+    low <= length && length <= high
+}
+
+fn characters(value: &str) -> usize
+    ensures { result ≡ length (chars value.now) }
+{
+    value.chars().count()
+}
+
+fn is_between(value: &str, low: &str, high: &str) -> bool
+    ensures { result ≡ (not (is_lt (bytes_cmp value.now low.now)) && is_lt (bytes_cmp value.now high.now)) }
+{
+    let value = value.as_bytes();
+    !value.cmp(low.as_bytes()).is_lt() && value.cmp(high.as_bytes()).is_lt()
+}
+
+fn is_number_within(value: &str, low: i128, high: i128) -> bool
+    ensures { result ≡ option_map_or (is_within low high) (number_of value.now) false }
+{
+    match number(value) {
+        Some(n) => low <= n as i128 && n as i128 <= high,
+        None => false,
+    }
+}

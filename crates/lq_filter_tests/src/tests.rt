@@ -1,0 +1,126 @@
+use lq_ast::{Filter, Group, How, LabelTest, Query, Select};
+use lq_filter::{PrepareFault, prepare};
+use std::alloc::{AllocError, Global};
+use std::test::Fail;
+use vl_row::{FieldList, Row, Text};
+
+/// A row of this time, whose stream has the label `app` with this value, or no label where it is empty.
+fn row_of(alloc: Global, time: i64, app: &str) -> Result<Row, AllocError> {
+    let mut fields = FieldList::new(alloc);
+    fields.set(alloc, "app", app)?;
+    fields.set(alloc, "v", "x")?;
+    let mut names = Vec::new(alloc);
+    names.push(Text::try_of(alloc, "app")?)?;
+    Row::try_new(alloc, time, names.as_slice(), fields).map_err(|_| AllocError)
+}
+
+fn holds(alloc: Global, filter: Filter, now: i64, row: &Row) -> Result<bool, AllocError> {
+    let query = Query { filter };
+    match prepare(alloc, &query) {
+        Ok(prepared) => prepared.holds(alloc, now, row),
+        Err(_) => Err(AllocError),
+    }
+}
+
+fn is_recent(alloc: Global, span: i64, now: i64, time: i64) -> Result<bool, AllocError> {
+    let row = row_of(alloc, time, "")?;
+    holds(alloc, Filter::Last { span }, now, &row)
+}
+
+#[test]
+fn last_takes_in_now_and_leaves_out_the_first_moment(rt: HostRuntime) -> Result<(), Fail> {
+    assert!(rt; is_recent(rt.alloc(), 5, 10, 10)?);
+    assert!(rt; is_recent(rt.alloc(), 5, 10, 6)?);
+    Ok(())
+}
+
+#[test]
+fn last_is_over(rt: HostRuntime) -> Result<(), Fail> {
+    assert!(rt; !is_recent(rt.alloc(), 5, 10, 5)?);
+    assert!(rt; !is_recent(rt.alloc(), 5, 10, 11)?);
+    Ok(())
+}
+
+fn is_during(alloc: Global, time: i64) -> Result<bool, AllocError> {
+    let row = row_of(alloc, time, "")?;
+    holds(alloc, Filter::Times { from: 3, to: 5 }, 0, &row)
+}
+
+#[test]
+fn times_take_in_both_ends(rt: HostRuntime) -> Result<(), Fail> {
+    assert!(rt; is_during(rt.alloc(), 3)? && is_during(rt.alloc(), 5)?);
+    assert!(rt; !is_during(rt.alloc(), 2)? && !is_during(rt.alloc(), 6)?);
+    Ok(())
+}
+
+/// `{app HOW text}`
+fn selector(alloc: Global, how: How, text: &str) -> Result<Select, AllocError> {
+    let mut labels = Vec::new(alloc);
+    let name = Text::try_of(alloc, "app")?;
+    let text = Text::try_of(alloc, text)?;
+    labels.push(LabelTest { name, how, text })?;
+    let mut groups = Vec::new(alloc);
+    groups.push(Group { labels })?;
+    Ok(Select { groups })
+}
+
+fn selects(alloc: Global, how: How, text: &str, app: &str) -> Result<bool, AllocError> {
+    let select = selector(alloc, how, text)?;
+    let row = row_of(alloc, 0, app)?;
+    holds(alloc, Filter::Select(select), 0, &row)
+}
+
+#[test]
+fn a_missing_label_is_empty(rt: HostRuntime) -> Result<(), Fail> {
+    assert!(rt; selects(rt.alloc(), How::IsNot, "dev", "")?);
+    assert!(rt; selects(rt.alloc(), How::Matches, "(dev)?", "")?);
+    Ok(())
+}
+
+#[test]
+fn a_label_matches_as_a_whole(rt: HostRuntime) -> Result<(), Fail> {
+    assert!(rt; !selects(rt.alloc(), How::Matches, "dev", "dev2")?);
+    assert!(rt; selects(rt.alloc(), How::MatchesNot, "a|dev", "dev2")?);
+    Ok(())
+}
+
+#[test]
+fn no_group_selects_all(rt: HostRuntime) -> Result<(), Fail> {
+    let groups = Vec::new(rt.alloc());
+    let row = row_of(rt.alloc(), 0, "")?;
+    assert!(rt; holds(rt.alloc(), Filter::Select(Select { groups }), 0, &row)?);
+    Ok(())
+}
+
+fn pattern(alloc: Global, text: &str) -> Result<Filter, AllocError> {
+    let field = Text::try_of(alloc, "v")?;
+    let pattern = Text::try_of(alloc, text)?;
+    Ok(Filter::Regex { field, pattern })
+}
+
+fn second_is_refused(alloc: Global, second: Filter) -> Result<bool, AllocError> {
+    let mut filters = Vec::new(alloc);
+    filters.push(pattern(alloc, "a")?)?;
+    filters.push(second)?;
+    let query = Query {
+        filter: Filter::Any2(filters),
+    };
+    match prepare(alloc, &query) {
+        Err(fault) => Ok(fault == PrepareFault::RegexRefused { nth: 1 }),
+        Ok(_) => Ok(false),
+    }
+}
+
+#[test]
+fn patterns_count_from_the_left(rt: HostRuntime) -> Result<(), Fail> {
+    let second = pattern(rt.alloc(), "(")?;
+    assert!(rt; second_is_refused(rt.alloc(), second)?);
+    Ok(())
+}
+
+#[test]
+fn a_label_has_to_be_readable_alone(rt: HostRuntime) -> Result<(), Fail> {
+    let select = selector(rt.alloc(), How::Matches, "a)(b")?;
+    assert!(rt; second_is_refused(rt.alloc(), Filter::Select(select))?);
+    Ok(())
+}
