@@ -32,8 +32,8 @@ abbrev pub selects : List Tests → List Field → Bool
 selects groups labels = (length groups == 0) || list_any (list_all (passes labels)) groups
 
 -- The condition holds for the row at the moment `now`. The value of a missing field is empty.
-mutual
-  abbrev pub holds : ℤ → Condition → Row → Bool
+abbrev mutual
+  pub holds : ℤ → Condition → Row → Bool
   holds now is.always row = true
   holds now (is.some_value name) row = not (is_empty (value_of row name))
   holds now (is.no_value name) row = is_empty (value_of row name)
@@ -61,10 +61,10 @@ mutual
   holds now (is.all_of conditions) row = all_hold now conditions row
   holds now (is.any_of conditions) row = some_holds now conditions row
 
-  abbrev pub all_hold : ℤ → Conditions → Row → Bool
+  pub all_hold : ℤ → Conditions → Row → Bool
   all_hold now is.no_more row = true
   all_hold now (is.one_more condition conditions) row = holds now condition row && all_hold now conditions row
 
-  abbrev pub some_holds : ℤ → Conditions → Row → Bool
+  pub some_holds : ℤ → Conditions → Row → Bool
   some_holds now is.no_more row = false
   some_holds now (is.one_more condition conditions) row = holds now condition row || some_holds now conditions row

@@ -35,8 +35,8 @@ patterns_of_test (name, Matches, text) = (text, whole text) ∷ []
 patterns_of_test (name, MatchesNot, text) = (text, whole text) ∷ []
 
 -- the patterns of a condition, in the order of the text
-mutual
-  abbrev pub patterns_of : Condition → List Pattern
+abbrev mutual
+  pub patterns_of : Condition → List Pattern
   patterns_of (is.pattern name text) = (text, text) ∷ []
   patterns_of (is.selected groups) = flat_map (flat_map patterns_of_test) groups
   patterns_of (is.negated condition) = patterns_of condition
@@ -44,6 +44,6 @@ mutual
   patterns_of (is.any_of conditions) = patterns_among conditions
   patterns_of _ = []
 
-  abbrev pub patterns_among : Conditions → List Pattern
+  pub patterns_among : Conditions → List Pattern
   patterns_among is.no_more = []
   patterns_among (is.one_more condition conditions) = patterns_of condition ++ patterns_among conditions

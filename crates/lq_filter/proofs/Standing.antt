@@ -7,7 +7,7 @@ use Rattle.std.specs.List.{list_any, range_with_len, starts_with}
 use Rattle.memchr.specs.Find.{Nowhere, OccursAt}
 use Rattle.log_model.specs.Words.{begins_word, ends_word, occurs, stands_at}
 use Rattle.word_tokens.proofs.Places.{OccursAt-starts_with}
-use Rattle.lq_ast.specs.Phrases.{begins_at, occurs_prefix}
+use Rattle.word_tokens.specs.Prefix.{stands_as_prefix, occurs_as_prefix}
 use Rattle.lq_filter.specs.Search.{FindsFirst, stands_apart_at}
 use Rattle.lq_filter.proofs.Places.{any_at, any_from_first}
 
@@ -41,7 +41,7 @@ and-true : (a : Bool) → (a && true) ≡ a
 and-true true = refl
 and-true false = refl
 
-without_end : (text phrase : List ℕ) (place : ℕ) → stands_apart_at false text phrase place ≡ begins_at text phrase place
+without_end : (text phrase : List ℕ) (place : ℕ) → stands_apart_at false text phrase place ≡ stands_as_prefix text phrase place
 without_end text phrase place = ap (λ b. starts_with nat_eq (drop place text) phrase && b)
     (and-true (not (begins_word (chars phrase) && ends_word (chars (take place text)))))
 
@@ -51,12 +51,12 @@ finds_alike f g same from end Option.None found = λ k low high. sym (same k) �
 finds_alike f g same from end (Option.Some place) found =
     (found.0, found.1, sym (same place) ∙ found.2, λ k low high. sym (same k) ∙ found.3 k low high)
 
-pub OCCF : (text phrase : List ℕ) (first : Option ℕ)
-    → FindsFirst (stands_apart_at false text phrase) 0 (length text) first → is_some first ≡ occurs_prefix text phrase
-unfolding occurs_prefix
-OCCF text phrase first found =
-    any_from_first (begins_at text phrase) (length text) first
-      (finds_alike (stands_apart_at false text phrase) (begins_at text phrase) (without_end text phrase) 0 (length text) first found)
+pub occurs_as_prefix-first : (text phrase : List ℕ) (first : Option ℕ)
+    → FindsFirst (stands_apart_at false text phrase) 0 (length text) first → is_some first ≡ occurs_as_prefix text phrase
+unfolding occurs_as_prefix
+occurs_as_prefix-first text phrase first found =
+    any_from_first (stands_as_prefix text phrase) (length text) first
+      (finds_alike (stands_apart_at false text phrase) (stands_as_prefix text phrase) (without_end text phrase) 0 (length text) first found)
 
 -- the empty phrase stands anywhere
 pub occurs-empty : (text phrase : List ℕ) → length phrase ≡ 0 → true ≡ occurs text phrase

@@ -9,7 +9,8 @@ use Rattle.log_model.specs.Words.{occurs}
 use Rattle.lq_ast.specs.Condition as is
 use Rattle.lq_ast.specs.Holds.{is_within}
 use Rattle.lq_ast.specs.Patterns.{is_found}
-use Rattle.lq_ast.specs.Phrases.{case_folded, in_order, occurs_prefix}
+use Rattle.lq_ast.specs.Phrases.{case_folded, in_order}
+use Rattle.word_tokens.specs.Prefix.{occurs_as_prefix}
 use Rattle.lq_filter.specs.declared.value.FieldTest.{FieldTest}
 use Rattle.lq_filter.specs.declared.value.ValueTest.{ValueTest}
 use Rattle.lq_filter.specs.declared.value.ValueTest.TheVariants.{Filled, Missing, Phrase, Prefix, Exact, ExactPrefix}
@@ -19,7 +20,7 @@ abbrev pub value_holds : ValueTest → List ℕ → Bool
 value_holds Filled value = not (is_empty value)
 value_holds Missing value = is_empty value
 value_holds (Phrase text) value = occurs value text
-value_holds (Prefix text) value = if is_empty text then not (is_empty value) else occurs_prefix value text
+value_holds (Prefix text) value = if is_empty text then not (is_empty value) else occurs_as_prefix value text
 value_holds (Exact text) value = bytes_eq value text
 value_holds (ExactPrefix text) value = starts_with nat_eq value text
 value_holds (OneOf texts) value = list_any (bytes_eq value) texts.items

@@ -6,7 +6,7 @@ use word_tokens::is_word;
 ghost use Rattle.std.specs.Prelude.{◌≡◌, ◌==◌, ◌<◌, ◌≤◌, ◌+◌, false, length, chars, IfOk, IfSome};
 ghost use Rattle.memchr.specs.Find.{FindsNeedle, OccursAt};
 ghost use Rattle.log_model.specs.Words.{begins_word as begins_word_of, ends_word as ends_word_of, occurs, stands_at};
-ghost use Rattle.lq_ast.specs.Phrases.{occurs_prefix};
+ghost use Rattle.word_tokens.specs.Prefix.{occurs_as_prefix};
 ghost use Rattle.lq_filter.specs.Search.{FindsFirst, stands_apart_at};
 
 /// A phrase, with a searcher for its bytes that is made once.
@@ -63,7 +63,7 @@ impl Phrase {
     /// The same, where a word may go on behind it.
     pub(crate) fn occurs_as_prefix_in(&self, text: &str) -> bool
         requires { 0 < length self.now }
-        ensures { result ≡ occurs_prefix text.now self.now }
+        ensures { result ≡ occurs_as_prefix text.now self.now }
     {
         self.first_from(text, 0, false).is_some()
     }

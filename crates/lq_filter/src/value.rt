@@ -18,7 +18,8 @@ ghost use Rattle.log_model.specs.Order.{number_of};
 ghost use Rattle.log_model.specs.Row.{value_of};
 ghost use Rattle.log_model.specs.Words.{occurs};
 ghost use Rattle.lq_ast.specs.Holds.{is_within};
-ghost use Rattle.lq_ast.specs.Phrases.{case_folded, in_order, occurs_prefix};
+ghost use Rattle.lq_ast.specs.Phrases.{case_folded, in_order};
+ghost use Rattle.word_tokens.specs.Prefix.{occurs_as_prefix};
 
 /// What is asked of the value of a field.
 #[derive(Drop)]
@@ -119,7 +120,7 @@ fn computed(alloc: Global, name: &str, row: &Row) -> Result<Text, AllocError>
 }
 
 fn has_prefix(phrase: &Phrase, value: &str) -> bool
-    ensures { result ≡ (if is_empty phrase.now then not (is_empty value.now) else occurs_prefix value.now phrase.now) }
+    ensures { result ≡ (if is_empty phrase.now then not (is_empty value.now) else occurs_as_prefix value.now phrase.now) }
 {
     if phrase.is_empty() {
         !value.is_empty()
