@@ -1,4 +1,6 @@
-use Rattle.std.proofs.Common.{◌≡◌, map, refl, rules}
+use Rattle.std.proofs.Common.{◌≡◌, FitsSigned, map, refl, rules}
+use Rattle.std.proofs.lemmas.Int.{to_z-of_z}
+use Rattle.std.specs.Int.{w128}
 use Rattle.lq_ast.specs.Condition as is
 use Rattle.lq_ast.specs.declared.filter.Filter.{the_lemmas}
 use Rattle.lq_ast.specs.declared.filter.Filter.TheVariants as form
@@ -73,7 +75,10 @@ Tree::new-returns-in-Range-clause-refused t c = c.of_field-in-Range.ensures.refu
 pub Tree::new-returns-in-Range-clause-same : goal.Tree::new-returns-in-Range-clause-same
 Tree::new-returns-in-Range-clause-same t c =
     let same : condition (form.Range c.in-Range.field c.in-Range.low c.in-Range.high) ≡ is.number_in c.in-Range.field c.in-Range.low c.in-Range.high = search (rules, the_lemmas) in
-    rw (c.in-Range.is, same) (c.of_field-in-Range.ensures.same _ c.number.ensures)
+    let low : FitsSigned w128 c.in-Range.low = search rules in
+    let high : FitsSigned w128 c.in-Range.high = search rules in
+    let made = c.of_field-in-Range.ensures.same _ c.number.ensures in
+    rw (c.in-Range.is, same) (simp to_z-of_z at made)
 
 pub trees-returns-in_err-tree-clause-refused : goal.trees-returns-in_err-tree-clause-refused
 trees-returns-in_err-tree-clause-refused t c =
