@@ -1,4 +1,5 @@
 pub mod Conditions
+pub mod Folding
 pub mod Order
 pub mod Places
 pub mod Reading

@@ -12,4 +12,4 @@ mod tree;
 mod value;
 
 pub use fault::PrepareFault;
-pub use prepared::{Prepared, Scan};
+pub use prepared::{Prepared, Scan, prepare};
