@@ -5,9 +5,9 @@ use Rattle.grammar.specs.Spelling.{◌>>=◌}
 use Rattle.grammar.specs.Reading.{Answer, stuck, mapped, first}
 use Rattle.grammar.proofs.Whole.{takes}
 use Rattle.grammar.proofs.Turns.{list_step}
-use Rattle.lq_parse.specs.Values.{Bytes, Reason}
-use Rattle.lq_parse.specs.LogsQL.{Parse, logsql, behind}
-use Rattle.lq_parse.specs.Clauses.{at, all_at}
+use Rattle.lq_grammar.specs.Values.{Bytes, Reason}
+use Rattle.lq_grammar.specs.LogsQL.{Parse, logsql, behind}
+use Rattle.lq_grammar.specs.Clauses.{at, all_at}
 
 abbrev Tokens : Type 0
 Tokens = List (Token Bytes)

@@ -7,7 +7,7 @@ use Rattle.lq_ast.specs.Condition as is
 use Rattle.lq_ast.specs.View.{condition}
 use Rattle.lq_ast.specs.declared.filter.Filter.{Filter, the_lemmas}
 use Rattle.lq_ast.specs.declared.filter.Filter.TheVariants.{Not}
-use Rattle.lq_parse.specs.Values.{Bytes, Reason}
+use Rattle.lq_grammar.specs.Values.{Bytes, Reason}
 
 condition-Not : (b : Box Filter Global) → condition (Not b) ≡ is.negated (condition b.value)
 condition-Not b = search (rules, the_lemmas)

@@ -1,16 +1,16 @@
 -- Which tokens a rule begins with.
 use Rattle.std.proofs.Common.{◌≡◌, ℕ, Ok, ◌||◌, List, [], ◌∷◌, ◌++◌, refl, ap, ◌∙◌, Bool, true, false}
 use Rattle.grammar.specs.Reading.{first}
-use Rattle.lq_parse.specs.declared.role.Role.TheVariants.{Minus}
-use Rattle.lq_parse.specs.Roles.{any, words, starts}
-use Rattle.lq_parse.specs.Values.{Bytes}
-use Rattle.lq_parse.specs.LogsQL.{heads, arg, args, texts, optional_groups, groups, labels, label, next_unary, unary, unit, selector, call_unit, range_unit, word_unit, mark_leaf, exact, regex, greater, less, star}
+use Rattle.lq_grammar.specs.declared.role.Role.TheVariants.{Minus}
+use Rattle.lq_grammar.specs.Roles.{any, words, starts}
+use Rattle.lq_grammar.specs.Values.{Bytes}
+use Rattle.lq_grammar.specs.LogsQL.{heads, arg, args, texts, optional_groups, groups, labels, label, next_unary, unary, unit, selector, call_unit, range_unit, word_unit, mark_leaf, exact, regex, greater, less, star}
 use Rattle.grammar.proofs.Sets.{inside, inside_next}
 use Rattle.std.proofs.Common.{sym}
-use Rattle.lq_parse.specs.Clauses.{at}
+use Rattle.lq_grammar.specs.Clauses.{at}
 use Rattle.std.proofs.lemmas.Bool.{cond-true, cond-false}
 use Rattle.grammar.specs.Rule.{Token, Class, next}
-use Rattle.lq_parse.proofs.Codes.{member-append}
+use Rattle.lq_grammar.proofs.Codes.{member-append}
 
 pub next_append : {X : Type 0} → (a b : Class) (u : List (Token X)) → next (a ++ b) u ≡ (next a u || next b u)
 next_append a b [] = refl

@@ -1,10 +1,5 @@
-pub mod Numbers
-pub mod Codes
-pub mod Listing
 pub mod Firsts
 pub mod Behind
 pub mod Parts
-pub mod Passing
-pub mod Answered
 pub mod Turning
 pub mod Denied

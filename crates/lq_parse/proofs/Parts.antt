@@ -7,10 +7,10 @@ use Rattle.grammar.specs.Spelling.{◌>>=◌}
 use Rattle.grammar.specs.Reading.{Answer, stuck, mapped}
 use Rattle.grammar.proofs.Turns.{no_turn, one_turn}
 use Rattle.grammar.proofs.Whole.{takes}
-use Rattle.lq_parse.specs.Roles.{glued, run_parts}
-use Rattle.lq_parse.specs.Values.{Bytes, Reason}
-use Rattle.lq_parse.specs.LogsQL.{logsql, text, run_rest}
-use Rattle.lq_parse.specs.Clauses.{at, all_at}
+use Rattle.lq_grammar.specs.Roles.{glued, run_parts}
+use Rattle.lq_grammar.specs.Values.{Bytes, Reason}
+use Rattle.lq_grammar.specs.LogsQL.{logsql, text, run_rest}
+use Rattle.lq_grammar.specs.Clauses.{at, all_at}
 
 abbrev Tokens : Type 0
 Tokens = List (Token Bytes)

@@ -9,11 +9,11 @@ use Rattle.grammar.proofs.Whole.{takes}
 use Rattle.grammar.proofs.Sound.{rest_is}
 use Rattle.lq_ast.specs.Condition.{Condition, Conditions}
 use Rattle.lq_ast.specs.Condition as is
-use Rattle.lq_parse.specs.declared.fault.Stop.{Stop as Halt}
-use Rattle.lq_parse.specs.declared.fault.Stop.TheVariants.{Stuck, TooDeep, BadNumber, BadTime, BadDuration, Memory}
-use Rattle.lq_parse.specs.Values.{Bytes, Reason, Filtering, denied, of_list}
-use Rattle.lq_parse.specs.LogsQL.{Name, heads, rules, logsql, Parse, next_unary, unary, unit, selector, call_unit, range_unit, word_unit, mark_leaf, exact, regex, greater, less, star}
-use Rattle.lq_parse.specs.Clauses.{Fails, at, all_at, name_at}
+use Rattle.lq_grammar.specs.declared.fault.Stop.{Stop as Halt}
+use Rattle.lq_grammar.specs.declared.fault.Stop.TheVariants.{Stuck, TooDeep, BadNumber, BadTime, BadDuration, Memory}
+use Rattle.lq_grammar.specs.Values.{Bytes, Reason, Filtering, denied, of_list}
+use Rattle.lq_grammar.specs.LogsQL.{Name, heads, rules, logsql, Parse, next_unary, unary, unit, selector, call_unit, range_unit, word_unit, mark_leaf, exact, regex, greater, less, star}
+use Rattle.lq_grammar.specs.Clauses.{Fails, at, all_at, name_at}
 
 pub named_none : (depth : ℕ) (n : Name) (u : List (Token Bytes)) → next (heads n) u ≡ false → name_at depth n u ≡ Err (stuck (length u))
 named_none depth n u h = turns.named_none logsql depth n u h

@@ -1,5 +1,5 @@
 -- The ends of ranges as values.
-use Rattle.lq_parse.specs.Values as value
+use Rattle.lq_grammar.specs.Values as value
 use Rattle.lq_parse.specs.Assumed as assumed
 use Rattle.lq_parse.specs.declared.assumed.Lasting.{Lasting}
 use Rattle.lq_parse.specs.declared.assumed.Lasting.TheVariants.{NoDuration, TooLong, For}

@@ -2,18 +2,18 @@
 ghost use Rattle.std.specs.Prelude.{◌≡◌, ℕ};
 ghost use Rattle.grammar.specs.Rule.{next};
 ghost use Rattle.grammar.specs.Reading.{first};
-ghost use Rattle.lq_parse.specs.LogsQL.{arg, args, texts, heads};
-ghost use Rattle.lq_parse.specs.Clauses.{Gives, at as at_of};
+ghost use Rattle.lq_grammar.specs.LogsQL.{arg, args, texts, heads};
+ghost use Rattle.lq_grammar.specs.Clauses.{Gives, at as at_of};
 
-use crate::fault::Stop;
-use crate::item::Item;
-use crate::role::{BARES, Role, WORDS};
-use crate::scan::{at, glued_text, past, text, text_of};
+use lq_grammar::Stop;
+use lq_grammar::Item;
+use lq_grammar::role::{BARES, Role, WORDS};
+use lq_grammar::scan::{at, glued_text, past, text, text_of};
 use std::alloc::Global;
 use vl_row::Text;
 
 /// One argument.
-#[tactic(auto, unfolding(crate::specs::LogsQL::arg))]
+#[tactic(auto, unfolding(lq_grammar::specs::LogsQL::arg))]
 pub(crate) fn arg<'t>(alloc: Global, tokens: &'t [Item]) -> Result<(Text, &'t [Item]), Stop>
     ensures { (depth : ℕ) → Gives (λ x. (x.0, x.1.now)) result (at_of depth arg tokens.now) }
 {
@@ -28,7 +28,7 @@ pub(crate) fn arg<'t>(alloc: Global, tokens: &'t [Item]) -> Result<(Text, &'t [I
 }
 
 /// Whether an argument begins here.
-#[tactic(auto, using(crate::proofs::Firsts::next_append), unfolding(crate::specs::LogsQL::arg))]
+#[tactic(auto, using(crate::proofs::Firsts::next_append), unfolding(lq_grammar::specs::LogsQL::arg))]
 fn at_arg(tokens: &[Item]) -> bool
     ensures { result ≡ next (first heads arg) tokens.now }
 {
@@ -36,7 +36,7 @@ fn at_arg(tokens: &[Item]) -> bool
 }
 
 /// One argument or more, with commas between.
-#[tactic(auto, unfolding(crate::specs::LogsQL::args), using(grammar::proofs::Turns::list_steps))]
+#[tactic(auto, unfolding(lq_grammar::specs::LogsQL::args), using(grammar::proofs::Turns::list_steps))]
 pub(crate) fn args<'t>(alloc: Global, tokens: &'t [Item]) -> Result<(Vec<Text>, &'t [Item]), Stop>
     ensures { (depth : ℕ) → Gives (λ x. (x.0.items, x.1.now)) result (at_of depth args tokens.now) }
 {

@@ -5,18 +5,18 @@ ghost use Rattle.grammar.specs.Rule.{next};
 ghost use Rattle.grammar.specs.Reading.{first, mapped};
 ghost use Rattle.lq_ast.specs.Condition.{all_of, any_of};
 ghost use Rattle.lq_ast.specs.View.{condition};
-ghost use Rattle.lq_parse.specs.LogsQL.{heads, group, negation, inner_negation, inner, unit, call_unit, range_unit, word_unit, stream_end, stream_value, unary, next_unary, and, or};
-ghost use Rattle.lq_parse.specs.Values.{denied, field_named, of_list};
-ghost use Rattle.lq_parse.specs.Clauses.{Gives, at as at_of, name_at};
+ghost use Rattle.lq_grammar.specs.LogsQL.{heads, group, negation, inner_negation, inner, unit, call_unit, range_unit, word_unit, stream_end, stream_value, unary, next_unary, and, or};
+ghost use Rattle.lq_grammar.specs.Values.{denied, field_named, of_list};
+ghost use Rattle.lq_grammar.specs.Clauses.{Gives, at as at_of, name_at};
 
-use crate::fault::Stop;
-use crate::item::Item;
+use lq_grammar::Stop;
+use lq_grammar::Item;
 use crate::label::selector;
 use crate::leaf::{bare_end, i_end, in_end, quoted_end, seq_end, string_range_end};
 use crate::leaves::{leaf, mark_leaf};
 use crate::number::{len_range_end, range_end};
-use crate::role::{NEGATIONS, Role, UNARY};
-use crate::scan::{at, expect, past, place, text_of};
+use lq_grammar::role::{NEGATIONS, Role, UNARY};
+use lq_grammar::scan::{at, expect, past, place, text_of};
 use crate::time::time;
 use lq_ast::Filter;
 use std::alloc::Global;
@@ -84,7 +84,7 @@ fn inner_negation<'t>(
 
 /// What may stand behind a name and a colon.
 #[cycle(filter)]
-#[tactic(auto, unfolding(crate::specs::LogsQL::inner))]
+#[tactic(auto, unfolding(lq_grammar::specs::LogsQL::inner))]
 fn inner<'t>(
     alloc: Global,
     tokens: &'t [Item],
@@ -105,7 +105,7 @@ fn inner<'t>(
 
 /// A filter without conjunctions.
 #[cycle(filter)]
-#[tactic(auto, unfolding(crate::specs::LogsQL::unary))]
+#[tactic(auto, unfolding(lq_grammar::specs::LogsQL::unary))]
 fn unary<'t>(
     alloc: Global,
     tokens: &'t [Item],
@@ -123,7 +123,7 @@ fn unary<'t>(
 
 /// A filter that is no negation.
 #[cycle(filter)]
-#[tactic(auto, unfolding(crate::specs::LogsQL::unit, crate::specs::LogsQL::selector, crate::specs::LogsQL::time_end))]
+#[tactic(auto, unfolding(lq_grammar::specs::LogsQL::unit, lq_grammar::specs::LogsQL::selector, lq_grammar::specs::LogsQL::time_end))]
 fn unit<'t>(
     alloc: Global,
     tokens: &'t [Item],
@@ -160,7 +160,7 @@ fn unit<'t>(
 
 /// What stands behind the word `_stream`.
 #[cycle(filter)]
-#[tactic(auto, unfolding(crate::specs::LogsQL::stream_end))]
+#[tactic(auto, unfolding(lq_grammar::specs::LogsQL::stream_end))]
 fn stream_end<'t>(
     alloc: Global,
     tokens: &'t [Item],
@@ -179,7 +179,7 @@ fn stream_end<'t>(
 
 /// What stands behind `_stream` and a colon.
 #[cycle(filter)]
-#[tactic(auto, unfolding(crate::specs::LogsQL::stream_value, crate::specs::LogsQL::selector))]
+#[tactic(auto, unfolding(lq_grammar::specs::LogsQL::stream_value, lq_grammar::specs::LogsQL::selector))]
 fn stream_value<'t>(
     alloc: Global,
     tokens: &'t [Item],
@@ -199,7 +199,7 @@ fn stream_value<'t>(
 
 /// A filter that begins with a word, which may be a name.
 #[cycle(filter)]
-#[tactic(auto, unfolding(crate::specs::LogsQL::call_unit))]
+#[tactic(auto, unfolding(lq_grammar::specs::LogsQL::call_unit))]
 fn call_unit<'t>(
     alloc: Global,
     tokens: &'t [Item],
@@ -232,7 +232,7 @@ fn call_unit<'t>(
 
 /// The same, where the word is none of those before.
 #[cycle(filter)]
-#[tactic(auto, unfolding(crate::specs::LogsQL::range_unit))]
+#[tactic(auto, unfolding(lq_grammar::specs::LogsQL::range_unit))]
 fn range_unit<'t>(
     alloc: Global,
     tokens: &'t [Item],
@@ -265,7 +265,7 @@ fn range_unit<'t>(
 
 /// The same, where the word calls nothing.
 #[cycle(filter)]
-#[tactic(auto, unfolding(crate::specs::LogsQL::word_unit))]
+#[tactic(auto, unfolding(lq_grammar::specs::LogsQL::word_unit))]
 fn word_unit<'t>(
     alloc: Global,
     tokens: &'t [Item],
@@ -292,7 +292,7 @@ fn word_unit<'t>(
 
 /// The next of those that all hold, behind AND or without it.
 #[cycle(filter)]
-#[tactic(auto, unfolding(crate::specs::LogsQL::next_unary))]
+#[tactic(auto, unfolding(lq_grammar::specs::LogsQL::next_unary))]
 fn next_unary<'t>(
     alloc: Global,
     tokens: &'t [Item],
@@ -310,7 +310,7 @@ fn next_unary<'t>(
 
 /// Filters that all hold.
 #[cycle(filter)]
-#[tactic(auto, unfolding(crate::specs::LogsQL::and), using(crate::proofs::Turning::fold_steps))]
+#[tactic(auto, unfolding(lq_grammar::specs::LogsQL::and), using(crate::proofs::Turning::fold_steps))]
 fn and<'t>(
     alloc: Global,
     tokens: &'t [Item],
@@ -333,7 +333,7 @@ fn and<'t>(
 
 /// Filters of which one holds.
 #[cycle(filter)]
-#[tactic(auto, unfolding(crate::specs::LogsQL::or), using(crate::proofs::Turning::fold_steps))]
+#[tactic(auto, unfolding(lq_grammar::specs::LogsQL::or), using(crate::proofs::Turning::fold_steps))]
 pub(crate) fn or<'t>(
     alloc: Global,
     tokens: &'t [Item],

@@ -1,15 +1,15 @@
 // Selectors of streams.
 ghost use Rattle.std.specs.Prelude.{◌≡◌, ℕ, IfOk};
 ghost use Rattle.lq_ast.specs.View.{test_of, tests_of, groups_of};
-ghost use Rattle.lq_parse.specs.LogsQL.{how, label, labels, groups, optional_groups, selector};
-ghost use Rattle.lq_parse.specs.Values.{field_named as name_of, on_streams};
-ghost use Rattle.lq_parse.specs.Clauses.{Gives, at as at_of};
+ghost use Rattle.lq_grammar.specs.LogsQL.{how, label, labels, groups, optional_groups, selector};
+ghost use Rattle.lq_grammar.specs.Values.{field_named as name_of, on_streams};
+ghost use Rattle.lq_grammar.specs.Clauses.{Gives, at as at_of};
 
 use crate::args::arg;
-use crate::fault::Stop;
-use crate::item::Item;
-use crate::role::{Role, WORDS};
-use crate::scan::{at, expect, expect_glued, past, past_glued, text};
+use lq_grammar::Stop;
+use lq_grammar::Item;
+use lq_grammar::role::{Role, WORDS};
+use lq_grammar::scan::{at, expect, expect_glued, past, past_glued, text};
 use lq_ast::{Group, How, LabelTest, Select};
 use std::alloc::{AllocError, Global};
 use vl_row::Text;
@@ -22,7 +22,7 @@ pub(crate) fn field_named(alloc: Global, name: &str) -> Result<Text, AllocError>
 }
 
 /// How a label is tested, and what follows.
-#[tactic(auto, unfolding(crate::specs::LogsQL::how))]
+#[tactic(auto, unfolding(lq_grammar::specs::LogsQL::how))]
 fn how(tokens: &[Item]) -> Result<(How, &[Item]), Stop>
     ensures { (depth : ℕ) → Gives (λ x. (x.0, x.1.now)) result (at_of depth how tokens.now) }
 {
@@ -41,7 +41,7 @@ fn how(tokens: &[Item]) -> Result<(How, &[Item]), Stop>
 }
 
 /// A test of a label.
-#[tactic(auto, unfolding(crate::specs::LogsQL::label))]
+#[tactic(auto, unfolding(lq_grammar::specs::LogsQL::label))]
 fn label<'t>(alloc: Global, tokens: &'t [Item]) -> Result<(LabelTest, &'t [Item]), Stop>
     ensures { (depth : ℕ) → Gives (λ x. (test_of x.0, x.1.now)) result (at_of depth label tokens.now) }
 {
@@ -53,7 +53,7 @@ fn label<'t>(alloc: Global, tokens: &'t [Item]) -> Result<(LabelTest, &'t [Item]
 }
 
 /// Tests that all hold, with commas between.
-#[tactic(auto, unfolding(crate::specs::LogsQL::labels), using(grammar::proofs::Turns::list_steps))]
+#[tactic(auto, unfolding(lq_grammar::specs::LogsQL::labels), using(grammar::proofs::Turns::list_steps))]
 fn labels<'t>(alloc: Global, tokens: &'t [Item]) -> Result<(Group, &'t [Item]), Stop>
     ensures { (depth : ℕ) → Gives (λ x. (tests_of x.0, x.1.now)) result (at_of depth labels tokens.now) }
 {
@@ -69,7 +69,7 @@ fn labels<'t>(alloc: Global, tokens: &'t [Item]) -> Result<(Group, &'t [Item]), 
 }
 
 /// Groups, with OR between.
-#[tactic(auto, unfolding(crate::specs::LogsQL::groups), using(grammar::proofs::Turns::list_steps))]
+#[tactic(auto, unfolding(lq_grammar::specs::LogsQL::groups), using(grammar::proofs::Turns::list_steps))]
 fn groups<'t>(alloc: Global, tokens: &'t [Item]) -> Result<(Select, &'t [Item]), Stop>
     ensures { (depth : ℕ) → Gives (λ x. (groups_of x.0, x.1.now)) result (at_of depth groups tokens.now) }
 {
@@ -85,7 +85,7 @@ fn groups<'t>(alloc: Global, tokens: &'t [Item]) -> Result<(Select, &'t [Item]),
 }
 
 /// A selector.
-#[tactic(auto, unfolding(crate::specs::LogsQL::selector))]
+#[tactic(auto, unfolding(lq_grammar::specs::LogsQL::selector))]
 pub(crate) fn selector<'t>(alloc: Global, tokens: &'t [Item]) -> Result<(Select, &'t [Item]), Stop>
     ensures { (depth : ℕ) → Gives (λ x. (on_streams (groups_of x.0), x.1.now)) result (at_of depth selector tokens.now) }
 {

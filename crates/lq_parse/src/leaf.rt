@@ -3,20 +3,20 @@ ghost use Rattle.std.specs.Prelude.{◌≡◌, ℕ};
 ghost use Rattle.std.specs.Option.{option_copied};
 ghost use Rattle.grammar.specs.Reading.{mapped};
 ghost use Rattle.lq_ast.specs.View.{condition};
-ghost use Rattle.lq_parse.specs.LogsQL.{bare_end, quoted_end, in_end, i_end, seq_end, string_range_end, exact, regex, star};
-ghost use Rattle.lq_parse.specs.Clauses.{Gives, at};
+ghost use Rattle.lq_grammar.specs.LogsQL.{bare_end, quoted_end, in_end, i_end, seq_end, string_range_end, exact, regex, star};
+ghost use Rattle.lq_grammar.specs.Clauses.{Gives, at};
 
 use crate::args::{arg, args, texts};
-use crate::fault::Stop;
-use crate::item::Item;
+use lq_grammar::Stop;
+use lq_grammar::Item;
 use crate::make;
-use crate::role::{Role, TEXTS};
-use crate::scan::{at_glued, expect, past_glued, text};
+use lq_grammar::role::{Role, TEXTS};
+use lq_grammar::scan::{at_glued, expect, past_glued, text};
 use lq_ast::Filter;
 use std::alloc::Global;
 
 /// A prefix, or a phrase that begins no call.
-#[tactic(auto, unfolding(crate::specs::LogsQL::bare_end))]
+#[tactic(auto, unfolding(lq_grammar::specs::LogsQL::bare_end))]
 pub(crate) fn bare_end<'t>(
     alloc: Global,
     tokens: &'t [Item],
@@ -36,7 +36,7 @@ pub(crate) fn bare_end<'t>(
 }
 
 /// A prefix, or a phrase.
-#[tactic(auto, unfolding(crate::specs::LogsQL::quoted_end))]
+#[tactic(auto, unfolding(lq_grammar::specs::LogsQL::quoted_end))]
 pub(crate) fn quoted_end<'t>(
     alloc: Global,
     tokens: &'t [Item],
@@ -53,7 +53,7 @@ pub(crate) fn quoted_end<'t>(
 }
 
 /// A list of texts behind IN, or the word alone.
-#[tactic(auto, unfolding(crate::specs::LogsQL::in_end))]
+#[tactic(auto, unfolding(lq_grammar::specs::LogsQL::in_end))]
 pub(crate) fn in_end<'t>(
     alloc: Global,
     tokens: &'t [Item],
@@ -72,7 +72,7 @@ pub(crate) fn in_end<'t>(
 }
 
 /// A text behind I, or the word alone.
-#[tactic(auto, unfolding(crate::specs::LogsQL::i_end))]
+#[tactic(auto, unfolding(lq_grammar::specs::LogsQL::i_end))]
 pub(crate) fn i_end<'t>(
     alloc: Global,
     tokens: &'t [Item],
@@ -91,7 +91,7 @@ pub(crate) fn i_end<'t>(
 }
 
 /// Texts behind SEQ, or the word alone.
-#[tactic(auto, unfolding(crate::specs::LogsQL::seq_end))]
+#[tactic(auto, unfolding(lq_grammar::specs::LogsQL::seq_end))]
 pub(crate) fn seq_end<'t>(
     alloc: Global,
     tokens: &'t [Item],
@@ -110,7 +110,7 @@ pub(crate) fn seq_end<'t>(
 }
 
 /// Two texts behind STRING_RANGE, or the word alone.
-#[tactic(auto, unfolding(crate::specs::LogsQL::string_range_end))]
+#[tactic(auto, unfolding(lq_grammar::specs::LogsQL::string_range_end))]
 pub(crate) fn string_range_end<'t>(
     alloc: Global,
     tokens: &'t [Item],
@@ -131,7 +131,7 @@ pub(crate) fn string_range_end<'t>(
 }
 
 /// A whole value, or how it begins.
-#[tactic(auto, unfolding(crate::specs::LogsQL::exact))]
+#[tactic(auto, unfolding(lq_grammar::specs::LogsQL::exact))]
 pub(crate) fn exact<'t>(
     alloc: Global,
     tokens: &'t [Item],
@@ -149,7 +149,7 @@ pub(crate) fn exact<'t>(
 }
 
 /// A regular expression.
-#[tactic(auto, unfolding(crate::specs::LogsQL::regex))]
+#[tactic(auto, unfolding(lq_grammar::specs::LogsQL::regex))]
 pub(crate) fn regex<'t>(
     alloc: Global,
     tokens: &'t [Item],
@@ -164,7 +164,7 @@ pub(crate) fn regex<'t>(
 }
 
 /// A star that is no prefix's.
-#[tactic(auto, unfolding(crate::specs::LogsQL::star))]
+#[tactic(auto, unfolding(lq_grammar::specs::LogsQL::star))]
 pub(crate) fn star<'t>(
     alloc: Global,
     tokens: &'t [Item],

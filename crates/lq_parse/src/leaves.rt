@@ -3,22 +3,22 @@ ghost use Rattle.std.specs.Prelude.{◌≡◌, ℕ};
 ghost use Rattle.std.specs.Option.{option_copied};
 ghost use Rattle.grammar.specs.Reading.{mapped};
 ghost use Rattle.lq_ast.specs.View.{condition};
-ghost use Rattle.lq_parse.specs.LogsQL.{leaf, range_leaf, word_leaf, mark_leaf};
-ghost use Rattle.lq_parse.specs.Clauses.{Gives, at as at_of};
+ghost use Rattle.lq_grammar.specs.LogsQL.{leaf, range_leaf, word_leaf, mark_leaf};
+ghost use Rattle.lq_grammar.specs.Clauses.{Gives, at as at_of};
 
-use crate::fault::Stop;
-use crate::item::Item;
+use lq_grammar::Stop;
+use lq_grammar::Item;
 use crate::leaf::{
     bare_end, exact, i_end, in_end, quoted_end, regex, seq_end, star, string_range_end,
 };
 use crate::number::{greater, len_range_end, less, range_end};
-use crate::role::{QUOTED, Role};
-use crate::scan::{at, text_of};
+use lq_grammar::role::{QUOTED, Role};
+use lq_grammar::scan::{at, text_of};
 use lq_ast::Filter;
 use std::alloc::Global;
 
 /// A leaf.
-#[tactic(auto, unfolding(crate::specs::LogsQL::leaf))]
+#[tactic(auto, unfolding(lq_grammar::specs::LogsQL::leaf))]
 pub(crate) fn leaf<'t>(
     alloc: Global,
     tokens: &'t [Item],
@@ -39,7 +39,7 @@ pub(crate) fn leaf<'t>(
     range_leaf(alloc, tokens, field)
 }
 
-#[tactic(auto, unfolding(crate::specs::LogsQL::range_leaf))]
+#[tactic(auto, unfolding(lq_grammar::specs::LogsQL::range_leaf))]
 fn range_leaf<'t>(
     alloc: Global,
     tokens: &'t [Item],
@@ -60,7 +60,7 @@ fn range_leaf<'t>(
     word_leaf(alloc, tokens, field)
 }
 
-#[tactic(auto, unfolding(crate::specs::LogsQL::word_leaf))]
+#[tactic(auto, unfolding(lq_grammar::specs::LogsQL::word_leaf))]
 fn word_leaf<'t>(
     alloc: Global,
     tokens: &'t [Item],
@@ -79,7 +79,7 @@ fn word_leaf<'t>(
 }
 
 /// A leaf that begins with a mark.
-#[tactic(auto, unfolding(crate::specs::LogsQL::mark_leaf, crate::specs::LogsQL::exact, crate::specs::LogsQL::regex, crate::specs::LogsQL::greater, crate::specs::LogsQL::less))]
+#[tactic(auto, unfolding(lq_grammar::specs::LogsQL::mark_leaf, lq_grammar::specs::LogsQL::exact, lq_grammar::specs::LogsQL::regex, lq_grammar::specs::LogsQL::greater, lq_grammar::specs::LogsQL::less))]
 pub(crate) fn mark_leaf<'t>(
     alloc: Global,
     tokens: &'t [Item],

@@ -3,19 +3,19 @@ ghost use Rattle.std.specs.Prelude.{◌≡◌, ℕ, IfOk};
 ghost use Rattle.std.specs.Option.{option_copied};
 ghost use Rattle.grammar.specs.Reading.{mapped};
 ghost use Rattle.lq_ast.specs.View.{condition};
-ghost use Rattle.lq_parse.specs.LogsQL.{num, end, ends, last_end, closing, size, high_size, greater, less, len_range_end, range_end};
+ghost use Rattle.lq_grammar.specs.LogsQL.{num, end, ends, last_end, closing, size, high_size, greater, less, len_range_end, range_end};
 ghost use Rattle.lq_parse.specs.Ends.{end_of};
-ghost use Rattle.lq_parse.specs.Values.{low_of as lowest_of, high_of as highest_of};
-ghost use Rattle.lq_parse.specs.Clauses.{Gives, at};
+ghost use Rattle.lq_grammar.specs.Values.{low_of as lowest_of, high_of as highest_of};
+ghost use Rattle.lq_grammar.specs.Clauses.{Gives, at};
 
 use crate::args::arg;
 use crate::assumed::number;
-use crate::fault::Stop;
-use crate::item::Item;
+use lq_grammar::Stop;
+use lq_grammar::Item;
 use crate::leaf::bare_end;
 use crate::make;
-use crate::role::Role;
-use crate::scan::{expect, past, past_glued, place};
+use lq_grammar::role::Role;
+use lq_grammar::scan::{expect, past, past_glued, place};
 use lq_ast::Filter;
 use std::alloc::Global;
 
@@ -28,7 +28,7 @@ pub(crate) enum Bound {
 }
 
 /// A number.
-#[tactic(auto, unfolding(crate::specs::LogsQL::num))]
+#[tactic(auto, unfolding(lq_grammar::specs::LogsQL::num))]
 fn num<'t>(alloc: Global, tokens: &'t [Item]) -> Result<(i64, &'t [Item]), Stop>
     ensures { (depth : ℕ) → Gives (λ x. (x.0, x.1.now)) result (at depth num tokens.now) }
 {
@@ -40,7 +40,7 @@ fn num<'t>(alloc: Global, tokens: &'t [Item]) -> Result<(i64, &'t [Item]), Stop>
 }
 
 /// A number of at least 0.
-#[tactic(auto, unfolding(crate::specs::LogsQL::size))]
+#[tactic(auto, unfolding(lq_grammar::specs::LogsQL::size))]
 fn size<'t>(alloc: Global, tokens: &'t [Item]) -> Result<(u64, &'t [Item]), Stop>
     ensures { (depth : ℕ) → Gives (λ x. (x.0, x.1.now)) result (at depth size tokens.now) }
 {
@@ -52,7 +52,7 @@ fn size<'t>(alloc: Global, tokens: &'t [Item]) -> Result<(u64, &'t [Item]), Stop
 }
 
 /// A number of at least 0, or no end.
-#[tactic(auto, unfolding(crate::specs::LogsQL::high_size))]
+#[tactic(auto, unfolding(lq_grammar::specs::LogsQL::high_size))]
 fn high_size<'t>(alloc: Global, tokens: &'t [Item]) -> Result<(u64, &'t [Item]), Stop>
     ensures { (depth : ℕ) → Gives (λ x. (x.0, x.1.now)) result (at depth high_size tokens.now) }
 {
@@ -67,7 +67,7 @@ fn high_size<'t>(alloc: Global, tokens: &'t [Item]) -> Result<(u64, &'t [Item]),
 }
 
 /// A number, or no end.
-#[tactic(auto, unfolding(crate::specs::LogsQL::end))]
+#[tactic(auto, unfolding(lq_grammar::specs::LogsQL::end))]
 fn end<'t>(alloc: Global, tokens: &'t [Item]) -> Result<(Bound, &'t [Item]), Stop>
     ensures { (depth : ℕ) → Gives (λ x. (end_of x.0, x.1.now)) result (at depth end tokens.now) }
 {
@@ -85,7 +85,7 @@ fn end<'t>(alloc: Global, tokens: &'t [Item]) -> Result<(Bound, &'t [Item]), Sto
 }
 
 /// Numbers above one, or from it on.
-#[tactic(auto, unfolding(crate::specs::LogsQL::greater))]
+#[tactic(auto, unfolding(lq_grammar::specs::LogsQL::greater))]
 pub(crate) fn greater<'t>(
     alloc: Global,
     tokens: &'t [Item],
@@ -104,7 +104,7 @@ pub(crate) fn greater<'t>(
 }
 
 /// Numbers below one, or up to it.
-#[tactic(auto, unfolding(crate::specs::LogsQL::less))]
+#[tactic(auto, unfolding(lq_grammar::specs::LogsQL::less))]
 pub(crate) fn less<'t>(
     alloc: Global,
     tokens: &'t [Item],
@@ -123,7 +123,7 @@ pub(crate) fn less<'t>(
 }
 
 /// Two sizes behind LEN_RANGE, or the word alone.
-#[tactic(auto, unfolding(crate::specs::LogsQL::len_range_end))]
+#[tactic(auto, unfolding(lq_grammar::specs::LogsQL::len_range_end))]
 pub(crate) fn len_range_end<'t>(
     alloc: Global,
     tokens: &'t [Item],
@@ -144,7 +144,7 @@ pub(crate) fn len_range_end<'t>(
 }
 
 /// Two ends behind RANGE, or the word alone.
-#[tactic(auto, unfolding(crate::specs::LogsQL::range_end))]
+#[tactic(auto, unfolding(lq_grammar::specs::LogsQL::range_end))]
 pub(crate) fn range_end<'t>(
     alloc: Global,
     tokens: &'t [Item],
@@ -164,7 +164,7 @@ pub(crate) fn range_end<'t>(
 }
 
 /// Two ends up to the bracket that closes them, of which the first is included or not.
-#[tactic(auto, unfolding(crate::specs::LogsQL::ends))]
+#[tactic(auto, unfolding(lq_grammar::specs::LogsQL::ends))]
 fn ends<'t>(
     alloc: Global,
     tokens: &'t [Item],
@@ -184,7 +184,7 @@ fn ends<'t>(
 }
 
 /// The greatest number of a range, by its last end and the bracket behind it.
-#[tactic(auto, unfolding(crate::specs::LogsQL::last_end))]
+#[tactic(auto, unfolding(lq_grammar::specs::LogsQL::last_end))]
 fn last_end<'t>(alloc: Global, tokens: &'t [Item]) -> Result<(i128, &'t [Item]), Stop>
     ensures { (depth : ℕ) → Gives (λ x. (x.0, x.1.now)) result
         (mapped (λ last. highest_of last.1 last.0) (at depth last_end tokens.now)) }
@@ -195,7 +195,7 @@ fn last_end<'t>(alloc: Global, tokens: &'t [Item]) -> Result<(i128, &'t [Item]),
 }
 
 /// Whether the end before a closing bracket is included.
-#[tactic(auto, unfolding(crate::specs::LogsQL::closing))]
+#[tactic(auto, unfolding(lq_grammar::specs::LogsQL::closing))]
 pub(crate) fn closing(tokens: &[Item]) -> Result<(bool, &[Item]), Stop>
     ensures { (depth : ℕ) → Gives (λ x. (x.0, x.1.now)) result (at depth closing tokens.now) }
 {

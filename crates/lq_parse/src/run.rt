@@ -1,18 +1,18 @@
 // Runs: a bare token with all that is glued to it.
 ghost use Rattle.std.specs.Prelude.{◌≡◌, ℕ, ◌++◌};
 ghost use Rattle.grammar.specs.Reading.{mapped};
-ghost use Rattle.lq_parse.specs.LogsQL.{run, run_rest};
-ghost use Rattle.lq_parse.specs.Clauses.{Gives, at};
+ghost use Rattle.lq_grammar.specs.LogsQL.{run, run_rest};
+ghost use Rattle.lq_grammar.specs.Clauses.{Gives, at};
 
-use crate::fault::Stop;
-use crate::item::Item;
-use crate::role::{BARES, QUOTED, RUN_PARTS};
-use crate::scan::{glued_text_of, text, text_of};
+use lq_grammar::Stop;
+use lq_grammar::Item;
+use lq_grammar::role::{BARES, QUOTED, RUN_PARTS};
+use lq_grammar::scan::{glued_text_of, text, text_of};
 use std::alloc::Global;
 use vl_row::Text;
 
 /// A quoted text, or a bare one with all that is glued to it.
-#[tactic(auto, unfolding(crate::specs::LogsQL::run))]
+#[tactic(auto, unfolding(lq_grammar::specs::LogsQL::run))]
 pub(crate) fn run<'t>(alloc: Global, tokens: &'t [Item]) -> Result<(Text, &'t [Item]), Stop>
     ensures { (depth : ℕ) → Gives (λ x. (x.0, x.1.now)) result (at depth run tokens.now) }
 {

@@ -2,22 +2,22 @@
 ghost use Rattle.std.specs.Prelude.{◌≡◌, ℕ};
 ghost use Rattle.grammar.specs.Reading.{mapped};
 ghost use Rattle.lq_ast.specs.View.{condition};
-ghost use Rattle.lq_parse.specs.LogsQL.{bound, lone_run, last_bound, interval, time};
-ghost use Rattle.lq_parse.specs.Moments.{start_of as first_of, stop_of as last_of};
-ghost use Rattle.lq_parse.specs.Clauses.{Gives, at};
+ghost use Rattle.lq_grammar.specs.LogsQL.{bound, lone_run, last_bound, interval, time};
+ghost use Rattle.lq_grammar.specs.Moments.{start_of as first_of, stop_of as last_of};
+ghost use Rattle.lq_grammar.specs.Clauses.{Gives, at};
 
 use crate::assumed::{Lasting, bound as read_bound, duration};
-use crate::fault::Stop;
-use crate::item::Item;
+use lq_grammar::Stop;
+use lq_grammar::Item;
 use crate::number::closing;
-use crate::role::Role;
+use lq_grammar::role::Role;
 use crate::run::run;
-use crate::scan::{expect, past, place};
+use lq_grammar::scan::{expect, past, place};
 use lq_ast::Filter;
 use std::alloc::Global;
 
 /// A bound inside brackets.
-#[tactic(auto, unfolding(crate::specs::LogsQL::bound))]
+#[tactic(auto, unfolding(lq_grammar::specs::LogsQL::bound))]
 fn bound<'t>(alloc: Global, tokens: &'t [Item]) -> Result<((i64, i64), &'t [Item]), Stop>
     ensures { (depth : ℕ) → Gives (λ x. (x.0, x.1.now)) result (at depth bound tokens.now) }
 {
@@ -33,7 +33,7 @@ fn bound<'t>(alloc: Global, tokens: &'t [Item]) -> Result<((i64, i64), &'t [Item
 }
 
 /// A duration up to now, or the interval of a bound.
-#[tactic(auto, unfolding(crate::specs::LogsQL::lone_run))]
+#[tactic(auto, unfolding(lq_grammar::specs::LogsQL::lone_run))]
 fn lone_run<'t>(alloc: Global, tokens: &'t [Item]) -> Result<(Filter, &'t [Item]), Stop>
     ensures { (depth : ℕ) → Gives (λ x. (condition x.0, x.1.now)) result (at depth lone_run tokens.now) }
 {
@@ -56,7 +56,7 @@ fn lone_run<'t>(alloc: Global, tokens: &'t [Item]) -> Result<(Filter, &'t [Item]
 }
 
 /// The last moment of an interval, by its last bound and the bracket behind it.
-#[tactic(auto, unfolding(crate::specs::LogsQL::last_bound))]
+#[tactic(auto, unfolding(lq_grammar::specs::LogsQL::last_bound))]
 fn last_bound<'t>(alloc: Global, tokens: &'t [Item]) -> Result<(i128, &'t [Item]), Stop>
     ensures { (depth : ℕ) → Gives (λ x. (x.0, x.1.now)) result
         (mapped (λ last. last_of last.1 last.0) (at depth last_bound tokens.now)) }
@@ -67,7 +67,7 @@ fn last_bound<'t>(alloc: Global, tokens: &'t [Item]) -> Result<(i128, &'t [Item]
 }
 
 /// Two bounds, of which the first is included or not.
-#[tactic(auto, unfolding(crate::specs::LogsQL::interval))]
+#[tactic(auto, unfolding(lq_grammar::specs::LogsQL::interval))]
 fn interval<'t>(
     alloc: Global,
     tokens: &'t [Item],
@@ -84,7 +84,7 @@ fn interval<'t>(
 }
 
 /// A time.
-#[tactic(auto, unfolding(crate::specs::LogsQL::time))]
+#[tactic(auto, unfolding(lq_grammar::specs::LogsQL::time))]
 pub(crate) fn time<'t>(alloc: Global, tokens: &'t [Item]) -> Result<(Filter, &'t [Item]), Stop>
     ensures { (depth : ℕ) → Gives (λ x. (condition x.0, x.1.now)) result (at depth time tokens.now) }
 {

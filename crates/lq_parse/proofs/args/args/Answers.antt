@@ -1,7 +1,7 @@
 use Rattle.std.proofs.Common.{[], ◌∷◌}
-use Rattle.lq_parse.specs.declared.role.Role.TheVariants.{Comma}
-use Rattle.lq_parse.specs.Roles.{any}
-use Rattle.lq_parse.specs.LogsQL.{arg}
+use Rattle.lq_grammar.specs.declared.role.Role.TheVariants.{Comma}
+use Rattle.lq_grammar.specs.Roles.{any}
+use Rattle.lq_grammar.specs.LogsQL.{arg}
 use Rattle.lq_parse.proofs.Behind.{item_more, item_shorter}
 use Rattle.lq_parse.proofs.args.args.Goals as goal
 

@@ -1,9 +1,9 @@
 use Rattle.std.proofs.Common.{◌≡◌, ℕ, [], ◌∷◌, ◌++◌, length}
 use Rattle.grammar.specs.Reading.{mapped}
-use Rattle.lq_parse.specs.declared.role.Role.TheVariants.{Comma}
-use Rattle.lq_parse.specs.Roles.{any}
-use Rattle.lq_parse.specs.LogsQL.{args, arg, behind}
-use Rattle.lq_parse.specs.Clauses.{at, all_at}
+use Rattle.lq_grammar.specs.declared.role.Role.TheVariants.{Comma}
+use Rattle.lq_grammar.specs.Roles.{any}
+use Rattle.lq_grammar.specs.LogsQL.{args, arg, behind}
+use Rattle.lq_grammar.specs.Clauses.{at, all_at}
 use Rattle.lq_parse.proofs.args.args.Given as goal
 
 abbrev pub invariant-others : goal.invariant-others

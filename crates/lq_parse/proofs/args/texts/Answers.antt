@@ -1,5 +1,5 @@
 use Rattle.std.proofs.Common.{List, Ok, sym, ap, ◌∙◌}
-use Rattle.lq_parse.specs.Values.{Bytes}
+use Rattle.lq_grammar.specs.Values.{Bytes}
 use Rattle.lq_parse.proofs.Firsts.{texts_some, texts_none}
 use Rattle.lq_parse.proofs.args.texts.Goals as goal
 

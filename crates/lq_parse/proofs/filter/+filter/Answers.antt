@@ -5,11 +5,11 @@ use Rattle.std.proofs.lemmas.Result.{err_from_is_err_and}
 use Rattle.grammar.specs.Reading.{mapped}
 use Rattle.lq_ast.specs.Condition.{all_of, any_of}
 use Rattle.lq_ast.specs.View.{condition}
-use Rattle.lq_parse.specs.declared.role.Role.TheVariants.{Or}
-use Rattle.lq_parse.specs.Roles.{any}
-use Rattle.lq_parse.specs.Values.{denied}
-use Rattle.lq_parse.specs.LogsQL.{and, next_unary, behind, negation, inner_negation, unary, inner}
-use Rattle.lq_parse.specs.Clauses.{at}
+use Rattle.lq_grammar.specs.declared.role.Role.TheVariants.{Or}
+use Rattle.lq_grammar.specs.Roles.{any}
+use Rattle.lq_grammar.specs.Values.{denied}
+use Rattle.lq_grammar.specs.LogsQL.{and, next_unary, behind, negation, inner_negation, unary, inner}
+use Rattle.lq_grammar.specs.Clauses.{at}
 use Rattle.lq_parse.proofs.Behind.{behind_read, next_read}
 use Rattle.lq_parse.proofs.Denied.{not_read}
 use Rattle.lq_parse.proofs.Turning.{fold_step, fold_shorter, name_read, deny_ok, fails_so, next_some}

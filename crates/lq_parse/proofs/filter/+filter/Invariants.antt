@@ -3,10 +3,10 @@ use Rattle.std.specs.Option.{option_copied}
 use Rattle.grammar.specs.Reading.{mapped}
 use Rattle.lq_ast.specs.Condition.{all_of, any_of}
 use Rattle.lq_ast.specs.View.{condition}
-use Rattle.lq_parse.specs.declared.role.Role.TheVariants.{Or}
-use Rattle.lq_parse.specs.Roles.{any}
-use Rattle.lq_parse.specs.LogsQL.{and, or, next_unary, behind}
-use Rattle.lq_parse.specs.Clauses.{at, all_at}
+use Rattle.lq_grammar.specs.declared.role.Role.TheVariants.{Or}
+use Rattle.lq_grammar.specs.Roles.{any}
+use Rattle.lq_grammar.specs.LogsQL.{and, or, next_unary, behind}
+use Rattle.lq_grammar.specs.Clauses.{at, all_at}
 use Rattle.lq_parse.proofs.Turning.{gathered}
 use Rattle.lq_parse.proofs.filter.+filter.Given as goal
 

@@ -1,9 +1,9 @@
 use Rattle.std.proofs.Common.{[], ◌∷◌, map, ap, ◌∙◌}
 use Rattle.std.proofs.lemmas.List.{map-append}
 use Rattle.lq_ast.specs.View.{tests_of}
-use Rattle.lq_parse.specs.declared.role.Role.TheVariants.{Or}
-use Rattle.lq_parse.specs.Roles.{any}
-use Rattle.lq_parse.specs.LogsQL.{labels}
+use Rattle.lq_grammar.specs.declared.role.Role.TheVariants.{Or}
+use Rattle.lq_grammar.specs.Roles.{any}
+use Rattle.lq_grammar.specs.LogsQL.{labels}
 use Rattle.lq_parse.proofs.Behind.{item_more, item_shorter}
 use Rattle.lq_parse.proofs.label.groups.Goals as goal
 

@@ -1,9 +1,9 @@
 use Rattle.std.proofs.Common.{[], ◌∷◌, map, ap, ◌∙◌}
 use Rattle.std.proofs.lemmas.List.{map-append}
 use Rattle.lq_ast.specs.View.{test_of}
-use Rattle.lq_parse.specs.declared.role.Role.TheVariants.{Comma}
-use Rattle.lq_parse.specs.Roles.{any}
-use Rattle.lq_parse.specs.LogsQL.{label}
+use Rattle.lq_grammar.specs.declared.role.Role.TheVariants.{Comma}
+use Rattle.lq_grammar.specs.Roles.{any}
+use Rattle.lq_grammar.specs.LogsQL.{label}
 use Rattle.lq_parse.proofs.Behind.{item_more, item_shorter}
 use Rattle.lq_parse.proofs.label.labels.Goals as goal
 

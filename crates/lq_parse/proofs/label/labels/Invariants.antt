@@ -1,10 +1,10 @@
 use Rattle.std.proofs.Common.{◌≡◌, ℕ, [], ◌∷◌, ◌++◌, length, map}
 use Rattle.grammar.specs.Reading.{mapped}
 use Rattle.lq_ast.specs.View.{test_of}
-use Rattle.lq_parse.specs.declared.role.Role.TheVariants.{Comma}
-use Rattle.lq_parse.specs.Roles.{any}
-use Rattle.lq_parse.specs.LogsQL.{labels, label, behind}
-use Rattle.lq_parse.specs.Clauses.{at, all_at}
+use Rattle.lq_grammar.specs.declared.role.Role.TheVariants.{Comma}
+use Rattle.lq_grammar.specs.Roles.{any}
+use Rattle.lq_grammar.specs.LogsQL.{labels, label, behind}
+use Rattle.lq_grammar.specs.Clauses.{at, all_at}
 use Rattle.lq_parse.proofs.label.labels.Given as goal
 
 abbrev pub invariant-others : goal.invariant-others

@@ -1,8 +1,8 @@
 use Rattle.std.proofs.Common.{◌≡◌, ℕ, ◌++◌, flat_map, length}
 use Rattle.grammar.specs.Reading.{mapped}
-use Rattle.lq_parse.specs.Roles.{glued, run_parts}
-use Rattle.lq_parse.specs.LogsQL.{text}
-use Rattle.lq_parse.specs.Clauses.{all_at}
+use Rattle.lq_grammar.specs.Roles.{glued, run_parts}
+use Rattle.lq_grammar.specs.LogsQL.{text}
+use Rattle.lq_grammar.specs.Clauses.{all_at}
 use Rattle.lq_parse.proofs.run.run_rest.Given as goal
 
 abbrev pub invariant-parts : goal.invariant-parts

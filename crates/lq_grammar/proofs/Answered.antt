@@ -5,10 +5,10 @@ use Rattle.grammar.specs.Spelling.{Outcome}
 use Rattle.grammar.specs.Reading.{Answers, whole, as_read}
 use Rattle.grammar.proofs.Whole.{answered, answered_only}
 use Rattle.lq_ast.specs.Condition.{Condition}
-use Rattle.lq_parse.specs.Values.{Bytes, Reason}
-use Rattle.lq_parse.specs.LogsQL.{query, most_open, IsQuery}
-use Rattle.lq_parse.specs.Clauses.{at}
-use Rattle.lq_parse.proofs.Passing.{passes, query_passes}
+use Rattle.lq_grammar.specs.Values.{Bytes, Reason}
+use Rattle.lq_grammar.specs.LogsQL.{query, most_open, IsQuery}
+use Rattle.lq_grammar.specs.Clauses.{at}
+use Rattle.lq_grammar.proofs.Passing.{passes, query_passes}
 
 -- a query's condition, where no query goes on, or the first flaw
 pub answered_query : (u : List (Token Bytes)) → Answers IsQuery u (whole (at most_open query) u)

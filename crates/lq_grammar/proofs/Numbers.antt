@@ -1,8 +1,8 @@
 -- The numbers of roles are small.
 use Rattle.std.proofs.Common.{◌<◌, lit<}
-use Rattle.lq_parse.specs.declared.role.Role.{Role}
-use Rattle.lq_parse.specs.declared.role.Role.TheVariants.{And, Or, Not, In, I, Seq, LenRange, StringRange, Range, Time, Stream, Bare, QuotedTime, Quoted, Bar, Open, Close, SquareOpen, SquareClose, CurlyOpen, CurlyClose, Comma, Colon, Equals, Bang, Tilde, Star, Less, Greater, Minus, Plus}
-use Rattle.lq_parse.specs.Roles.{number, apart_by}
+use Rattle.lq_grammar.specs.declared.role.Role.{Role}
+use Rattle.lq_grammar.specs.declared.role.Role.TheVariants.{And, Or, Not, In, I, Seq, LenRange, StringRange, Range, Time, Stream, Bare, QuotedTime, Quoted, Bar, Open, Close, SquareOpen, SquareClose, CurlyOpen, CurlyClose, Comma, Colon, Equals, Bang, Tilde, Star, Less, Greater, Minus, Plus}
+use Rattle.lq_grammar.specs.Roles.{number, apart_by}
 
 pub number_bound : (role : Role) → number role < apart_by
 number_bound And = lit< tt

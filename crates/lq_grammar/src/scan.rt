@@ -3,15 +3,15 @@ ghost use Rattle.std.specs.Prelude.{◌≡◌};
 ghost use Rattle.grammar.specs.Rule.{next};
 ghost use Rattle.grammar.specs.Reading.{one_at};
 ghost use Rattle.grammar.specs.Spelling.{place as place_of};
-ghost use Rattle.lq_parse.specs.Roles.{any, glued};
-ghost use Rattle.lq_parse.specs.Clauses.{Gives, Takes, TakesText};
+ghost use Rattle.lq_grammar.specs.Roles.{any, glued};
+ghost use Rattle.lq_grammar.specs.Clauses.{Gives, Takes, TakesText};
 
 use crate::fault::Stop;
 use crate::item::Item;
 use crate::role::Role;
 
 /// What follows a token of one of these roles.
-pub(crate) fn past<'t>(tokens: &'t [Item], roles: &[Role]) -> Option<&'t [Item]>
+pub fn past<'t>(tokens: &'t [Item], roles: &[Role]) -> Option<&'t [Item]>
     ensures { Takes (any roles.now) tokens.now result }
 {
     match tokens {
@@ -21,7 +21,7 @@ pub(crate) fn past<'t>(tokens: &'t [Item], roles: &[Role]) -> Option<&'t [Item]>
 }
 
 /// What follows a glued token of one of these roles.
-pub(crate) fn past_glued<'t>(tokens: &'t [Item], roles: &[Role]) -> Option<&'t [Item]>
+pub fn past_glued<'t>(tokens: &'t [Item], roles: &[Role]) -> Option<&'t [Item]>
     ensures { Takes (glued roles.now) tokens.now result }
 {
     match tokens {
@@ -31,7 +31,7 @@ pub(crate) fn past_glued<'t>(tokens: &'t [Item], roles: &[Role]) -> Option<&'t [
 }
 
 /// What follows a token of one of these roles, which has to stand here.
-pub(crate) fn expect<'t>(tokens: &'t [Item], roles: &[Role]) -> Result<&'t [Item], Stop>
+pub fn expect<'t>(tokens: &'t [Item], roles: &[Role]) -> Result<&'t [Item], Stop>
     ensures { Gives (λ rest. (tt {0}, rest.now)) result (one_at (any roles.now) (λ _. tt {0}) tokens.now) }
 {
     match past(tokens, roles) {
@@ -41,7 +41,7 @@ pub(crate) fn expect<'t>(tokens: &'t [Item], roles: &[Role]) -> Result<&'t [Item
 }
 
 /// The text of a token of one of these roles, and what follows it.
-pub(crate) fn text_of<'t>(tokens: &'t [Item], roles: &[Role]) -> Option<(&'t str, &'t [Item])>
+pub fn text_of<'t>(tokens: &'t [Item], roles: &[Role]) -> Option<(&'t str, &'t [Item])>
     ensures { TakesText (any roles.now) tokens.now result }
 {
     match tokens {
@@ -51,7 +51,7 @@ pub(crate) fn text_of<'t>(tokens: &'t [Item], roles: &[Role]) -> Option<(&'t str
 }
 
 /// The same, where one has to stand here.
-pub(crate) fn text<'t>(tokens: &'t [Item], roles: &[Role]) -> Result<(&'t str, &'t [Item]), Stop>
+pub fn text<'t>(tokens: &'t [Item], roles: &[Role]) -> Result<(&'t str, &'t [Item]), Stop>
     ensures { Gives (λ x. (x.0.now, x.1.now)) result (one_at (any roles.now) (λ t. t.content) tokens.now) }
 {
     match tokens {
@@ -61,7 +61,7 @@ pub(crate) fn text<'t>(tokens: &'t [Item], roles: &[Role]) -> Result<(&'t str, &
 }
 
 /// Whether a glued token of one of these roles stands here.
-pub(crate) fn at_glued(tokens: &[Item], roles: &[Role]) -> bool
+pub fn at_glued(tokens: &[Item], roles: &[Role]) -> bool
     ensures { result ≡ next (glued roles.now) tokens.now }
 {
     match tokens {
@@ -71,7 +71,7 @@ pub(crate) fn at_glued(tokens: &[Item], roles: &[Role]) -> bool
 }
 
 /// The text of a glued token of one of these roles, which has to stand here.
-pub(crate) fn glued_text<'t>(
+pub fn glued_text<'t>(
     tokens: &'t [Item],
     roles: &[Role],
 ) -> Result<(&'t str, &'t [Item]), Stop>
@@ -84,7 +84,7 @@ pub(crate) fn glued_text<'t>(
 }
 
 /// Whether a token of one of these roles stands here.
-pub(crate) fn at(tokens: &[Item], roles: &[Role]) -> bool
+pub fn at(tokens: &[Item], roles: &[Role]) -> bool
     ensures { result ≡ next (any roles.now) tokens.now }
 {
     match tokens {
@@ -94,7 +94,7 @@ pub(crate) fn at(tokens: &[Item], roles: &[Role]) -> bool
 }
 
 /// What follows a glued token of one of these roles, which has to stand here.
-pub(crate) fn expect_glued<'t>(tokens: &'t [Item], roles: &[Role]) -> Result<&'t [Item], Stop>
+pub fn expect_glued<'t>(tokens: &'t [Item], roles: &[Role]) -> Result<&'t [Item], Stop>
     ensures { Gives (λ rest. (tt {0}, rest.now)) result (one_at (glued roles.now) (λ _. tt {0}) tokens.now) }
 {
     match past_glued(tokens, roles) {
@@ -104,7 +104,7 @@ pub(crate) fn expect_glued<'t>(tokens: &'t [Item], roles: &[Role]) -> Result<&'t
 }
 
 /// The text of a glued token of one of these roles, and what follows it.
-pub(crate) fn glued_text_of<'t>(tokens: &'t [Item], roles: &[Role]) -> Option<(&'t str, &'t [Item])>
+pub fn glued_text_of<'t>(tokens: &'t [Item], roles: &[Role]) -> Option<(&'t str, &'t [Item])>
     ensures { TakesText (glued roles.now) tokens.now result }
 {
     match tokens {
@@ -114,7 +114,7 @@ pub(crate) fn glued_text_of<'t>(tokens: &'t [Item], roles: &[Role]) -> Option<(&
 }
 
 /// The place of the next token.
-pub(crate) fn place(tokens: &[Item]) -> usize
+pub fn place(tokens: &[Item]) -> usize
     ensures { result ≡ place_of tokens.now }
 {
     match tokens {

@@ -4,11 +4,16 @@ use denote.Ref.{Bor}
 use Rattle.grammar.specs.Rule.{Token, Class, has, next}
 use Rattle.grammar.specs.Spelling.{too_deep, refused}
 use Rattle.grammar.specs.Reading.{Stop, stuck, flawed, Answer, reads, read_at, items_at}
-use Rattle.lq_parse.specs.Values.{Bytes, Reason, Filtering, bad_number, bad_time, bad_duration}
-use Rattle.lq_parse.specs.LogsQL.{Parse, Name, heads, rules, logsql}
-use Rattle.lq_parse.specs.declared.fault.Stop.{Stop as Halt}
-use Rattle.lq_parse.specs.declared.fault.Stop.TheVariants.{Stuck, TooDeep, BadNumber, BadTime, BadDuration, Memory}
+use Rattle.lq_grammar.specs.Values.{Bytes, Reason, Filtering, bad_number, bad_time, bad_duration}
+use Rattle.lq_grammar.specs.LogsQL.{Parse, Name, heads, rules, logsql}
+use Rattle.lq_grammar.specs.declared.fault.Stop.{Stop as Halt}
+use Rattle.lq_grammar.specs.declared.fault.Stop.TheVariants.{Stuck, TooDeep, BadNumber, BadTime, BadDuration, Memory}
+use Rattle.lq_lex.specs.declared.fault.LexFault.{LexFault}
+use Rattle.lq_lex.specs.declared.fault.LexFault.TheVariants.{Memory as LexMemory}
+use Rattle.lq_grammar.specs.declared.fault.QueryFault.{QueryFault}
+use Rattle.lq_grammar.specs.declared.fault.QueryFault.TheVariants.{Lex, Memory as QueryMemory}
 
+-- The reader stops where reading does, unless memory ran out.
 abbrev pub Fails : {Y : Type 0} → Halt → Result Y (Stop Reason) → Type 0
 Fails (Stuck left) r = r ≡ Err (stuck left)
 Fails (TooDeep at) r = r ≡ Err (flawed too_deep at)
@@ -43,3 +48,8 @@ Takes class u (Some rest) = (t : Token Bytes) × (u ≡ t ∷ rest.now) × (has 
 abbrev pub TakesText : Class → List (Token Bytes) → Option (Bor Bytes × Bor (List (Token Bytes))) → Type 0
 TakesText class u None = next class u ≡ false
 TakesText class u (Some x) = (t : Token Bytes) × (u ≡ t ∷ x.1.now) × (has class t ≡ true) × (x.0.now ≡ t.content)
+
+-- what becomes of a fault of a text's tokens
+abbrev pub lex_fault : LexFault → QueryFault
+lex_fault LexMemory = QueryMemory
+lex_fault fault = Lex fault

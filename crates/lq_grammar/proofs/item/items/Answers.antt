@@ -1,6 +1,6 @@
 use Rattle.lq_lex.specs.Token.{seen}
-use Rattle.lq_parse.proofs.Listing.{one_more}
-use Rattle.lq_parse.proofs.item.items.Goals as goal
+use Rattle.lq_grammar.proofs.Listing.{one_more}
+use Rattle.lq_grammar.proofs.item.items.Goals as goal
 
 pub loop-i-preserved : goal.loop-i-preserved
 loop-i-preserved c =

@@ -4,9 +4,9 @@ use Rattle.std.proofs.lemmas.Bool.{eqb-true}
 use Rattle.std.proofs.Common.{eq-eqb}
 use Rattle.std.specs.List.{list_any}
 use Rattle.grammar.specs.Rule.{Class, member}
-use Rattle.lq_parse.specs.declared.role.Role.{Role}
-use Rattle.lq_parse.specs.Roles.{number, apart_by, loose, glued, any}
-use Rattle.lq_parse.proofs.Numbers.{number_bound}
+use Rattle.lq_grammar.specs.declared.role.Role.{Role}
+use Rattle.lq_grammar.specs.Roles.{number, apart_by, loose, glued, any}
+use Rattle.lq_grammar.proofs.Numbers.{number_bound}
 
 or_none : (b : Bool) → (b || false) ≡ b
 or_none true = refl

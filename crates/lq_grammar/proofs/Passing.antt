@@ -4,10 +4,10 @@ use Rattle.grammar.specs.Rule.{Token, Class, has}
 use Rattle.grammar.proofs.Sets.{inside}
 use Rattle.grammar.proofs.Table.{more, fits, plain, solid, shortest, nothing}
 use Rattle.grammar.proofs.Whole.{Passes, PassesAt}
-use Rattle.lq_parse.specs.declared.role.Role.TheVariants.{Open, SquareOpen, Colon, Star}
-use Rattle.lq_parse.specs.Roles.{glued, any, bares, quoted, run_parts}
-use Rattle.lq_parse.specs.Values.{Bytes}
-use Rattle.lq_parse.specs.LogsQL.{Name, group, negation, inner_negation, heads, rules, logsql, query, texts, groups, optional_groups, or, and, next_unary, unary, unit, word_unit, range_unit, call_unit, stream_end, stream_value, time_end, inner, time, interval, last_bound, lone_run, bound, run, run_rest, selector, labels, label, how, leaf, range_leaf, word_leaf, mark_leaf, star, less, greater, regex, exact, range_end, ends, last_end, closing, string_range_end, len_range_end, seq_end, i_end, in_end, quoted_end, bare_end, high_size, size, end, num, args, arg}
+use Rattle.lq_grammar.specs.declared.role.Role.TheVariants.{Open, SquareOpen, Colon, Star}
+use Rattle.lq_grammar.specs.Roles.{glued, any, bares, quoted, run_parts}
+use Rattle.lq_grammar.specs.Values.{Bytes}
+use Rattle.lq_grammar.specs.LogsQL.{Name, group, negation, inner_negation, heads, rules, logsql, query, texts, groups, optional_groups, or, and, next_unary, unary, unit, word_unit, range_unit, call_unit, stream_end, stream_value, time_end, inner, time, interval, last_bound, lone_run, bound, run, run_rest, selector, labels, label, how, leaf, range_leaf, word_leaf, mark_leaf, star, less, greater, regex, exact, range_end, ends, last_end, closing, string_range_end, len_range_end, seq_end, i_end, in_end, quoted_end, bare_end, high_size, size, end, num, args, arg}
 
 -- what goes on with each name
 abbrev next_to : Name → Class

@@ -1,10 +1,10 @@
 // What a token is to the grammar.
 ghost use Rattle.std.specs.Prelude.{◌≡◌, ◌<◌};
-ghost use Rattle.lq_parse.specs.Roles.{number as number_of, apart_by};
+ghost use Rattle.lq_grammar.specs.Roles.{number as number_of, apart_by};
 
 /// A word that the grammar names, another word, a quoted text or a mark.
 #[derive(Clone, Copy, PartialEq, Eq)]
-pub(crate) enum Role {
+pub enum Role {
     And,
     Or,
     Not,
@@ -84,7 +84,7 @@ pub(crate) fn number(role: Role) -> u8
 }
 
 /// Bare tokens.
-pub(crate) const BARES: &[Role] = &[
+pub const BARES: &[Role] = &[
     Role::Bare,
     Role::And,
     Role::Or,
@@ -100,7 +100,7 @@ pub(crate) const BARES: &[Role] = &[
 ];
 
 /// What may be a word, a name or an argument.
-pub(crate) const WORDS: &[Role] = &[
+pub const WORDS: &[Role] = &[
     Role::Bare,
     Role::Time,
     Role::Stream,
@@ -115,7 +115,7 @@ pub(crate) const WORDS: &[Role] = &[
 ];
 
 /// Any Bare or Quoted token.
-pub(crate) const TEXTS: &[Role] = &[
+pub const TEXTS: &[Role] = &[
     Role::Bare,
     Role::And,
     Role::Or,
@@ -133,10 +133,10 @@ pub(crate) const TEXTS: &[Role] = &[
 ];
 
 /// Quoted tokens.
-pub(crate) const QUOTED: &[Role] = &[Role::Quoted, Role::QuotedTime];
+pub const QUOTED: &[Role] = &[Role::Quoted, Role::QuotedTime];
 
 /// What a run goes on with.
-pub(crate) const RUN_PARTS: &[Role] = &[
+pub const RUN_PARTS: &[Role] = &[
     Role::Colon,
     Role::Minus,
     Role::Plus,
@@ -155,10 +155,10 @@ pub(crate) const RUN_PARTS: &[Role] = &[
 ];
 
 /// What denies a filter.
-pub(crate) const NEGATIONS: &[Role] = &[Role::Not, Role::Bang, Role::Minus];
+pub const NEGATIONS: &[Role] = &[Role::Not, Role::Bang, Role::Minus];
 
 /// What begins a filter behind another one.
-pub(crate) const UNARY: &[Role] = &[
+pub const UNARY: &[Role] = &[
     Role::And,
     Role::Not,
     Role::Bang,

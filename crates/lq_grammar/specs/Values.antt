@@ -2,7 +2,7 @@
 use Rattle.std.specs.Prelude.{ℕ, ◌-◌, ◌^◌, Bool, true, false, List, [], ◌∷◌, map, bytes_eq, codes, ℤ, pos, neg_ℤ, ◌+ℤ◌, ◌-ℤ◌, Option, Some, None, Result, Ok, Err, if◌then◌else◌}
 use Rattle.std.specs.Str.{str_to_ascii_lowercase}
 use Rattle.log_model.specs.Field.{is_empty}
-use Rattle.lq_parse.specs.Assumed.{number_of}
+use Rattle.log_model.specs.Order.{number_of}
 use Rattle.lq_ast.specs.Condition.{Condition, Conditions, conditions, Test, Tests}
 use Rattle.lq_ast.specs.Condition as is
 

@@ -3,8 +3,8 @@ use Rattle.std.proofs.Common.{◌≡◌, ℕ, zero, suc, ◌+◌, List, [], ◌�
 use Rattle.std.specs.List.{slice_get}
 use Rattle.grammar.specs.Rule.{Token}
 use Rattle.lq_lex.specs.Token.{Token as Piece}
-use Rattle.lq_parse.specs.Values.{Bytes}
-use Rattle.lq_parse.specs.Items.{item_of}
+use Rattle.lq_grammar.specs.Values.{Bytes}
+use Rattle.lq_grammar.specs.Items.{item_of}
 
 some_inj : (x y : Piece) → Some x ≡ Some y → x ≡ y
 some_inj x y e = cc

@@ -2,16 +2,15 @@
 -- capitals are Bare tokens in any case of their letters, and `^` says that a token is glued to the one before it.
 use Rattle.std.specs.Prelude.{ℕ, Bool, true, false, List, [], ◌∷◌, ◌++◌, flat_map, ℤ, None}
 use Rattle.grammar.specs.Rule.{Token, Class, Rule, empty, one, unless, both, either, many, checked, deeper, Grammar}
-use Rattle.grammar.specs.Spelling.{Outcome, Spells}
 use Rattle.lq_ast.specs.declared.select.How.{How}
 use Rattle.lq_ast.specs.declared.select.How.TheVariants.{Is, IsNot, Matches, MatchesNot}
 use Rattle.lq_ast.specs.Condition.{Condition, Test, Tests}
-use Rattle.lq_parse.specs.declared.role.Role.TheVariants.{And, Or, In, I, Seq, LenRange, StringRange, Range, Time, Stream, Bare, QuotedTime, Quoted, Open, Close, SquareOpen, SquareClose, CurlyOpen, CurlyClose, Comma, Colon, Equals, Bang, Tilde, Star, Less, Greater, Minus}
-use Rattle.lq_parse.specs.declared.role.Role.{Role}
-use Rattle.lq_parse.specs.Roles.{glued, any, bares, quoted, words, negations, run_parts}
-use Rattle.lq_parse.specs.Values.{Bytes, Reason, Filtering, End, field_named, named, everything, phrased, prefixed, exactly, exactly_prefixed, matching, one_of_texts, in_any_case, in_sequence, of_length, text_between, denied, on_streams, all_hold, any_holds, number_value, size_value, high_size_value, end_value, in_range}
-use Rattle.lq_parse.specs.Values.{above, at_least, below, at_most}
-use Rattle.lq_parse.specs.Moments.{run_value, bound_value, in_interval}
+use Rattle.lq_grammar.specs.declared.role.Role.TheVariants.{And, Or, In, I, Seq, LenRange, StringRange, Range, Time, Stream, Bare, QuotedTime, Quoted, Open, Close, SquareOpen, SquareClose, CurlyOpen, CurlyClose, Comma, Colon, Equals, Bang, Tilde, Star, Less, Greater, Minus}
+use Rattle.lq_grammar.specs.declared.role.Role.{Role}
+use Rattle.lq_grammar.specs.Roles.{glued, any, bares, quoted, words, negations, run_parts}
+use Rattle.lq_grammar.specs.Values.{Bytes, Reason, Filtering, End, field_named, named, everything, phrased, prefixed, exactly, exactly_prefixed, matching, one_of_texts, in_any_case, in_sequence, of_length, text_between, denied, on_streams, all_hold, any_holds, number_value, size_value, high_size_value, end_value, in_range}
+use Rattle.lq_grammar.specs.Values.{above, at_least, below, at_most}
+use Rattle.lq_grammar.specs.Moments.{run_value, bound_value, in_interval}
 
 -- ---- words for rules
 
@@ -333,11 +332,3 @@ rules inner_negation = inner
 
 abbrev pub logsql : Grammar Bytes Reason Name Filtering
 logsql = record { heads = heads; rules = rules }
-
--- as many parentheses and negations may be open at one place
-abbrev pub most_open : ℕ
-most_open = 64
-
--- The tokens spell a query with this condition, or have this first flaw.
-abbrev pub IsQuery : Outcome Reason Condition → List (Token Bytes) → Type 0
-IsQuery = Spells logsql most_open query

@@ -3,8 +3,8 @@ ghost use Rattle.std.specs.Prelude.{◌≡◌, ◌==◌, ◌+◌, if◌then◌el
 ghost use Rattle.std.specs.List.{list_any};
 ghost use Rattle.grammar.specs.Rule.{has, member};
 ghost use Rattle.lq_lex.specs.Token.{seen};
-ghost use Rattle.lq_parse.specs.Items.{item_of};
-ghost use Rattle.lq_parse.specs.Roles.{any, glued as glued_of, number as number_of, apart_by};
+ghost use Rattle.lq_grammar.specs.Items.{item_of};
+ghost use Rattle.lq_grammar.specs.Roles.{any, glued as glued_of, number as number_of, apart_by};
 
 use crate::classify::role_of;
 use crate::role::{Role, number};
@@ -17,7 +17,7 @@ use vl_row::Text;
 ///
 /// A contract sees it as a token of the grammar.
 #[derive(Drop)]
-pub(crate) struct Item {
+pub struct Item {
     role: Role,
     glued: bool,
     start: usize,
@@ -27,7 +27,7 @@ pub(crate) struct Item {
 impl Model for Item {
     ghost use Rattle.std.specs.Prelude.{ℕ, List, ◌+◌, if◌then◌else◌};
     ghost use Rattle.grammar.specs.Rule.{Token};
-    ghost use Rattle.lq_parse.specs.Roles.{number, apart_by};
+    ghost use Rattle.lq_grammar.specs.Roles.{number, apart_by};
 
     ghost Value = { Token (List ℕ) };
 
@@ -40,28 +40,28 @@ impl Model for Item {
 
 impl Item {
     /// Whether it has one of these roles.
-    pub(crate) fn is(&self, roles: &[Role]) -> bool
+    pub fn is(&self, roles: &[Role]) -> bool
         ensures { result ≡ has (any roles.now) self.now }
     {
         is_any(self.role, self.glued, roles)
     }
 
     /// Whether it has one of these roles and is glued.
-    pub(crate) fn is_glued(&self, roles: &[Role]) -> bool
+    pub fn is_glued(&self, roles: &[Role]) -> bool
         ensures { result ≡ has (glued_of roles.now) self.now }
     {
         is_glued(self.role, self.glued, roles)
     }
 
     /// Its first byte's place.
-    pub(crate) fn start(&self) -> usize
+    pub fn start(&self) -> usize
         ensures { result ≡ self.now.place }
     {
         self.start
     }
 
     /// The text that it stands for.
-    pub(crate) fn text(&self) -> &str
+    pub fn text(&self) -> &str
         ensures { result.now ≡ self.now.content }
     {
         self.text.as_str()
@@ -69,7 +69,7 @@ impl Item {
 }
 
 /// The tokens of a text as the grammar sees them.
-pub(crate) fn items(alloc: Global, tokens: &Tokens<'_>) -> Result<Vec<Item>, AllocError>
+pub fn items(alloc: Global, tokens: &Tokens<'_>) -> Result<Vec<Item>, AllocError>
     ensures { IfOk result (λ list. list.items ≡ map item_of tokens.now) }
 {
     let mut list = Vec::with_capacity(alloc, tokens.len())?;

@@ -1,8 +1,8 @@
 -- Classes of tokens, by what each token is to the grammar.
 use Rattle.std.specs.Prelude.{ℕ, ◌+◌, List, [], ◌∷◌, ◌++◌, map}
 use Rattle.grammar.specs.Rule.{Class}
-use Rattle.lq_parse.specs.declared.role.Role.{Role}
-use Rattle.lq_parse.specs.declared.role.Role.TheVariants.{And, Or, Not, In, I, Seq, LenRange, StringRange, Range, Time, Stream, Bare, QuotedTime, Quoted, Bar, Open, Close, SquareOpen, SquareClose, CurlyOpen, CurlyClose, Comma, Colon, Equals, Bang, Tilde, Star, Less, Greater, Minus, Plus}
+use Rattle.lq_grammar.specs.declared.role.Role.{Role}
+use Rattle.lq_grammar.specs.declared.role.Role.TheVariants.{And, Or, Not, In, I, Seq, LenRange, StringRange, Range, Time, Stream, Bare, QuotedTime, Quoted, Bar, Open, Close, SquareOpen, SquareClose, CurlyOpen, CurlyClose, Comma, Colon, Equals, Bang, Tilde, Star, Less, Greater, Minus, Plus}
 
 -- the number of each role, and so of the kind of a token that is not glued
 abbrev pub number : Role → ℕ

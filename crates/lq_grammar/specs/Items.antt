@@ -6,10 +6,10 @@ use Rattle.lq_lex.specs.Token.{Token as Piece}
 use Rattle.lq_lex.specs.Texts.{text_of}
 use Rattle.lq_lex.specs.declared.token.Kind.{Kind}
 use Rattle.lq_lex.specs.declared.token.Kind.TheVariants.{Bare as BareKind, Quoted as QuotedKind, Mark}
-use Rattle.lq_parse.specs.declared.role.Role.{Role}
-use Rattle.lq_parse.specs.declared.role.Role.TheVariants.{And, Or, Not, In, I, Seq, LenRange, StringRange, Range, Time, Stream, Bare, QuotedTime, Quoted, Bar, Open, Close, SquareOpen, SquareClose, CurlyOpen, CurlyClose, Comma, Colon, Equals, Bang, Tilde, Star, Less, Greater, Minus, Plus}
-use Rattle.lq_parse.specs.Roles.{number, apart_by}
-use Rattle.lq_parse.specs.Values.{Bytes}
+use Rattle.lq_grammar.specs.declared.role.Role.{Role}
+use Rattle.lq_grammar.specs.declared.role.Role.TheVariants.{And, Or, Not, In, I, Seq, LenRange, StringRange, Range, Time, Stream, Bare, QuotedTime, Quoted, Bar, Open, Close, SquareOpen, SquareClose, CurlyOpen, CurlyClose, Comma, Colon, Equals, Bang, Tilde, Star, Less, Greater, Minus, Plus}
+use Rattle.lq_grammar.specs.Roles.{number, apart_by}
+use Rattle.lq_grammar.specs.Values.{Bytes}
 
 -- the text in any case of its ASCII letters
 abbrev pub is_keyword : Bytes → Bytes → Bool

@@ -1,0 +1,5 @@
+pub mod Numbers
+pub mod Codes
+pub mod Listing
+pub mod Passing
+pub mod Answered
