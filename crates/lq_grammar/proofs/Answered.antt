@@ -6,7 +6,8 @@ use Rattle.grammar.specs.Reading.{Answers, whole, as_read}
 use Rattle.grammar.proofs.Whole.{answered, answered_only}
 use Rattle.lq_ast.specs.Condition.{Condition}
 use Rattle.lq_grammar.specs.Values.{Bytes, Reason}
-use Rattle.lq_grammar.specs.LogsQL.{query, most_open, IsQuery}
+use Rattle.lq_grammar.specs.LogsQL.{query}
+use Rattle.lq_grammar.specs.Query.{most_open, IsQuery}
 use Rattle.lq_grammar.specs.Clauses.{at}
 use Rattle.lq_grammar.proofs.Passing.{passes, query_passes}
 

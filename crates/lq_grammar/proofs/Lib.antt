@@ -3,3 +3,5 @@ pub mod Codes
 pub mod Listing
 pub mod Passing
 pub mod Answered
+pub mod Moments
+pub mod Outcomes

@@ -2,7 +2,6 @@
 use Rattle.std.specs.Prelude.{◌≡◌, ℕ, zero, suc, ◌+◌, ◌^◌, ◌<◌, ◌≤◌, nat_lt, Bool, true, false, ◌&&◌, List, [], ◌∷◌}
 use Rattle.std.specs.Prelude.{length, ℤ, pos, ◌+ℤ◌, ◌-ℤ◌, int_le, int_lt, Option, Some, None, Result, Ok, Err}
 use Rattle.std.specs.Prelude.{if◌then◌else◌}
-use Rattle.log_model.specs.Field.{is_empty}
 use Rattle.time_text.specs.Reading.{◌>>=◌}
 use Rattle.time_text.specs.Duration.{SpellsDuration}
 use Rattle.time_text.specs.DurationReading.{part_at}
@@ -35,7 +34,8 @@ span_of (Some nanos) = if nat_lt nanos (2 ^ 63) then Ok (pos nanos) else Err Out
 
 -- the one answer of which `SaysDuration` holds
 unfoldable pub duration_of : Bytes → Result ℤ DurationFault
-duration_of text = span_of (if is_empty text then None else sum_from (length text) 0 text)
+duration_of [] = Err NotADuration
+duration_of (byte ∷ bytes) = span_of (sum_from (length (byte ∷ bytes)) 0 (byte ∷ bytes))
 
 -- ---- bounds
 

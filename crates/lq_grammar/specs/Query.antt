@@ -8,7 +8,8 @@ use Rattle.lq_ast.specs.Condition.{Condition}
 use Rattle.lq_lex.specs.Token.{Token as Piece}
 use Rattle.lq_lex.specs.Lexing.{HasLexed, IsTokens}
 use Rattle.lq_grammar.specs.declared.fault.QueryFault.{QueryFault}
-use Rattle.lq_grammar.specs.declared.fault.QueryFault.TheVariants.{Lex, Syntax, TooDeep, BadNumber, BadTime, BadDuration, Memory, NotBuilt}
+use Rattle.lq_grammar.specs.declared.fault.QueryFault.TheVariants.{Lex, Syntax, TooDeep, BadNumber, BadTime, BadDuration}
+use Rattle.lq_grammar.specs.declared.fault.QueryFault.TheVariants.{Memory, NotBuilt}
 use Rattle.lq_grammar.specs.declared.role.Role.TheVariants.{Bar}
 use Rattle.lq_grammar.specs.Roles.{any}
 use Rattle.lq_grammar.specs.Values.{Bytes, Reason, bad_number, bad_time, bad_duration}

@@ -1,6 +1,7 @@
 // Why a text is no query.
 ghost use Rattle.std.specs.Prelude.{◌≡◌};
 ghost use Rattle.lq_grammar.specs.Clauses.{lex_fault};
+ghost use Rattle.lq_grammar.specs.declared.fault.QueryFault.TheVariants.{Memory as OutOfMemory};
 ghost use Rattle.lq_grammar.specs.declared.fault.Stop.TheVariants.{Memory};
 
 use lq_lex::LexFault;
@@ -64,7 +65,7 @@ impl From<LexFault> for QueryFault {
 }
 
 impl From<AllocError> for QueryFault {
-    ghost from_gives = { λ _ e. e ≡ QueryFault.Memory };
+    ghost from_gives = { λ _ e. e ≡ OutOfMemory };
 
     fn from(_e: AllocError) -> QueryFault {
         QueryFault::Memory

@@ -1,10 +1,11 @@
 // Single tokens.
-ghost use Rattle.std.specs.Prelude.{◌≡◌};
+ghost use Rattle.std.specs.Prelude.{◌≡◌, ◌≤◌, ◌-◌, length, drop, IfSome, IfNone};
 ghost use Rattle.grammar.specs.Rule.{next};
 ghost use Rattle.grammar.specs.Reading.{one_at};
 ghost use Rattle.grammar.specs.Spelling.{place as place_of};
 ghost use Rattle.lq_grammar.specs.Roles.{any, glued};
 ghost use Rattle.lq_grammar.specs.Clauses.{Gives, Takes, TakesText};
+ghost use Rattle.lq_grammar.specs.Query.{IsFirstBar, HasNoBar, place_or_end};
 
 use crate::fault::Stop;
 use crate::item::Item;
@@ -120,5 +121,25 @@ pub fn place(tokens: &[Item]) -> usize
     match tokens {
         [token, ..] => token.start(),
         _ => 0,
+    }
+}
+
+/// The place of the first mark `|`.
+pub fn first_bar(tokens: &[Item]) -> Option<usize>
+    ensures some { IfSome result (IsFirstBar tokens.now) }
+    ensures none { IfNone result (HasNoBar tokens.now) }
+{
+    let bar = tokens.iter().find(|token| token.is(&[Role::Bar]))?;
+    Some(bar.start())
+}
+
+/// The place of the first of so many tokens that are left at the end of a text, or the text's end.
+pub fn place_of_left(tokens: &[Item], left: usize, text: &str) -> usize
+    requires { left ≤ length tokens.now }
+    ensures { result ≡ place_or_end text.now (drop (length tokens.now - left) tokens.now) }
+{
+    match &tokens[tokens.len() - left..] {
+        [token, ..] => token.start(),
+        _ => text.len(),
     }
 }
