@@ -2,7 +2,6 @@
 use Rattle.std.proofs.Common.{◌≡◌, ℕ, zero, suc, ◌+◌, ◌-◌, Bool, true, false, cond, ◌||◌, List, [], ◌∷◌, ◌++◌, length, drop, map}
 use Rattle.std.proofs.Common.{Option, Some, None, Result, Ok, Err, refl, sym, ap, ◌∙◌, subst, arith}
 use Rattle.std.proofs.lemmas.List.{length-append, drop_at}
-use Rattle.std.specs.List.{list_any}
 use Rattle.grammar.specs.Rule.{Token}
 use Rattle.grammar.specs.Spelling.{Flaw, IsStuck, IsFlawed, too_deep, refused}
 use Rattle.grammar.specs.Reading.{Answers, Stop, stuck, flawed}
@@ -16,7 +15,7 @@ use Rattle.lq_grammar.specs.declared.fault.QueryFault.TheVariants.{Lex, Syntax, 
 use Rattle.lq_grammar.specs.declared.fault.QueryFault.TheVariants.{Memory, NotBuilt}
 use Rattle.lq_grammar.specs.Values.{Bytes, Reason, bad_number, bad_time, bad_duration}
 use Rattle.lq_grammar.specs.Items.{item_of}
-use Rattle.lq_grammar.specs.Query.{HasItems, is_bar, HasNoBar, IsFirstBar, IsQuery, reading, place_or_end, IsSyntax, IsFlaw}
+use Rattle.lq_grammar.specs.Query.{HasItems, first_bar, IsQuery, reading, place_or_end, IsSyntax, IsFlaw}
 use Rattle.lq_grammar.specs.Query.{OutcomeOf, QueryOf}
 use Rattle.lq_grammar.proofs.Answered.{answered_query, only_query}
 
@@ -90,32 +89,6 @@ named_outcome text items = by_read (reading items) refl (answered_query items)
     }
     by_read (Err (flawed flaw at)) e h = by_flaw flaw at e h
 
--- ---- bars
-
-abbrev first_bar : Items → Option ℕ
-first_bar [] = None
-first_bar (t ∷ ts) = cond (is_bar t) (Some t.place) (first_bar ts)
-
-no_bar : (items : Items) → HasNoBar items → first_bar items ≡ None
-no_bar [] none = refl
-no_bar (t ∷ ts) none = by_test (is_bar t) none (no_bar ts)
-  where
-    by_test : (b : Bool) → (b || list_any is_bar ts) ≡ false → (HasNoBar ts → first_bar ts ≡ None)
-        → cond b (Some t.place) (first_bar ts) ≡ None
-    by_test true e again = absurd cc
-    by_test false e again = again e
-
-bar_behind : (before : Items) (bar : Token Bytes) (behind : Items) → HasNoBar before → is_bar bar ≡ true
-    → first_bar (before ++ bar ∷ behind) ≡ Some bar.place
-bar_behind [] bar behind none is = ap (λ (b : Bool). cond b (Some bar.place) (first_bar behind)) is
-bar_behind (t ∷ before) bar behind none is = by_test (is_bar t) none (λ e. bar_behind before bar behind e is)
-  where
-    by_test : (b : Bool) → (b || list_any is_bar before) ≡ false
-        → (HasNoBar before → first_bar (before ++ bar ∷ behind) ≡ Some bar.place)
-        → cond b (Some t.place) (first_bar (before ++ bar ∷ behind)) ≡ Some bar.place
-    by_test true e again = absurd cc
-    by_test false e again = again e
-
 -- ---- whole texts
 
 abbrev built : Bytes → Items → Option ℕ → Outcome
@@ -132,23 +105,22 @@ answer_to text (Err fault) = Err (Lex fault)
 abbrev Answered : Bytes → Outcome → Type 0
 Answered text r = (lexed : Lexed) × HasLexed text lexed × (answer_to text lexed ≡ r)
 
-by_items : (text : Bytes) (r : Outcome) → (items : Items) × HasItems text items × HasNoBar items × OutcomeOf text items r
+by_items : (text : Bytes) (r : Outcome) → (items : Items) × HasItems text items × (first_bar items ≡ None) × OutcomeOf text items r
     → Answered text r
 by_items text r (items, has, none, out) = (
   Ok has.0,
   has.1,
-  ap (λ (l : Items). built text l (first_bar l)) (sym has.2) ∙ ap (built text items) (no_bar items none)
+  ap (λ (l : Items). built text l (first_bar l)) (sym has.2) ∙ ap (built text items) none
   ∙ outcome_named text items r out,
 )
 
-by_bar : (text : Bytes) (at : ℕ) → (items : Items) × HasItems text items × IsFirstBar items at
+by_bar : (text : Bytes) (at : ℕ) → (items : Items) × HasItems text items × (first_bar items ≡ Some at)
     → Answered text (Err (NotBuilt at))
 by_bar text at (items, has, bar) = (
   Ok has.0,
   has.1,
   ap (λ (l : Items). built text l (first_bar l)) (sym has.2)
-  ∙ ap (built text items) (ap first_bar bar.parts ∙ bar_behind bar.before bar.bar bar.behind bar.none_before bar.is_bar)
-  ∙ ap (λ (n : ℕ). Err (NotBuilt n)) (sym bar.place_is),
+  ∙ ap (built text items) bar,
 )
 
 answered_so : (text : Bytes) (r : Outcome) → QueryOf text r → Answered text r
@@ -169,7 +141,7 @@ one_outcome text one other h k =
     sym a.2 ∙ ap (answer_to text) (lexed_same text a.0 b.0 a.1 b.1) ∙ b.2
 
 -- of a text with tokens and without a mark `|`
-pub query_named : (text : Bytes) (items : Items) → HasItems text items → HasNoBar items → (r : Outcome)
+pub query_named : (text : Bytes) (items : Items) → HasItems text items → first_bar items ≡ None → (r : Outcome)
     → named text items (reading items) ≡ r → QueryOf text r
 query_named text items has none (Ok c) e = (items, has, none, subst (OutcomeOf text items) e (named_outcome text items))
 query_named text items has none (Err (Lex fault)) e = absurd (subst (OutcomeOf text items) e (named_outcome text items))

@@ -1,6 +1,7 @@
 -- What a text of LogsQL is: a query with its condition, or its first fault.
-use Rattle.std.specs.Prelude.{◌≡◌, ℕ, Bool, true, false, List, [], ◌∷◌, ◌++◌, length, map, Result, Ok, Err}
-use Rattle.std.specs.List.{list_any}
+use Rattle.std.specs.Prelude.{◌≡◌, ℕ, Bool, List, [], ◌∷◌, length, map, Option, Some, None, Result, Ok, Err}
+use Rattle.std.specs.List.{find}
+use Rattle.std.specs.Option.{option_map}
 use Rattle.grammar.specs.Rule.{Token, has}
 use Rattle.grammar.specs.Spelling.{Flaw, Outcome, Spells, IsStuck, IsFlawed, too_deep, refused}
 use Rattle.grammar.specs.Reading.{Stop, stuck, flawed, read_at, whole}
@@ -25,18 +26,9 @@ HasItems text items = (ts : List Piece) × IsTokens text ts × (items ≡ map it
 abbrev pub is_bar : Token Bytes → Bool
 is_bar t = has (any (Bar ∷ [])) t
 
-abbrev pub HasNoBar : List (Token Bytes) → Type 0
-HasNoBar items = list_any is_bar items ≡ false
-
--- The first mark `|` of the tokens stands at this place.
-pub record IsFirstBar (items : List (Token Bytes)) (at : ℕ) : Type 0 where
-  pub before : List (Token Bytes)
-  pub bar : Token Bytes
-  pub behind : List (Token Bytes)
-  pub parts : items ≡ before ++ bar ∷ behind
-  pub none_before : HasNoBar before
-  pub is_bar : is_bar bar ≡ true
-  pub place_is : at ≡ bar.place
+-- the place of the first mark `|`
+abbrev pub first_bar : List (Token Bytes) → Option ℕ
+first_bar items = option_map (λ t. t.place) (find is_bar items)
 
 -- ---- queries
 
@@ -93,6 +85,6 @@ OutcomeOf text items (Err (NotBuilt at)) = ⊥
 -- `|`, is refused before all others. No text has two outcomes, and each has one.
 abbrev pub QueryOf : Bytes → Result Condition QueryFault → Type 0
 QueryOf text (Err (Lex fault)) = HasLexed text (Err fault)
-QueryOf text (Err (NotBuilt at)) = (items : List (Token Bytes)) × HasItems text items × IsFirstBar items at
+QueryOf text (Err (NotBuilt at)) = (items : List (Token Bytes)) × HasItems text items × (first_bar items ≡ Some at)
 QueryOf text outcome =
-    (items : List (Token Bytes)) × HasItems text items × HasNoBar items × OutcomeOf text items outcome
+    (items : List (Token Bytes)) × HasItems text items × (first_bar items ≡ None) × OutcomeOf text items outcome

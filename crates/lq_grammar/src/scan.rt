@@ -1,11 +1,13 @@
 // Single tokens.
-ghost use Rattle.std.specs.Prelude.{◌≡◌, ◌≤◌, ◌-◌, length, drop, IfSome, IfNone};
+ghost use Rattle.std.specs.Prelude.{◌≡◌, ◌≤◌, ◌-◌, length, drop};
+ghost use Rattle.std.specs.List.{find};
+ghost use Rattle.std.specs.Option.{option_map};
 ghost use Rattle.grammar.specs.Rule.{next};
 ghost use Rattle.grammar.specs.Reading.{one_at};
 ghost use Rattle.grammar.specs.Spelling.{place as place_of};
 ghost use Rattle.lq_grammar.specs.Roles.{any, glued};
 ghost use Rattle.lq_grammar.specs.Clauses.{Gives, Takes, TakesText};
-ghost use Rattle.lq_grammar.specs.Query.{IsFirstBar, HasNoBar, place_or_end};
+ghost use Rattle.lq_grammar.specs.Query.{is_bar, first_bar, place_or_end};
 
 use crate::fault::Stop;
 use crate::item::Item;
@@ -126,11 +128,16 @@ pub fn place(tokens: &[Item]) -> usize
 
 /// The place of the first mark `|`.
 pub fn first_bar(tokens: &[Item]) -> Option<usize>
-    ensures some { IfSome result (IsFirstBar tokens.now) }
-    ensures none { IfNone result (HasNoBar tokens.now) }
+    ensures { result ≡ first_bar tokens.now }
 {
-    let bar = tokens.iter().find(|token| token.is(&[Role::Bar]))?;
+    let bar = bar_of(tokens)?;
     Some(bar.start())
+}
+
+fn bar_of(tokens: &[Item]) -> Option<&Item>
+    ensures { option_map (λ token. token.now) result ≡ find is_bar tokens.now }
+{
+    tokens.iter().find(|token| token.is(&[Role::Bar]))
 }
 
 /// The place of the first of so many tokens that are left at the end of a text, or the text's end.
