@@ -1,8 +1,7 @@
--- The ends of ranges as values.
+-- The ends of ranges, and of what bounds name, as values.
+use Rattle.std.specs.Prelude.{ℤ}
+use Rattle.time_text.specs.declared.bound.Span.{Span}
 use Rattle.lq_grammar.specs.Values as value
-use Rattle.lq_parse.specs.Assumed as assumed
-use Rattle.lq_parse.specs.declared.assumed.Lasting.{Lasting}
-use Rattle.lq_parse.specs.declared.assumed.Lasting.TheVariants.{NoDuration, TooLong, For}
 use Rattle.lq_parse.specs.declared.number.Bound.{Bound}
 use Rattle.lq_parse.specs.declared.number.Bound.TheVariants.{Number, Infinite, MinusInfinite}
 
@@ -11,8 +10,6 @@ end_of (Number z) = value.number z
 end_of Infinite = value.infinite
 end_of MinusInfinite = value.minus_infinite
 
--- durations as values
-abbrev pub lasting_of : Lasting → assumed.Duration
-lasting_of NoDuration = assumed.no_duration
-lasting_of TooLong = assumed.too_long
-lasting_of (For span) = assumed.lasting span
+-- the first and the last moment
+abbrev pub ends_of : Span → ℤ × ℤ
+ends_of span = (span.from, span.to)

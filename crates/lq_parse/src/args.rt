@@ -7,7 +7,7 @@ ghost use Rattle.lq_grammar.specs.Clauses.{Gives, at as at_of};
 
 use lq_grammar::Stop;
 use lq_grammar::Item;
-use lq_grammar::role::{BARES, Role, WORDS};
+use lq_grammar::{BARES, Role, WORDS};
 use lq_grammar::scan::{at, glued_text, past, text, text_of};
 use std::alloc::Global;
 use vl_row::Text;

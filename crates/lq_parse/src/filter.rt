@@ -15,7 +15,7 @@ use crate::label::selector;
 use crate::leaf::{bare_end, i_end, in_end, quoted_end, seq_end, string_range_end};
 use crate::leaves::{leaf, mark_leaf};
 use crate::number::{len_range_end, range_end};
-use lq_grammar::role::{NEGATIONS, Role, UNARY};
+use lq_grammar::{NEGATIONS, Role, UNARY};
 use lq_grammar::scan::{at, expect, past, place, text_of};
 use crate::time::time;
 use lq_ast::Filter;

@@ -8,7 +8,7 @@ ghost use Rattle.lq_grammar.specs.Clauses.{Gives, at as at_of};
 use crate::args::arg;
 use lq_grammar::Stop;
 use lq_grammar::Item;
-use lq_grammar::role::{Role, WORDS};
+use lq_grammar::{Role, WORDS};
 use lq_grammar::scan::{at, expect, expect_glued, past, past_glued, text};
 use lq_ast::{Group, How, LabelTest, Select};
 use std::alloc::{AllocError, Global};

@@ -10,7 +10,7 @@ use crate::args::{arg, args, texts};
 use lq_grammar::Stop;
 use lq_grammar::Item;
 use crate::make;
-use lq_grammar::role::{Role, TEXTS};
+use lq_grammar::{Role, TEXTS};
 use lq_grammar::scan::{at_glued, expect, past_glued, text};
 use lq_ast::Filter;
 use std::alloc::Global;

@@ -12,7 +12,7 @@ use crate::leaf::{
     bare_end, exact, i_end, in_end, quoted_end, regex, seq_end, star, string_range_end,
 };
 use crate::number::{greater, len_range_end, less, range_end};
-use lq_grammar::role::{QUOTED, Role};
+use lq_grammar::{QUOTED, Role};
 use lq_grammar::scan::{at, text_of};
 use lq_ast::Filter;
 use std::alloc::Global;

@@ -1,18 +1,17 @@
-//! Queries read from their texts.
+//! Queries of LogsQL, read from their texts.
 #![tactic(auto)]
 
 mod args;
-mod assumed;
-mod classify;
-pub mod fault;
 mod filter;
-mod item;
 mod label;
 mod leaf;
 mod leaves;
 mod make;
 mod number;
-mod role;
+mod query;
+
 mod run;
-mod scan;
 mod time;
+
+pub use lq_grammar::QueryFault;
+pub use query::parse;

@@ -6,7 +6,7 @@ ghost use Rattle.lq_grammar.specs.Clauses.{Gives, at};
 
 use lq_grammar::Stop;
 use lq_grammar::Item;
-use lq_grammar::role::{BARES, QUOTED, RUN_PARTS};
+use lq_grammar::{BARES, QUOTED, RUN_PARTS};
 use lq_grammar::scan::{glued_text_of, text, text_of};
 use std::alloc::Global;
 use vl_row::Text;

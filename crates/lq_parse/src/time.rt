@@ -1,32 +1,34 @@
 // Times.
 ghost use Rattle.std.specs.Prelude.{◌≡◌, ℕ};
+ghost use Rattle.std.specs.Option.{option_map};
 ghost use Rattle.grammar.specs.Reading.{mapped};
 ghost use Rattle.lq_ast.specs.View.{condition};
 ghost use Rattle.lq_grammar.specs.LogsQL.{bound, lone_run, last_bound, interval, time};
-ghost use Rattle.lq_grammar.specs.Moments.{start_of as first_of, stop_of as last_of};
+ghost use Rattle.lq_grammar.specs.Moments.{start_of as first_of, stop_of as last_of, duration_of, bound_of};
+ghost use Rattle.lq_parse.specs.Ends.{ends_of};
 ghost use Rattle.lq_grammar.specs.Clauses.{Gives, at};
 
-use crate::assumed::{Lasting, bound as read_bound, duration};
 use lq_grammar::Stop;
 use lq_grammar::Item;
 use crate::number::closing;
-use lq_grammar::role::Role;
+use lq_grammar::Role;
 use crate::run::run;
 use lq_grammar::scan::{expect, past, place};
 use lq_ast::Filter;
 use std::alloc::Global;
+use time_text::{DurationFault, Span, read_bound, read_duration};
 
 /// A bound inside brackets.
 #[tactic(auto, unfolding(lq_grammar::specs::LogsQL::bound))]
-fn bound<'t>(alloc: Global, tokens: &'t [Item]) -> Result<((i64, i64), &'t [Item]), Stop>
-    ensures { (depth : ℕ) → Gives (λ x. (x.0, x.1.now)) result (at depth bound tokens.now) }
+fn bound<'t>(alloc: Global, tokens: &'t [Item]) -> Result<(Span, &'t [Item]), Stop>
+    ensures { (depth : ℕ) → Gives (λ x. (ends_of x.0, x.1.now)) result (at depth bound tokens.now) }
 {
     let (text, rest) = run(alloc, tokens)?;
     match duration(text.as_str()) {
-        Lasting::NoDuration => {}
+        Err(DurationFault::NotADuration) => {}
         _ => return Err(Stop::BadDuration { at: place(tokens) }),
     }
-    match read_bound(text.as_str()) {
+    match bound_named(text.as_str()) {
         Some(span) => Ok((span, rest)),
         None => Err(Stop::BadTime { at: place(tokens) }),
     }
@@ -39,20 +41,34 @@ fn lone_run<'t>(alloc: Global, tokens: &'t [Item]) -> Result<(Filter, &'t [Item]
 {
     let (text, rest) = run(alloc, tokens)?;
     match duration(text.as_str()) {
-        Lasting::For(span) => return Ok((Filter::Last { span }, rest)),
-        Lasting::TooLong => return Err(Stop::BadDuration { at: place(tokens) }),
-        Lasting::NoDuration => {}
+        Ok(span) => return Ok((Filter::Last { span }, rest)),
+        Err(DurationFault::OutOfRange) => return Err(Stop::BadDuration { at: place(tokens) }),
+        Err(DurationFault::NotADuration) => {}
     }
-    match read_bound(text.as_str()) {
-        Some((from, to)) => Ok((
+    match bound_named(text.as_str()) {
+        Some(span) => Ok((
             Filter::Times {
-                from: from as i128,
-                to: to as i128,
+                from: span.from as i128,
+                to: span.to as i128,
             },
             rest,
         )),
         None => Err(Stop::BadTime { at: place(tokens) }),
     }
+}
+
+/// The nanoseconds that a text says as a duration.
+fn duration(text: &str) -> Result<i64, DurationFault>
+    ensures { result ≡ duration_of text.now }
+{
+    read_duration(text)
+}
+
+/// What a text names as a bound, if it is in range.
+fn bound_named(text: &str) -> Option<Span>
+    ensures { option_map ends_of result ≡ bound_of text.now }
+{
+    read_bound(text).ok()
 }
 
 /// The last moment of an interval, by its last bound and the bracket behind it.
@@ -98,23 +114,23 @@ pub(crate) fn time<'t>(alloc: Global, tokens: &'t [Item]) -> Result<(Filter, &'t
 }
 
 /// The first moment from a bound on, or behind it.
-fn start_of(included: bool, span: (i64, i64)) -> i128
-    ensures { result ≡ first_of included span }
+fn start_of(included: bool, span: Span) -> i128
+    ensures { result ≡ first_of included (ends_of span) }
 {
     if included {
-        span.0 as i128
+        span.from as i128
     } else {
-        span.1 as i128 + 1
+        span.to as i128 + 1
     }
 }
 
 /// The last moment up to a bound, or before it.
-fn stop_of(included: bool, span: (i64, i64)) -> i128
-    ensures { result ≡ last_of included span }
+fn stop_of(included: bool, span: Span) -> i128
+    ensures { result ≡ last_of included (ends_of span) }
 {
     if included {
-        span.1 as i128
+        span.to as i128
     } else {
-        span.0 as i128 - 1
+        span.from as i128 - 1
     }
 }
