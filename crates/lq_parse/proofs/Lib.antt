@@ -3,3 +3,5 @@ pub mod Behind
 pub mod Parts
 pub mod Turning
 pub mod Denied
+pub mod Stops
+pub mod Times
