@@ -124,6 +124,7 @@ by_bar text at (items, has, bar) = (
 )
 
 answered_so : (text : Bytes) (r : Outcome) → QueryOf text r → Answered text r
+unfolding QueryOf
 answered_so text (Ok c) h = by_items text (Ok c) h
 answered_so text (Err (Lex fault)) h = (Err fault, h, refl)
 answered_so text (Err (Syntax at)) h = by_items text (Err (Syntax at)) h
@@ -143,6 +144,7 @@ one_outcome text one other h k =
 -- of a text with tokens and without a mark `|`
 pub query_named : (text : Bytes) (items : Items) → HasItems text items → first_bar items ≡ None → (r : Outcome)
     → named text items (reading items) ≡ r → QueryOf text r
+unfolding QueryOf
 query_named text items has none (Ok c) e = (items, has, none, subst (OutcomeOf text items) e (named_outcome text items))
 query_named text items has none (Err (Lex fault)) e = absurd (subst (OutcomeOf text items) e (named_outcome text items))
 query_named text items has none (Err (Syntax at)) e =

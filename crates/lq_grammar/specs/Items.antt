@@ -66,7 +66,7 @@ role_of QuotedKind span text = quoted_role text
 role_of (Mark byte) span text = mark_role byte
 
 -- the token as the grammar sees it
-abbrev pub item_of : Piece → Token Bytes
+unfoldable pub item_of : Piece → Token Bytes
 item_of t = record {
   kind = number (role_of t.kind t.span (text_of t)) + (if t.glued then apart_by else 0);
   place = t.start;

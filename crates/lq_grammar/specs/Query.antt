@@ -83,7 +83,7 @@ OutcomeOf text items (Err (NotBuilt at)) = ⊥
 
 -- The text spells a query with this condition, or has this first fault. A text without tokens, and then one with a mark
 -- `|`, is refused before all others. No text has two outcomes, and each has one.
-abbrev pub QueryOf : Bytes → Result Condition QueryFault → Type 0
+unfoldable pub QueryOf : Bytes → Result Condition QueryFault → Type 0
 QueryOf text (Err (Lex fault)) = HasLexed text (Err fault)
 QueryOf text (Err (NotBuilt at)) = (items : List (Token Bytes)) × HasItems text items × (first_bar items ≡ Some at)
 QueryOf text outcome =

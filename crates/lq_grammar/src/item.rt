@@ -81,6 +81,7 @@ pub fn items(alloc: Global, tokens: &Tokens<'_>) -> Result<Vec<Item>, AllocError
     Ok(list)
 }
 
+#[tactic(auto, unfolding(crate::specs::Items::item_of))]
 fn classified(alloc: Global, token: &Token<'_>) -> Result<Item, AllocError>
     ensures { IfOk result (λ item. item ≡ item_of (seen token.now)) }
 {
@@ -103,7 +104,6 @@ fn is_any(role: Role, glued: bool, roles: &[Role]) -> bool
 }
 
 /// Whether it is one of these and glued.
-
 fn is_glued(role: Role, glued: bool, roles: &[Role]) -> bool
     ensures { result ≡ member (number_of role + (if glued then apart_by else 0)) (glued_of roles.now) }
 {

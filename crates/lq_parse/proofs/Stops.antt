@@ -1,5 +1,5 @@
 -- Where reading stops, as a fault with its place.
-use Rattle.std.proofs.Common.{◌≡◌, ◌≢◌, ℕ, ◌≤◌, ◌-◌, List, length, drop, Result, Ok, Err, sym, ap, ◌∙◌, subst, refl, arith}
+use Rattle.std.proofs.Common.{◌≡◌, ◌≢◌, ℕ, ◌≤◌, ◌-◌, List, length, drop, Option, Some, None, Result, Ok, Err, IfOk, sym, ap, ◌∙◌, subst, refl, arith}
 use Rattle.std.proofs.lemmas.List.{length-append}
 use Rattle.grammar.specs.Rule.{Token}
 use Rattle.grammar.specs.Spelling.{IsStuck, too_deep, refused}
@@ -11,10 +11,14 @@ use Rattle.lq_lex.specs.declared.fault.LexFault.{LexFault}
 use Rattle.lq_lex.specs.declared.fault.LexFault.TheVariants.{TooLong, OpenQuote, BadEscape, BadChar, Memory as LexMemory}
 use Rattle.lq_grammar.specs.declared.fault.Stop.{Stop as Halt}
 use Rattle.lq_grammar.specs.declared.fault.QueryFault.{QueryFault}
-use Rattle.lq_grammar.specs.declared.fault.QueryFault.TheVariants.{Lex, Syntax, Memory}
+use Rattle.lq_grammar.specs.declared.fault.QueryFault.TheVariants.{Lex, Syntax, TooDeep, BadNumber, BadTime, BadDuration}
+use Rattle.lq_grammar.specs.declared.fault.QueryFault.TheVariants.{Memory, NotBuilt}
+use Rattle.lq_ast.specs.View.{condition}
+use Rattle.lq_ast.specs.declared.query.Query.{Query}
+use Rattle.lq_parse.specs.Outcome.{NamesStop, outcome}
 use Rattle.lq_grammar.specs.Values.{Bytes, Reason}
 use Rattle.lq_grammar.specs.Clauses.{Fails, lex_fault}
-use Rattle.lq_grammar.specs.Query.{HasItems, first_bar, IsQuery, reading, OutcomeOf, QueryOf}
+use Rattle.lq_grammar.specs.Query.{HasItems, first_bar, IsQuery, IsQueryText, reading, OutcomeOf, QueryOf}
 use Rattle.lq_grammar.proofs.Answered.{answered_query}
 use Rattle.lq_grammar.proofs.Outcomes.{named, named_outcome, stop_place, one_outcome, query_named}
 
@@ -50,6 +54,7 @@ lex_failed fault = Err fault
 -- a text without tokens
 pub lex_found : (text : Bytes) (fault : LexFault) → (lex_failed fault ≢ lex_failed LexMemory → HasLexed text (Err fault))
     → failed (lex_fault fault) ≢ failed Memory → QueryOf text (Err (lex_fault fault))
+unfolding QueryOf
 lex_found text TooLong lexed some = lexed (λ e. cc)
 lex_found text (OpenQuote at) lexed some = lexed (λ e. cc)
 lex_found text (BadEscape at) lexed some = lexed (λ e. cc)
@@ -59,3 +64,60 @@ lex_found text LexMemory lexed some = absurd (some refl)
 -- where the reader stopped at this, reading does
 pub fails_so : (items : Items) (halt other : Halt) → halt ≡ other → Fails halt (reading items) → Fails other (reading items)
 fails_so items halt other e h = subst (λ (k : Halt). Fails k (reading items)) e h
+
+-- a text whose tokens were read to their end
+pub read_found : (text : Bytes) (items : Items) (c : Condition) → HasItems text items → first_bar items ≡ None
+    → reading items ≡ Ok c → QueryOf text (Ok c)
+unfolding QueryOf
+read_found text items c has none e =
+    query_named text items has none (Ok c) (ap (named text items) e)
+
+pub bar_found : (text : Bytes) (items : Items) (at : ℕ) → HasItems text items → first_bar items ≡ Some at
+    → QueryOf text (Err (NotBuilt at))
+unfolding QueryOf
+bar_found text items at has some = (items, has, some)
+
+pub stop_found : (text : Bytes) (items : Items) (fault : QueryFault) → HasItems text items → first_bar items ≡ None
+    → NamesStop text items fault → failed fault ≢ failed Memory → QueryOf text (Err fault)
+unfolding QueryOf
+stop_found text items (Lex fault) has none out some = absurd out
+stop_found text items (Syntax at) has none out some = (items, has, none, out)
+stop_found text items (TooDeep at) has none out some = (items, has, none, out)
+stop_found text items (BadNumber at) has none out some = (items, has, none, out)
+stop_found text items (BadTime at) has none out some = (items, has, none, out)
+stop_found text items (BadDuration at) has none out some = (items, has, none, out)
+stop_found text items Memory has none out some = absurd (some refl)
+stop_found text items (NotBuilt at) has none out some = absurd out
+
+-- what a query is that a text spells
+pub spelled_so : (text : Bytes) (c : Condition) → QueryOf text (Ok c) → IsQueryText text c
+unfolding QueryOf
+spelled_so text c (items, has, none, spelled) = record { items = items; has_items = has; spelled = spelled }
+
+abbrev no_memory : Result Query QueryFault
+no_memory = Err Memory
+
+pub spelled_when : (text : Bytes) (r : Result Query QueryFault) → (r ≢ no_memory → QueryOf text (outcome r))
+    → IfOk r (λ query. IsQueryText text (condition query.filter))
+spelled_when text (Ok query) found = spelled_so text (condition query.filter) (found (λ e. cc))
+spelled_when text (Err fault) found = tt
+
+pub only_when : (text : Bytes) (r : Result Query QueryFault) → (r ≢ no_memory → QueryOf text (outcome r))
+    → (other : Outcome) → QueryOf text other → r ≢ no_memory → outcome r ≡ other
+only_when text r found other h some = one_outcome text (outcome r) other (found some) h
+
+-- a text whose tokens were not found
+pub lex_when : (text : Bytes) (r : Result Query QueryFault) (fault : LexFault)
+    → (lex_failed fault ≢ lex_failed LexMemory → HasLexed text (Err fault))
+    → (e : QueryFault) × (r ≡ Err e) × (e ≡ lex_fault fault) → r ≢ no_memory → QueryOf text (outcome r)
+lex_when text r fault lexed (e, is, be) some =
+    subst (λ (q : Result Query QueryFault). QueryOf text (outcome q)) (sym (is ∙ ap Err be))
+    (lex_found text fault lexed (λ same. some (is ∙ ap Err (be ∙ err_is same))))
+  where
+    err_is : {a b : QueryFault} → failed a ≡ failed b → a ≡ b
+    err_is same = cc
+
+pub no_bar : (items : Items) (bar : Option ℕ) → bar ≡ first_bar items → ((at : ℕ) → bar ≡ Some at → ⊥)
+    → first_bar items ≡ None
+no_bar items None e none = sym e
+no_bar items (Some at) e none = absurd (none at refl)

@@ -1,12 +1,9 @@
 // Whole queries.
-ghost use Rattle.std.specs.Prelude.{◌≡◌, ◌≢◌, Result, Err, IfOk, None};
-ghost use Rattle.std.specs.Result.{result_map_both};
-ghost use Rattle.grammar.specs.Reading.{end_at, mapped};
+ghost use Rattle.std.specs.Prelude.{◌≡◌, ◌≢◌, Result, Err, IfOk};
 ghost use Rattle.lq_ast.specs.Condition.{Condition};
 ghost use Rattle.lq_ast.specs.View.{condition};
-ghost use Rattle.lq_grammar.specs.LogsQL.{query};
-ghost use Rattle.lq_grammar.specs.Query.{QueryOf, IsQueryText, reading, most_open};
-ghost use Rattle.lq_grammar.specs.Clauses.{Gives, at};
+ghost use Rattle.lq_grammar.specs.Query.{HasItems, QueryOf, IsQueryText, reading};
+ghost use Rattle.lq_grammar.specs.Clauses.{Gives};
 ghost use Rattle.lq_parse.specs.Outcome.{outcome, NamesStop};
 ghost use Rattle.lq_grammar.specs.declared.fault.QueryFault.{QueryFault};
 
@@ -31,12 +28,20 @@ pub fn parse(alloc: Global, s: &str) -> Result<Query, QueryFault>
 {
     let tokens = tokens(alloc, s)?;
     let items = items(alloc, &tokens)?;
-    if let Some(at) = first_bar(&items) {
+    query_of(alloc, &items, s)
+}
+
+/// The query that the tokens of a text spell.
+fn query_of(alloc: Global, tokens: &[Item], text: &str) -> Result<Query, QueryFault>
+    requires { HasItems text.now tokens.now }
+    ensures { result ≢ Err QueryFault.Memory → QueryOf text.now (outcome result) }
+{
+    if let Some(at) = first_bar(tokens) {
         return Err(QueryFault::NotBuilt { at });
     }
-    match whole(alloc, &items) {
+    match whole(alloc, tokens) {
         Ok(filter) => Ok(Query { filter }),
-        Err(stop) => Err(fault_of(stop, &items, s)),
+        Err(stop) => Err(fault_of(stop, tokens, text)),
     }
 }
 
@@ -54,7 +59,7 @@ fn whole(alloc: Global, tokens: &[Item]) -> Result<Filter, Stop>
 
 /// The fault that a reader of all tokens of a text came to, with its place.
 fn fault_of(stop: Stop, tokens: &[Item], text: &str) -> QueryFault
-    requires { Gives condition (Result.Err stop) (reading tokens.now) }
+    requires { Gives condition (Err stop) (reading tokens.now) }
     ensures { NamesStop text.now tokens.now result }
 {
     match stop {
