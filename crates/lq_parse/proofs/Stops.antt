@@ -2,7 +2,7 @@
 use Rattle.std.proofs.Common.{◌≡◌, ◌≢◌, ℕ, ◌≤◌, ◌-◌, List, length, drop, Option, Some, None, Result, Ok, Err, IfOk, sym, ap, ◌∙◌, subst, refl, arith}
 use Rattle.std.proofs.lemmas.List.{length-append}
 use Rattle.grammar.specs.Rule.{Token}
-use Rattle.grammar.specs.Spelling.{IsStuck, too_deep, refused}
+use Rattle.grammar.specs.Spelling.{IsStuck}
 use Rattle.grammar.specs.Reading.{Answers, Stop, stuck, flawed}
 use Rattle.lq_ast.specs.Condition.{Condition}
 use Rattle.lq_lex.specs.Token.{Token as Piece}
@@ -48,6 +48,9 @@ syntax_at text items left at e is =
 abbrev failed : QueryFault → Outcome
 failed fault = Err fault
 
+abbrev refused : QueryFault → Result Query QueryFault
+refused fault = Err fault
+
 abbrev lex_failed : LexFault → Result (List Piece) LexFault
 lex_failed fault = Err fault
 
@@ -78,7 +81,7 @@ unfolding QueryOf
 bar_found text items at has some = (items, has, some)
 
 pub stop_found : (text : Bytes) (items : Items) (fault : QueryFault) → HasItems text items → first_bar items ≡ None
-    → NamesStop text items fault → failed fault ≢ failed Memory → QueryOf text (Err fault)
+    → NamesStop text items fault → refused fault ≢ refused Memory → QueryOf text (Err fault)
 unfolding QueryOf
 stop_found text items (Lex fault) has none out some = absurd out
 stop_found text items (Syntax at) has none out some = (items, has, none, out)
@@ -94,22 +97,19 @@ pub spelled_so : (text : Bytes) (c : Condition) → QueryOf text (Ok c) → IsQu
 unfolding QueryOf
 spelled_so text c (items, has, none, spelled) = record { items = items; has_items = has; spelled = spelled }
 
-abbrev no_memory : Result Query QueryFault
-no_memory = Err Memory
-
-pub spelled_when : (text : Bytes) (r : Result Query QueryFault) → (r ≢ no_memory → QueryOf text (outcome r))
+pub spelled_when : (text : Bytes) (r : Result Query QueryFault) → (r ≢ refused Memory → QueryOf text (outcome r))
     → IfOk r (λ query. IsQueryText text (condition query.filter))
 spelled_when text (Ok query) found = spelled_so text (condition query.filter) (found (λ e. cc))
 spelled_when text (Err fault) found = tt
 
-pub only_when : (text : Bytes) (r : Result Query QueryFault) → (r ≢ no_memory → QueryOf text (outcome r))
-    → (other : Outcome) → QueryOf text other → r ≢ no_memory → outcome r ≡ other
+pub only_when : (text : Bytes) (r : Result Query QueryFault) → (r ≢ refused Memory → QueryOf text (outcome r))
+    → (other : Outcome) → QueryOf text other → r ≢ refused Memory → outcome r ≡ other
 only_when text r found other h some = one_outcome text (outcome r) other (found some) h
 
 -- a text whose tokens were not found
 pub lex_when : (text : Bytes) (r : Result Query QueryFault) (fault : LexFault)
     → (lex_failed fault ≢ lex_failed LexMemory → HasLexed text (Err fault))
-    → (e : QueryFault) × (r ≡ Err e) × (e ≡ lex_fault fault) → r ≢ no_memory → QueryOf text (outcome r)
+    → (e : QueryFault) × (r ≡ Err e) × (e ≡ lex_fault fault) → r ≢ refused Memory → QueryOf text (outcome r)
 lex_when text r fault lexed (e, is, be) some =
     subst (λ (q : Result Query QueryFault). QueryOf text (outcome q)) (sym (is ∙ ap Err be))
     (lex_found text fault lexed (λ same. some (is ∙ ap Err (be ∙ err_is same))))

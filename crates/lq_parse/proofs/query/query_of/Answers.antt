@@ -14,4 +14,4 @@ returns-in-Ok c some =
 pub returns-in-Err : goal.returns-in-Err
 returns-in-Err c some =
     stop_found c.args.text.now c.args.tokens.now c.fault_of.result c.requires
-    (no_bar c.args.tokens.now c.first_bar.result c.first_bar.ensures c.in_default.not-Some) c.fault_of.ensures ?
+    (no_bar c.args.tokens.now c.first_bar.result c.first_bar.ensures c.in_default.not-Some) c.fault_of.ensures some
