@@ -1,0 +1,7 @@
+pub mod Numbers
+pub mod Codes
+pub mod Listing
+pub mod Passing
+pub mod Answered
+pub mod Moments
+pub mod Outcomes

@@ -1,0 +1,12 @@
+use Rattle.lq_grammar.proofs.Moments.{duration_says, bound_says}
+use Rattle.lq_grammar.proofs.Outcomes.{one_outcome}
+use Rattle.lq_grammar.proofs.query_law.Goals as goal
+
+pub returns-clause-durations : goal.returns-clause-durations
+returns-clause-durations c = duration_says
+
+pub returns-clause-bounds : goal.returns-clause-bounds
+returns-clause-bounds c = bound_says
+
+pub returns-clause-one : goal.returns-clause-one
+returns-clause-one c = one_outcome

@@ -1,0 +1,74 @@
+-- What each token of a text is to the grammar.
+use Rattle.std.specs.Prelude.{ℕ, ◌+◌, ◌==◌, Bool, bytes_eq, codes, if◌then◌else◌}
+use Rattle.std.specs.Str.{str_to_ascii_lowercase}
+use Rattle.grammar.specs.Rule.{Token}
+use Rattle.lq_lex.specs.Token.{Token as Piece}
+use Rattle.lq_lex.specs.Texts.{text_of}
+use Rattle.lq_lex.specs.declared.token.Kind.{Kind}
+use Rattle.lq_lex.specs.declared.token.Kind.TheVariants.{Bare as BareKind, Quoted as QuotedKind, Mark}
+use Rattle.lq_grammar.specs.declared.role.Role.{Role}
+use Rattle.lq_grammar.specs.declared.role.Role.TheVariants.{And, Or, Not, In, I, Seq, LenRange, StringRange, Range, Time, Stream, Bare, QuotedTime, Quoted, Bar, Open, Close, SquareOpen, SquareClose, CurlyOpen, CurlyClose, Comma, Colon, Equals, Bang, Tilde, Star, Less, Greater, Minus, Plus}
+use Rattle.lq_grammar.specs.Roles.{number, apart_by}
+use Rattle.lq_grammar.specs.Values.{Bytes}
+
+-- the text in any case of its ASCII letters
+abbrev pub is_keyword : Bytes → Bytes → Bool
+is_keyword span keyword = bytes_eq (str_to_ascii_lowercase span) keyword
+
+abbrev pub call_role : Bytes → Role
+call_role span =
+    if is_keyword span (codes "in") then In
+    else (if is_keyword span (codes "i") then I
+    else (if is_keyword span (codes "seq") then Seq
+    else (if is_keyword span (codes "len_range") then LenRange
+    else (if is_keyword span (codes "string_range") then StringRange
+    else (if is_keyword span (codes "range") then Range else Bare)))))
+
+abbrev pub word_role : Bytes → Role
+word_role span =
+    if bytes_eq span (codes "_time") then Time
+    else (if bytes_eq span (codes "_stream") then Stream
+    else (if is_keyword span (codes "and") then And
+    else (if is_keyword span (codes "or") then Or
+    else (if is_keyword span (codes "not") then Not else call_role span))))
+
+abbrev pub quoted_role : Bytes → Role
+quoted_role text = if bytes_eq text (codes "_time") then QuotedTime else Quoted
+
+-- the brackets and the bar
+abbrev pub bracket_role : ℕ → Role
+bracket_role byte =
+    if byte == 40 then Open
+    else (if byte == 41 then Close
+    else (if byte == 91 then SquareOpen
+    else (if byte == 93 then SquareClose
+    else (if byte == 123 then CurlyOpen
+    else (if byte == 125 then CurlyClose else Bar)))))
+
+-- = ! ~ * < > - +, and else a bracket or the bar
+abbrev pub sign_role : ℕ → Role
+sign_role byte =
+    if byte == 61 then Equals
+    else (if byte == 33 then Bang
+    else (if byte == 126 then Tilde
+    else (if byte == 42 then Star
+    else (if byte == 60 then Less
+    else (if byte == 62 then Greater
+    else (if byte == 45 then Minus
+    else (if byte == 43 then Plus else bracket_role byte)))))))
+
+abbrev pub mark_role : ℕ → Role
+mark_role byte = if byte == 44 then Comma else (if byte == 58 then Colon else sign_role byte)
+
+abbrev pub role_of : Kind → Bytes → Bytes → Role
+role_of BareKind span text = word_role span
+role_of QuotedKind span text = quoted_role text
+role_of (Mark byte) span text = mark_role byte
+
+-- the token as the grammar sees it
+unfoldable pub item_of : Piece → Token Bytes
+item_of t = record {
+  kind = number (role_of t.kind t.span (text_of t)) + (if t.glued then apart_by else 0);
+  place = t.start;
+  content = text_of t;
+}

@@ -1,0 +1,31 @@
+//! The grammar of LogsQL (LogsQL, "Query syntax"): what each token of a text is to it, and why a text is no query.
+//!
+//! The rules themselves are data, in `specs/LogsQL.antt`: a rule for each line of the grammar, with the value of what it
+//! spells. What a text is by them stands in `specs/Query.antt`. Readers are built of the steps of `scan`.
+#![tactic(auto)]
+
+ghost use Rattle.std.specs.Prelude.{◌≡◌, ℕ, List, Result};
+ghost use Rattle.lq_ast.specs.Condition.{Condition};
+ghost use Rattle.lq_grammar.specs.Moments.{SaysDuration, SaysBound, duration_of, bound_of};
+ghost use Rattle.lq_grammar.specs.Query.{QueryOf};
+ghost use Rattle.lq_grammar.specs.declared.fault.QueryFault.{QueryFault};
+
+mod classify;
+mod fault;
+mod item;
+mod role;
+pub mod scan;
+
+pub use fault::{QueryFault, Stop};
+pub use item::{Item, items};
+pub use role::{BARES, NEGATIONS, QUOTED, RUN_PARTS, Role, TEXTS, UNARY, WORDS};
+
+/// What the definitions of the grammar promise. This does nothing: its contract is the laws.
+pub fn query_law()
+    // A run is read as the duration or the bound that its text spells.
+    ensures durations { (text : List ℕ) → SaysDuration text (duration_of text) }
+    ensures bounds { (text : List ℕ) → SaysBound text (bound_of text) }
+    // A text has one outcome at most.
+    ensures one { (text : List ℕ) (one other : Result Condition QueryFault) → QueryOf text one → QueryOf text other
+        → one ≡ other }
+{}

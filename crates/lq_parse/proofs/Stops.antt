@@ -1,0 +1,123 @@
+-- Where reading stops, as a fault with its place.
+use Rattle.std.proofs.Common.{◌≡◌, ◌≢◌, ℕ, ◌≤◌, ◌-◌, List, length, drop, Option, Some, None, Result, Ok, Err, IfOk, sym, ap, ◌∙◌, subst, refl, arith}
+use Rattle.std.proofs.lemmas.List.{length-append}
+use Rattle.grammar.specs.Rule.{Token}
+use Rattle.grammar.specs.Spelling.{IsStuck}
+use Rattle.grammar.specs.Reading.{Answers, Stop, stuck, flawed}
+use Rattle.lq_ast.specs.Condition.{Condition}
+use Rattle.lq_lex.specs.Token.{Token as Piece}
+use Rattle.lq_lex.specs.Lexing.{HasLexed}
+use Rattle.lq_lex.specs.declared.fault.LexFault.{LexFault}
+use Rattle.lq_lex.specs.declared.fault.LexFault.TheVariants.{TooLong, OpenQuote, BadEscape, BadChar, Memory as LexMemory}
+use Rattle.lq_grammar.specs.declared.fault.Stop.{Stop as Halt}
+use Rattle.lq_grammar.specs.declared.fault.QueryFault.{QueryFault}
+use Rattle.lq_grammar.specs.declared.fault.QueryFault.TheVariants.{Lex, Syntax, TooDeep, BadNumber, BadTime, BadDuration}
+use Rattle.lq_grammar.specs.declared.fault.QueryFault.TheVariants.{Memory, NotBuilt}
+use Rattle.lq_ast.specs.View.{condition}
+use Rattle.lq_ast.specs.declared.query.Query.{Query}
+use Rattle.lq_parse.specs.Outcome.{NamesStop, outcome}
+use Rattle.lq_grammar.specs.Values.{Bytes, Reason}
+use Rattle.lq_grammar.specs.Clauses.{Fails, lex_fault}
+use Rattle.lq_grammar.specs.Query.{HasItems, first_bar, IsQuery, IsQueryText, reading, OutcomeOf, QueryOf}
+use Rattle.lq_grammar.proofs.Answered.{answered_query}
+use Rattle.lq_grammar.proofs.Outcomes.{named, named_outcome, stop_place, one_outcome, query_named}
+
+abbrev Items : Type 0
+Items = List (Token Bytes)
+
+abbrev Outcome : Type 0
+Outcome = Result Condition QueryFault
+
+-- the outcome where reading comes to this
+pub outcome_when : (text : Bytes) (items : Items) (r : Result Condition (Stop Reason)) → reading items ≡ r
+    → OutcomeOf text items (named text items r)
+outcome_when text items r e =
+    subst (λ (q : Result Condition (Stop Reason)). OutcomeOf text items (named text items q)) e (named_outcome text items)
+
+pub few_left : (items : Items) (left : ℕ) → reading items ≡ Err (stuck left) → left ≤ length items
+few_left items left e = by_answer (subst (Answers IsQuery items) e (answered_query items))
+  where
+    by_answer : IsStuck IsQuery items left → left ≤ length items
+    by_answer s = omega (arith, s.left_is, ap length s.parts, length-append s.before s.rest)
+
+pub syntax_at : (text : Bytes) (items : Items) (left at : ℕ) → reading items ≡ Err (stuck left)
+    → at ≡ stop_place text items left → OutcomeOf text items (Err (Syntax at))
+syntax_at text items left at e is =
+    subst (λ (n : ℕ). OutcomeOf text items (Err (Syntax n))) (sym is) (outcome_when text items (Err (stuck left)) e)
+
+abbrev failed : QueryFault → Outcome
+failed fault = Err fault
+
+abbrev refused : QueryFault → Result Query QueryFault
+refused fault = Err fault
+
+abbrev lex_failed : LexFault → Result (List Piece) LexFault
+lex_failed fault = Err fault
+
+-- a text without tokens
+pub lex_found : (text : Bytes) (fault : LexFault) → (lex_failed fault ≢ lex_failed LexMemory → HasLexed text (Err fault))
+    → failed (lex_fault fault) ≢ failed Memory → QueryOf text (Err (lex_fault fault))
+unfolding QueryOf
+lex_found text TooLong lexed some = lexed (λ e. cc)
+lex_found text (OpenQuote at) lexed some = lexed (λ e. cc)
+lex_found text (BadEscape at) lexed some = lexed (λ e. cc)
+lex_found text (BadChar at) lexed some = lexed (λ e. cc)
+lex_found text LexMemory lexed some = absurd (some refl)
+
+-- where the reader stopped at this, reading does
+pub fails_so : (items : Items) (halt other : Halt) → halt ≡ other → Fails halt (reading items) → Fails other (reading items)
+fails_so items halt other e h = subst (λ (k : Halt). Fails k (reading items)) e h
+
+-- a text whose tokens were read to their end
+pub read_found : (text : Bytes) (items : Items) (c : Condition) → HasItems text items → first_bar items ≡ None
+    → reading items ≡ Ok c → QueryOf text (Ok c)
+unfolding QueryOf
+read_found text items c has none e =
+    query_named text items has none (Ok c) (ap (named text items) e)
+
+pub bar_found : (text : Bytes) (items : Items) (at : ℕ) → HasItems text items → first_bar items ≡ Some at
+    → QueryOf text (Err (NotBuilt at))
+unfolding QueryOf
+bar_found text items at has some = (items, has, some)
+
+pub stop_found : (text : Bytes) (items : Items) (fault : QueryFault) → HasItems text items → first_bar items ≡ None
+    → NamesStop text items fault → refused fault ≢ refused Memory → QueryOf text (Err fault)
+unfolding QueryOf
+stop_found text items (Lex fault) has none out some = absurd out
+stop_found text items (Syntax at) has none out some = (items, has, none, out)
+stop_found text items (TooDeep at) has none out some = (items, has, none, out)
+stop_found text items (BadNumber at) has none out some = (items, has, none, out)
+stop_found text items (BadTime at) has none out some = (items, has, none, out)
+stop_found text items (BadDuration at) has none out some = (items, has, none, out)
+stop_found text items Memory has none out some = absurd (some refl)
+stop_found text items (NotBuilt at) has none out some = absurd out
+
+-- what a query is that a text spells
+pub spelled_so : (text : Bytes) (c : Condition) → QueryOf text (Ok c) → IsQueryText text c
+unfolding QueryOf
+spelled_so text c (items, has, none, spelled) = record { items = items; has_items = has; spelled = spelled }
+
+pub spelled_when : (text : Bytes) (r : Result Query QueryFault) → (r ≢ refused Memory → QueryOf text (outcome r))
+    → IfOk r (λ query. IsQueryText text (condition query.filter))
+spelled_when text (Ok query) found = spelled_so text (condition query.filter) (found (λ e. cc))
+spelled_when text (Err fault) found = tt
+
+pub only_when : (text : Bytes) (r : Result Query QueryFault) → (r ≢ refused Memory → QueryOf text (outcome r))
+    → (other : Outcome) → QueryOf text other → r ≢ refused Memory → outcome r ≡ other
+only_when text r found other h some = one_outcome text (outcome r) other (found some) h
+
+-- a text whose tokens were not found
+pub lex_when : (text : Bytes) (r : Result Query QueryFault) (fault : LexFault)
+    → (lex_failed fault ≢ lex_failed LexMemory → HasLexed text (Err fault))
+    → (e : QueryFault) × (r ≡ Err e) × (e ≡ lex_fault fault) → r ≢ refused Memory → QueryOf text (outcome r)
+lex_when text r fault lexed (e, is, be) some =
+    subst (λ (q : Result Query QueryFault). QueryOf text (outcome q)) (sym (is ∙ ap Err be))
+    (lex_found text fault lexed (λ same. some (is ∙ ap Err (be ∙ err_is same))))
+  where
+    err_is : {a b : QueryFault} → failed a ≡ failed b → a ≡ b
+    err_is same = cc
+
+pub no_bar : (items : Items) (bar : Option ℕ) → bar ≡ first_bar items → ((at : ℕ) → bar ≡ Some at → ⊥)
+    → first_bar items ≡ None
+no_bar items None e none = sym e
+no_bar items (Some at) e none = absurd (none at refl)
