@@ -83,9 +83,14 @@ status=$?; fields
 wants $'{"_msg":"payment error: card declined","_time":"2026-11-27T08:14:03.002Z","error.code":"card_declined","error.retryable":"false","level":"error","order.customer.id":"c-1042","order.customer.tier":"gold","order.id":"81","order.total":"49.90","trace.id":"4bf92f3577b34da6a3ce929d0e0e4736","trace.sampled":"true"}\n' $'line 5: BadTime\n'
 judge "the nested log of an application" $status 0
 
-"$program" pipe 'a b' < "$work/three" > "$work/out" 2> "$work/err"
-status=$?; wants "" $'query: NotBuilt\n'
-judge "two words in one query" $status 1
+"$program" pipe 'a b)' < "$work/three" > "$work/out" 2> "$work/err"
+status=$?; wants "" $'query: Syntax at 3\n'
+judge "a parenthesis too many" $status 1
+
+"$program" pipe 'fine or error' < "$work/three" > "$work/out" 2> "$work/err"
+status=$?; without_time "$work/out"; fields
+wants $'{"_msg":"an error: x","_time":"NOW"}\n{"_msg":"all fine","_time":"NOW"}\n' ""
+judge "one of two words" $status 0
 
 "$program" < "$work/three" > "$work/out" 2> "$work/err"
 status=$?; wants "" "$usage"

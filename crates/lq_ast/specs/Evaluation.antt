@@ -15,8 +15,13 @@ pub data Outcome : Type 0 where
 abbrev pub row_limit : ℕ
 row_limit = 2 ^ 32
 
--- the records of the rows for which the condition holds at the moment `now`, in their order
+-- the rows for which the condition holds at the moment `now`, in their order
+abbrev pub rows_that_hold : Condition → ℤ → List Row → List Row
+rows_that_hold condition now rows = filter (λ row. holds now condition row) rows
+
+abbrev pub outcome_of : List Row → Outcome
+outcome_of rows = if nat_lt (length rows) row_limit then records (map record_of rows) else many_rows
+
+-- the records of the rows that hold, if they are not too many
 abbrev pub evaluate : Condition → ℤ → List Row → Outcome
-evaluate condition now rows =
-    let held = filter (λ row. holds now condition row) rows in
-    if nat_lt (length held) row_limit then records (map record_of held) else many_rows
+evaluate condition now rows = outcome_of (rows_that_hold condition now rows)

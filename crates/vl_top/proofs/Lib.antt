@@ -5,6 +5,7 @@ pub mod LineLemmas
 pub mod LoadLemmas
 pub mod PipeLemmas
 pub mod ReportLemmas
+pub mod RunLemmas
 pub mod RefusalLemmas
 pub mod RefusedLemmas
 pub mod WeightLemmas

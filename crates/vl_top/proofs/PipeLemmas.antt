@@ -1,82 +1,33 @@
 -- From the input to the answer.
-use Rattle.std.proofs.Common.{◌<◌, ◌≡◌, inl, inr, ℕ, ◌≤◌, List, [], ◌++◌, flat_map, take, Option, All, refl, sym, ap, subst, ◌∙◌, arith}
+use Rattle.std.proofs.Common.{◌<◌, ◌≡◌, inl, inr, ℕ, pos, length, map, true, false, ◌≤◌, List, [], ◌++◌, flat_map, take, Option, All, refl, sym, ap, subst, ◌∙◌, arith}
 use Rattle.vl_io.specs.Bytes.{Appends}
 use Rattle.vl_io.specs.Change.{Change, Gave, IsCut, IsTold, IsUntold, Took}
 use Rattle.vl_io.specs.Lines.{is_feed}
 use Rattle.std.specs.Prelude.{count_by}
+use Rattle.std.proofs.lemmas.Bool.{le-ltb, lt-ltb}
 use Rattle.vl_io.proofs.Laws.{Appends-trans, Rose-earlier}
 use Rattle.log_model.specs.Core.{Contents, parts_of}
-use Rattle.log_model.specs.History.{AreInOrder, Numbered, rows_in}
-use Rattle.log_model.specs.Print.{lines_text}
-use Rattle.log_model.specs.Query.{Query, evaluation}
+use Rattle.log_model.specs.History.{AreInOrder, Numbered, rows_in, rows_of}
+use Rattle.log_model.specs.Row.{Row, record_of}
+use Rattle.lq_ast.specs.Condition.{Condition}
+use Rattle.lq_ast.specs.Evaluation.{Outcome, evaluate, many_rows, outcome_of, records, row_limit, rows_that_hold}
+use Rattle.vl_top.specs.Answer.{FailsFor, held_in, lines_of}
+use Rattle.vl_top.specs.declared.answer.AnswerFault.{AnswerFault}
+use Rattle.vl_top.specs.declared.answer.AnswerFault.TheVariants as answers
 use Rattle.vl_top.specs.Groups.{batches_of, refusals_of}
 use Rattle.vl_top.specs.Program as model
-use Rattle.vl_top.specs.Program.{AreFew, IsAnswer, stop_text}
+use Rattle.vl_top.specs.Program.{AreFew, IsAnswer, IsTakenIn, refused_text, stop_text, too_many_rows}
 use Rattle.vl_top.specs.Load.{IsLoaded, StopsLoad, StopsUntold}
-use Rattle.vl_top.specs.Interrupt.{limit_of}
+use Rattle.vl_top.specs.Interrupt.{interrupt_of, limit_of}
 use Rattle.vl_top.specs.Pipe.{EndsPipe, ReportsInterrupt, StopsPipe}
 use Rattle.vl_top.specs.Run.{IsAnswerCut, IsAnswered, IsStopped}
 use Rattle.vl_top.specs.declared.status.Status.{Status}
 use Rattle.vl_top.specs.declared.status.Status.TheVariants as statuses
 use Rattle.vl_top.specs.declared.interrupt.Interrupt.{Interrupt}
-use Rattle.vl_top.specs.declared.interrupt.Interrupt.TheVariants.{Unreadable, Unwritable, Beyond, NoMemory}
+use Rattle.vl_top.specs.declared.interrupt.Interrupt.TheVariants.{Unreadable, Unwritable, Beyond, ManyRows, NoMemory}
 use Rattle.vl_top.proofs.GroupLemmas.{append_nil, AreGroups-weaken}
 use Rattle.vl_top.proofs.HeldLemmas.{held_rows}
 use Rattle.vl_top.proofs.LoadLemmas.{change}
-
-module _ (query : Query) (now : ℕ) (source output errors : Change) (shelf snapshot : Contents (List Numbered))
-    (text : List ℕ) where
-  answer : (l : IsLoaded now source errors shelf) → snapshot ≡ shelf → text ≡ lines_text
-      (evaluation query (flat_map rows_in (parts_of snapshot)))
-      → All AreInOrder (parts_of snapshot) → IsAnswer query now l.begins.taken text (refusals_of l.groups)
-  answer l same is ordered = record {
-    within = l.begins.within;
-    groups = l.groups;
-    intake = l.begins.given;
-    grouped = AreGroups-weaken l.groups _ (Unit {0}) (λ _. tt) l.begins.grouped;
-    held = l.fits;
-    history = l.holding.history;
-    entered = l.holding.entered;
-    answered = is ∙ ap
-        (λ (s : Contents (List Numbered)). lines_text (evaluation query (flat_map rows_in (parts_of s)))) same
-        ∙ ap (λ rows. lines_text (evaluation query rows))
-        (held_rows shelf (batches_of l.groups) l.holding
-        (subst (λ (s : Contents (List Numbered)). All AreInOrder (parts_of s)) same ordered));
-    named = refl;
-  }
-
-  gave_all : (l : IsLoaded now source errors shelf) → Gave source l.begins.taken
-  gave_all l =
-      subst (Gave source) (append_nil l.begins.taken)
-      (subst (λ rest. Gave source (l.begins.taken ++ rest)) l.all l.begins.gave)
-
-  pub answered : IsLoaded now source errors shelf → snapshot ≡ shelf → text ≡ lines_text
-      (evaluation query (flat_map rows_in (parts_of snapshot)))
-      → All AreInOrder (parts_of snapshot) → Took output text → IsAnswered query now source output errors
-  answered l same is ordered written = record {
-    input = l.begins.taken;
-    answer = text;
-    refusals = refusals_of l.groups;
-    gave = gave_all l;
-    spent = l.spent;
-    answered = answer l same is ordered;
-    written = written;
-    named = l.named;
-  }
-
-  pub answer_cut : IsLoaded now source errors shelf → snapshot ≡ shelf → text ≡ lines_text
-      (evaluation query (flat_map rows_in (parts_of snapshot)))
-      → All AreInOrder (parts_of snapshot) → IsCut output [] text → IsAnswerCut query now source output errors
-  answer_cut l same is ordered cut = record {
-    input = l.begins.taken;
-    answer = text;
-    refusals = refusals_of l.groups;
-    gave = gave_all l;
-    spent = l.spent;
-    answered = answer l same is ordered;
-    written = cut;
-    named = l.named;
-  }
 
 -- memory ran out after the input was loaded
 pub stops_loaded : (now : ℕ) (source errors : Change) (shelf : Contents (List Numbered))
@@ -92,6 +43,103 @@ stops_loaded now source errors shelf l = record {
   };
   named = l.named;
 }
+
+-- few rows have an answer, and too many have none
+few_rows : (rows : List Row) → length rows < row_limit → outcome_of rows ≡ records (map record_of rows)
+few_rows rows few = rw (lt-ltb (length rows) row_limit few) refl
+
+too_many : (rows : List Row) → row_limit ≤ length rows → outcome_of rows ≡ many_rows
+too_many rows many = rw (le-ltb (length rows) row_limit many) refl
+
+module _ (query : Condition) (now : ℕ) (source output errors : Change) (shelf snapshot : Contents (List Numbered)) where
+  -- what the input becomes
+  taken : (l : IsLoaded now source errors shelf)
+      → IsTakenIn now l.begins.taken (refusals_of l.groups) l.holding.history
+  taken l = record {
+    within = l.begins.within;
+    groups = l.groups;
+    intake = l.begins.given;
+    grouped = AreGroups-weaken l.groups _ (Unit {0}) (λ _. tt) l.begins.grouped;
+    held = l.fits;
+    entered = l.holding.entered;
+    named = refl;
+  }
+
+  gave_all : (l : IsLoaded now source errors shelf) → Gave source l.begins.taken
+  gave_all l =
+      subst (Gave source) (append_nil l.begins.taken)
+      (subst (λ rest. Gave source (l.begins.taken ++ rest)) l.all l.begins.gave)
+
+  module _ (l : IsLoaded now source errors shelf) (same : snapshot ≡ shelf)
+      (ordered : All AreInOrder (parts_of snapshot)) where
+    -- the rows that were looked at are those of the history
+    all_rows : flat_map rows_in (parts_of snapshot) ≡ rows_of l.holding.history
+    all_rows =
+        ap (λ (s : Contents (List Numbered)). flat_map rows_in (parts_of s)) same
+        ∙ held_rows shelf (batches_of l.groups) l.holding
+        (subst (λ (s : Contents (List Numbered)). All AreInOrder (parts_of s)) same ordered)
+
+    evaluated : outcome_of (held_in query (pos now) (parts_of snapshot))
+        ≡ evaluate query (pos now) (rows_of l.holding.history)
+    evaluated = ap (λ rows. outcome_of (rows_that_hold query (pos now) rows)) all_rows
+
+    answer : (text : List ℕ) → length (held_in query (pos now) (parts_of snapshot)) < row_limit
+        → text ≡ lines_of (held_in query (pos now) (parts_of snapshot))
+        → IsAnswer query now l.begins.taken text (refusals_of l.groups)
+    answer text few is = record {
+      history = l.holding.history;
+      taken = taken l;
+      found = map record_of (held_in query (pos now) (parts_of snapshot));
+      evaluated = sym evaluated ∙ few_rows (held_in query (pos now) (parts_of snapshot)) few;
+      answered = is;
+    }
+
+    pub answered : (text : List ℕ) → length (held_in query (pos now) (parts_of snapshot)) < row_limit
+        → text ≡ lines_of (held_in query (pos now) (parts_of snapshot)) → Took output text
+        → IsAnswered query now source output errors
+    answered text few is written = record {
+      input = l.begins.taken;
+      answer = text;
+      refusals = refusals_of l.groups;
+      gave = gave_all l;
+      spent = l.spent;
+      answered = answer text few is;
+      written = written;
+      named = l.named;
+    }
+
+    pub answer_cut : (text : List ℕ) → length (held_in query (pos now) (parts_of snapshot)) < row_limit
+        → text ≡ lines_of (held_in query (pos now) (parts_of snapshot)) → IsCut output [] text
+        → IsAnswerCut query now source output errors
+    answer_cut text few is cut = record {
+      input = l.begins.taken;
+      answer = text;
+      refusals = refusals_of l.groups;
+      gave = gave_all l;
+      spent = l.spent;
+      answered = answer text few is;
+      written = cut;
+      named = l.named;
+    }
+
+    -- why there is no answer
+    pub unanswered : (fault : AnswerFault) → FailsFor 0 (held_in query (pos now) (parts_of snapshot)) fault
+        → StopsPipe query now source output errors (interrupt_of fault)
+    unanswered answers.ManyRows h =
+      let many : row_limit ≤ length (held_in query (pos now) (parts_of snapshot)) = omega (arith, h) in
+      record {
+      input = l.begins.taken;
+      refusals = refusals_of l.groups;
+      gave = gave_all l;
+      spent = l.spent;
+      overflows = record {
+        history = l.holding.history;
+        taken = taken l;
+        evaluated = sym evaluated ∙ too_many (held_in query (pos now) (parts_of snapshot)) many;
+      };
+      named = l.named;
+    }
+    unanswered answers.Memory h = stops_loaded now source errors shelf l
 
 module _ (now : ℕ) (source : Change) (err0 err1 err2 : Option (List ℕ)) (f0 f1 f2 : ℕ) where
   -- what is said after the names
@@ -126,7 +174,7 @@ module _ (now : ℕ) (source : Change) (err0 err1 err2 : Option (List ℕ)) (f0 
   }
 
   -- what an interrupt is, once it is said
-  pub reported : (query : Query) (output : Change) (interrupt : Interrupt) (status : Status) → f0 ≤ f1
+  pub reported : (query : Condition) (output : Change) (interrupt : Interrupt) (status : Status) → f0 ≤ f1
       → StopsPipe query now source output (change err0 err1 f0 f1) interrupt → ReportsInterrupt
       (change err1 err2 f1 f2) interrupt status
       → EndsPipe query now source output (change err0 err2 f0 f2) status
@@ -142,5 +190,15 @@ module _ (now : ℕ) (source : Change) (err0 err1 err2 : Option (List ℕ)) (f0 
   reported query output (Beyond limit) status stays h (inr r) =
       subst (EndsPipe query now source output (change err0 err2 f0 f2)) (sym r.0)
       (stopped model.no_memory stays (without_memory (model.beyond (limit_of limit)) h) r.1)
+  reported query output ManyRows status stays h r =
+      subst (EndsPipe query now source output (change err0 err2 f0 f2)) (sym r.0)
+      (record {
+        input = h.input;
+        refusals = h.refusals;
+        gave = h.gave;
+        spent = h.spent;
+        overflows = h.overflows;
+        said = told_after h.refusals (refused_text too_many_rows) stays h.named r.1;
+      })
   reported query output NoMemory status stays h r =
       subst (EndsPipe query now source output (change err0 err2 f0 f2)) (sym r.0) (stopped model.no_memory stays h r.1)

@@ -38,7 +38,7 @@ names_from before number (refused kind ∷ os) =
     ap (λ text. refusal_text (before + number) kind ++ text)
     (names_from before (suc number) os ∙ ap (λ n. refusals_from n os) (omega arith))
 
-same_moment : (now : ℤ) → pos 0 ≤ℤ now → now ≡ pos (unsigned_abs now)
+pub same_moment : (now : ℤ) → pos 0 ≤ℤ now → now ≡ pos (unsigned_abs now)
 same_moment (pos n) low = refl
 same_moment (negsuc n) low = absurd (omega (arith, ints))
 

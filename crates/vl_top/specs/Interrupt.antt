@@ -2,10 +2,12 @@
 use Rattle.vl_top.specs.Program as model
 use Rattle.vl_io.specs.declared.transfer.ReadFault.{ReadFault}
 use Rattle.vl_io.specs.declared.transfer.ReadFault.TheVariants as faults
+use Rattle.vl_top.specs.declared.answer.AnswerFault.{AnswerFault}
+use Rattle.vl_top.specs.declared.answer.AnswerFault.TheVariants as answers
 use Rattle.vl_top.specs.declared.interrupt.Limit.{Limit}
 use Rattle.vl_top.specs.declared.interrupt.Limit.TheVariants.{Long, Large, Full}
 use Rattle.vl_top.specs.declared.interrupt.Interrupt.{Interrupt}
-use Rattle.vl_top.specs.declared.interrupt.Interrupt.TheVariants.{Unreadable, Beyond, NoMemory}
+use Rattle.vl_top.specs.declared.interrupt.Interrupt.TheVariants.{Unreadable, Beyond, ManyRows, NoMemory}
 
 abbrev pub limit_of : Limit → model.Limit
 limit_of Long = model.long
@@ -17,3 +19,8 @@ abbrev pub interrupt_at : ReadFault → Interrupt
 interrupt_at faults.Failed = Unreadable
 interrupt_at faults.Long = Beyond Long
 interrupt_at faults.Memory = NoMemory
+
+-- why there is no answer
+abbrev pub interrupt_of : AnswerFault → Interrupt
+interrupt_of answers.ManyRows = ManyRows
+interrupt_of answers.Memory = NoMemory

@@ -1,8 +1,9 @@
+pub mod Answer
 pub mod Groups
 pub mod Interrupt
 pub mod Load
 pub mod Pipe
 pub mod Program
-pub mod Query
+pub mod Refused
 pub mod Run
 pub mod Status

@@ -1,13 +1,20 @@
 -- What the program is to do: its words, the texts that it writes, and the answer to an input.
-use Rattle.std.specs.Prelude.{◌≡◌, ℕ, ◌-◌, ◌⊎◌, ◌<◌, ◌≤◌, List, [], ◌∷◌, ◌++◌, length, take, count_by, bytes_eq, codes}
-use Rattle.std.specs.Prelude.{decimal, Option, Some, None, if◌then◌else◌}
+use Rattle.std.specs.Prelude.{◌≡◌, ℕ, ◌-◌, ◌⊎◌, ◌<◌, ◌≤◌, List, [], ◌∷◌, ◌++◌, length, take, bytes_eq, codes, pos}
+use Rattle.std.specs.Prelude.{decimal, slice_get, Option, Some, None, Err, Ok, IsSomeAnd, if◌then◌else◌}
+use Rattle.std.specs.List.{AllByRecursion}
 use Rattle.vl_io.specs.Change.{Change, HasFailed}
 use Rattle.vl_io.specs.Lines.{AreFewer, AreLines, piece_len}
 use Rattle.log_model.specs.Core.{held_limit}
 use Rattle.log_model.specs.History.{History, batches_in, rows_of}
+use Rattle.log_model.specs.Field.{Field}
 use Rattle.log_model.specs.Print.{lines_text}
-use Rattle.log_model.specs.Query.{Query, evaluation, query_of}
 use Rattle.log_model.specs.Row.{batch_limit, batch_weight}
+use Rattle.lq_ast.specs.Condition.{Condition}
+use Rattle.lq_ast.specs.Evaluation.{evaluate, many_rows, records}
+use Rattle.lq_ast.specs.Patterns.{CanBeRead, patterns_of}
+use Rattle.lq_grammar.specs.Faults.{fault_text}
+use Rattle.lq_grammar.specs.Query.{QueryOf}
+use Rattle.lq_grammar.specs.declared.fault.QueryFault.{QueryFault}
 use Rattle.ingest_row.specs.Intake.{Outcome, rows_read}
 use Rattle.vl_top.specs.Groups.{AreGroups, BeginsWith, CanBeHeld, HaveOutcomes, batches_of, input_limit, outcomes_in}
 use Rattle.vl_top.specs.Groups.{refusals_of}
@@ -24,18 +31,30 @@ command_of (command ∷ []) = None
 command_of (command ∷ text ∷ []) = if bytes_eq command (codes "pipe") then Some (pipe text) else None
 command_of (command ∷ text ∷ word ∷ words) = None
 
--- `answer` is what the query gives over the history of the batches that the input becomes, whoever made its entries,
--- and `refusals` names the lines that are no rows.
-pub record IsAnswer (query : Query) (now : ℕ) (input answer refusals : List ℕ) : Type 0 where
+-- The lines of the input become the batches of this history, whoever made its entries, and `refusals` names the lines
+-- that are no rows.
+pub record IsTakenIn (now : ℕ) (input refusals : List ℕ) (history : History) : Type 0 where
   pub within : length input ≤ input_limit
   pub groups : List (List Outcome)
   pub intake : HaveOutcomes now input (outcomes_in groups)
   pub grouped : AreGroups groups (Unit {0})
   pub held : CanBeHeld groups
-  pub history : History
   pub entered : batches_in history ≡ batches_of groups
-  pub answered : answer ≡ lines_text (evaluation query (rows_of history))
   pub named : refusals ≡ refusals_of groups
+
+-- `answer` is what the query gives over the history that the input becomes.
+pub record IsAnswer (query : Condition) (now : ℕ) (input answer refusals : List ℕ) : Type 0 where
+  pub history : History
+  pub taken : IsTakenIn now input refusals history
+  pub found : List (List Field)
+  pub evaluated : evaluate query (pos now) (rows_of history) ≡ records found
+  pub answered : answer ≡ lines_text found
+
+-- The query has no answer over that history: too many of its rows hold.
+pub record IsOverflow (query : Condition) (now : ℕ) (input refusals : List ℕ) : Type 0 where
+  pub history : History
+  pub taken : IsTakenIn now input refusals history
+  pub evaluated : evaluate query (pos now) (rows_of history) ≡ many_rows
 
 -- a limit that an input may meet
 pub data Limit : Type 0 where
@@ -104,12 +123,50 @@ stop_text unreadable = codes "read fault" ++ 10 ∷ []
 stop_text (beyond limit) = limit_text limit ++ 10 ∷ []
 stop_text no_memory = codes "no memory" ++ 10 ∷ []
 
--- what the command asks for is not built
-abbrev pub IsUnspelled : Command → Type 0
-IsUnspelled (pipe text) = query_of text ≡ None
+-- ---- refused queries
 
-abbrev pub refused_text : List ℕ
-refused_text = codes "query: NotBuilt" ++ 10 ∷ []
+-- why a query is not answered
+pub data Refusal : Type 0 where
+  -- its text spells no query
+  unspelled : QueryFault → Refusal
+  -- the regular expression with this number, counted from 0 in the order of the text, cannot be read
+  unreadable_pattern : ℕ → Refusal
+  -- 2^32 rows hold, or more
+  too_many_rows : Refusal
+
+abbrev pub refusal_text : Refusal → List ℕ
+refusal_text (unspelled fault) = fault_text fault
+refusal_text (unreadable_pattern nth) = codes "RegexRefused number " ++ decimal nth
+refusal_text too_many_rows = codes "ManyRows"
+
+-- what is said of it
+abbrev pub refused_text : Refusal → List ℕ
+refused_text refusal = codes "query: " ++ (refusal_text refusal ++ 10 ∷ [])
+
+-- the text spells a query with this condition
+abbrev pub IsQueryText : List ℕ → Condition → Type 0
+IsQueryText text query = QueryOf text (Ok query)
+
+-- the text spells no query
+abbrev pub HasNoQuery : List ℕ → Type 0
+HasNoQuery text = (fault : QueryFault) × QueryOf text (Err fault)
+
+-- the text spells a query whose patterns can all be read
+abbrev pub IsReadableQuery : List ℕ → Type 0
+IsReadableQuery text = (query : Condition) × IsQueryText text query × AllByRecursion CanBeRead (patterns_of query)
+
+-- the command asks for a query, and there is none
+abbrev pub IsUnspelled : Command → Type 0
+IsUnspelled (pipe text) = HasNoQuery text
+
+-- Why the query with this text is refused before anything is read: it has this fault, or this pattern of it cannot be
+-- read.
+abbrev pub IsRefusedText : List ℕ → Refusal → Type 0
+IsRefusedText text (unspelled fault) = QueryOf text (Err fault)
+IsRefusedText text (unreadable_pattern nth) =
+    (query : Condition) × IsQueryText text query
+    × IsSomeAnd (slice_get (patterns_of query) nth) (λ pattern. CanBeRead pattern → ⊥)
+IsRefusedText text too_many_rows = ⊥
 
 abbrev pub usage_text : List ℕ
 usage_text = codes "usage: pipe, load, query, trial or serve" ++ 10 ∷ []

@@ -3,13 +3,14 @@ use Rattle.std.specs.Prelude.{◌≡◌, ◌⊎◌, ◌↔◌, ℕ, ◌+◌, ◌
 use Rattle.vl_io.specs.Change.{Change, Gave, HasFailed, IsCut, IsSpent, IsTold, IsUntold, Took}
 use Rattle.vl_io.specs.Lines.{piece_len}
 use Rattle.vl_io.specs.Moments.{FirstTold}
-use Rattle.log_model.specs.Query.{Query, query_of}
+use Rattle.lq_ast.specs.Condition.{Condition}
 use Rattle.ingest_row.specs.Intake.{Outcome}
 use Rattle.vl_top.specs.Groups.{BeginsWith, CanBeHeld, outcomes_in, refusals_from, refusals_of}
 use Rattle.vl_top.specs.Status.{status_number}
 use Rattle.vl_top.specs.declared.status.Status.{Status}
-use Rattle.vl_top.specs.Program.{Command, pipe, IsAnswer, IsUnspelled, Limit, Stop, unreadable, beyond, no_memory}
-use Rattle.vl_top.specs.Program.{StopsBehind, command_of, refused_text, stop_text, usage_text}
+use Rattle.vl_top.specs.Program.{Command, pipe, IsAnswer, IsOverflow, IsQueryText, IsReadableQuery, IsRefusedText}
+use Rattle.vl_top.specs.Program.{IsUnspelled, Limit, Refusal, Stop, StopsBehind, unreadable, beyond, no_memory, command_of, refused_text}
+use Rattle.vl_top.specs.Program.{stop_text, too_many_rows, usage_text}
 
 -- a run: what the words are, what it does to each object, what the clock gave before and after, and the status
 pub record Run : Type 0 where
@@ -23,7 +24,7 @@ pub record Run : Type 0 where
 
 -- The source gave an input to its end. The answer to it was written to the output, and its refused lines are named on
 -- the error stream.
-pub record IsAnswered (query : Query) (now : ℕ) (source output errors : Change) : Type 0 where
+pub record IsAnswered (query : Condition) (now : ℕ) (source output errors : Change) : Type 0 where
   pub input : List ℕ
   pub answer : List ℕ
   pub refusals : List ℕ
@@ -34,7 +35,7 @@ pub record IsAnswered (query : Query) (now : ℕ) (source output errors : Change
   pub named : Took errors refusals
 
 -- The same, but the output failed, and took a proper prefix of the answer.
-pub record IsAnswerCut (query : Query) (now : ℕ) (source output errors : Change) : Type 0 where
+pub record IsAnswerCut (query : Condition) (now : ℕ) (source output errors : Change) : Type 0 where
   pub input : List ℕ
   pub answer : List ℕ
   pub refusals : List ℕ
@@ -43,6 +44,15 @@ pub record IsAnswerCut (query : Query) (now : ℕ) (source output errors : Chang
   pub answered : IsAnswer query now input answer refusals
   pub written : IsCut output [] answer
   pub named : Took errors refusals
+
+-- The source gave an input to its end, and its refused lines are named. The query has no answer over it, which is said.
+pub record IsOverflown (query : Condition) (now : ℕ) (source errors : Change) : Type 0 where
+  pub input : List ℕ
+  pub refusals : List ℕ
+  pub gave : Gave source input
+  pub spent : IsSpent source
+  pub overflows : IsOverflow query now input refusals
+  pub said : IsTold errors refusals (refused_text too_many_rows)
 
 -- The error stream failed while the refused lines of a group were named, right after it was taken in.
 pub record IsNamingFault (now : ℕ) (source errors : Change) : Type 0 where
@@ -65,9 +75,9 @@ pub record IsStopped (now : ℕ) (source errors : Change) (stop : Stop) : Type 0
   pub said : IsTold errors (refusals_of groups) (stop_text stop)
 
 -- The text is that of a query, the clock's first reading was `now`, and for them this holds.
-pub record ForQuery (run : Run) (text : List ℕ) (holds : Query → ℕ → Type 0) : Type 0 where
-  pub query : Query
-  pub spelled : query_of text ≡ Some query
+pub record ForQuery (run : Run) (text : List ℕ) (holds : Condition → ℕ → Type 0) : Type 0 where
+  pub query : Condition
+  pub spelled : IsQueryText text query
   pub now : ℕ
   pub first : FirstTold run.moments_before run.moments_after now
   pub facts : holds query now
@@ -91,9 +101,31 @@ HasStopped run stop (pipe text) = ForQuery run text (λ query now. IsStopped now
 abbrev pub ForCommand : Run → (Command → Type 0) → Type 0
 ForCommand run holds = (command : Command) × (command_of run.words ≡ Some command) × holds command
 
--- the words are a command that is not refused
-abbrev pub IsAsked : Run → Command → Type 0
-IsAsked run (pipe text) = (query : Query) × (query_of text ≡ Some query)
+-- the words are no command, or ask for a query, and there is none
+abbrev pub IsNotAsked : List (List ℕ) → Type 0
+IsNotAsked words =
+    (command_of words ≡ None) ⊎ ((command : Command) × (command_of words ≡ Some command) × IsUnspelled command)
+
+-- the words ask for a query whose patterns can be read
+abbrev pub IsAsked : Command → Type 0
+IsAsked (pipe text) = IsReadableQuery text
+
+-- nothing was asked of the source
+abbrev pub IsUnread : Change → Type 0
+IsUnread source = IsUntold source × (source.faults_after ≡ source.faults_before)
+
+-- the command was refused before anything was read, for this cause, which is said
+abbrev pub IsRefused : Run → Refusal → Command → Type 0
+IsRefused run refusal (pipe text) =
+    IsRefusedText text refusal × IsUnread run.source × IsTold run.errors [] (refused_text refusal)
+
+-- the evaluation of the command's query overflows
+abbrev pub HasOverflown : Run → Command → Type 0
+HasOverflown run (pipe text) = ForQuery run text (λ query now. IsOverflown query now run.source run.errors)
+
+-- memory ran out before anything was read
+abbrev pub IsUnstarted : Run → Command → Type 0
+IsUnstarted run (pipe text) = IsUnread run.source × IsTold run.errors [] (stop_text no_memory)
 
 -- the statuses that there are
 abbrev pub IsStatus : ℕ → Type 0
@@ -103,15 +135,19 @@ IsStatus number = (status : Status) × (number ≡ status_number status)
 pub record IsRun (run : Run) : Type 0 where
   -- the answer is the naive evaluation of the query over the batches that the input is
   pub done : run.status ≡ 0 → ForCommand run (IsDone run)
-  pub refused : (run.status ≡ 1) ↔ ForCommand run IsUnspelled
+  -- the query is refused before anything is read, or its evaluation overflows
+  pub refused : run.status ≡ 1
+      → ((refusal : Refusal) × ForCommand run (IsRefused run refusal)) ⊎ ForCommand run (HasOverflown run)
+  pub unspelled : ForCommand run IsUnspelled → (run.status ≡ 1) ⊎ (run.status ≡ 9)
   pub usage : (run.status ≡ 2) ↔ (command_of run.words ≡ None)
+  pub said_usage : run.status ≡ 2 → IsTold run.errors [] usage_text
   pub read_fault : run.status ≡ 3 → ForCommand run (HasStopped run unreadable)
   pub write_fault : run.status ≡ 4 → ForCommand run (IsCutShort run)
   pub limit : run.status ≡ 8 → (limit : Limit) × ForCommand run (HasStopped run (beyond limit))
-  pub memory : run.status ≡ 9 → ForCommand run (HasStopped run no_memory)
+  pub memory : run.status ≡ 9
+      → ForCommand run (IsUnstarted run) ⊎ ForCommand run (HasStopped run no_memory)
   pub no_other : IsStatus run.status
-  -- where nothing fails, a query is answered, or the input is beyond a limit, or memory runs out
-  pub complete : ForCommand run (IsAsked run) → ¬ HasFailed run.source → ¬ HasFailed run.output → ¬ HasFailed run.errors
-      → (run.status ≡ 0) ⊎ ((run.status ≡ 8) ⊎ (run.status ≡ 9))
-  pub said_refused : run.status ≡ 1 → IsTold run.errors [] refused_text
-  pub said_usage : run.status ≡ 2 → IsTold run.errors [] usage_text
+  -- Where nothing fails, a query is answered, or overflows, or the input is beyond a limit, or memory runs out.
+  pub complete : ForCommand run IsAsked → ¬ HasFailed run.source → ¬ HasFailed run.output → ¬ HasFailed run.errors
+      → (run.status ≡ 0) ⊎ (((run.status ≡ 1) × ForCommand run (HasOverflown run))
+      ⊎ ((run.status ≡ 8) ⊎ (run.status ≡ 9)))

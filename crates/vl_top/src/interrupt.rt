@@ -1,6 +1,7 @@
 ghost use Rattle.std.specs.Prelude.{◌≡◌, ◌++◌, ◌∷◌, [], IfOk, string_bytes};
 ghost use Rattle.vl_top.specs.Program.{limit_text};
 
+use crate::answer::AnswerFault;
 use std::alloc::{AllocError, Global};
 use vl_io::ReadFault;
 
@@ -39,6 +40,8 @@ pub enum Interrupt {
     Unwritable,
     /// The input met a limit.
     Beyond(Limit),
+    /// Too many rows hold for the query.
+    ManyRows,
     /// Memory ran out.
     NoMemory,
 }
@@ -63,6 +66,19 @@ impl From<ReadFault> for Interrupt {
             ReadFault::Failed => Interrupt::Unreadable,
             ReadFault::Long => Interrupt::Beyond(Limit::Long),
             ReadFault::Memory => Interrupt::NoMemory,
+        }
+    }
+}
+
+impl From<AnswerFault> for Interrupt {
+    ghost use Rattle.vl_top.specs.Interrupt.{interrupt_of};
+
+    ghost from_gives = { λ fault interrupt. interrupt ≡ interrupt_of fault };
+
+    fn from(fault: AnswerFault) -> Interrupt {
+        match fault {
+            AnswerFault::ManyRows => Interrupt::ManyRows,
+            AnswerFault::Memory => Interrupt::NoMemory,
         }
     }
 }

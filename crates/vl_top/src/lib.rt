@@ -1,9 +1,9 @@
 //! Duvonka, a log database: what the program does. `run` carries the theorem.
 #![tactic(auto)]
 
-ghost use Rattle.std.specs.Prelude.{◌≡◌, ◌≢◌, ◌⊎◌, map};
+ghost use Rattle.std.specs.Prelude.{◌≡◌, ◌≢◌, map};
 ghost use Rattle.vl_io.specs.Change.{change_of};
-ghost use Rattle.vl_top.specs.Run.{IsRun};
+ghost use Rattle.vl_top.specs.Run.{IsNotAsked, IsRun};
 
 mod answer;
 mod command;
@@ -17,7 +17,7 @@ mod status;
 
 use command::query_text;
 use pipe::answer_query;
-use query::Query;
+use query::read_query;
 use report::report_refused;
 pub use report::{report_no_memory, report_usage};
 pub use status::Status;
@@ -46,8 +46,8 @@ pub fn run<R: AllocGlobal, S: Source, O: Sink, E: Sink, C: Clock>(
       status = result;
     }) }
 
-    // What is refused is refused before anything is read.
-    ensures unread { (result ≡ 1) ⊎ (result ≡ 2) → src.new ≡ src.old }
+    // Words that are no command, and a text that is no query, are refused before anything is read.
+    ensures unread { IsNotAsked (map (λ word. word.now) words.now) → src.new ≡ src.old }
 
     // Only an answer is written to the output.
     ensures untouched { result ≢ 0 → result ≢ 4 → out.new ≡ out.old }
@@ -55,8 +55,9 @@ pub fn run<R: AllocGlobal, S: Source, O: Sink, E: Sink, C: Clock>(
     let Some(text) = query_text(words) else {
         return report_usage(err).number();
     };
-    let Some(query) = Query::read(text) else {
-        return report_refused(err).number();
-    };
-    answer_query(rt.alloc(), &query, src, out, err, clock).number()
+    let alloc = rt.alloc();
+    match read_query(alloc, text) {
+        Ok(query) => answer_query(alloc, &query, src, out, err, clock).number(),
+        Err(refused) => report_refused(alloc, refused, err).number(),
+    }
 }

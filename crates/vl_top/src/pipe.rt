@@ -3,30 +3,30 @@ ghost use Rattle.std.specs.Prelude.{◌≡◌, ◌≢◌, ◌≤◌, ◌≤ℤ�
 ghost use Rattle.vl_io.specs.Change.{change_of};
 ghost use Rattle.vl_io.specs.Moments.{FirstTold};
 ghost use Rattle.vl_top.specs.Pipe.{EndsPipe, StopsPipe};
-ghost use Rattle.vl_top.specs.Query.{meaning};
+ghost use Rattle.lq_filter.specs.Tree.{condition_of};
 ghost use Rattle.vl_top.specs.Run.{IsAnswered};
 
 use crate::answer::snapshot_lines;
 use crate::interrupt::Interrupt;
 use crate::load::load;
-use crate::query::Query;
 use crate::report::report_interrupt;
 use crate::status::Status;
 use log_core::Shelf;
+use lq_filter::Prepared;
 use std::alloc::Global;
 use vl_io::{Clock, Failed, Sink, Source, put_all};
 
 /// Loads the input and writes the answer, or says why not.
 pub fn answer_query<S: Source, O: Sink, E: Sink, C: Clock>(
     alloc: Global,
-    query: &Query,
+    query: &Prepared,
     src: &mut S,
     out: &mut O,
     err: &mut E,
     clock: &mut C,
 ) -> Status
     ensures ends { (now : ℕ) × FirstTold (C.moments clock.old) (C.moments clock.new) now
-        × EndsPipe (meaning query.now) now (change_of S.left S.faults src.old src.new)
+        × EndsPipe (condition_of query.now) now (change_of S.left S.faults src.old src.new)
         (change_of O.written O.faults out.old out.new) (change_of E.written E.faults err.old err.new) result }
     ensures untouched { result ≢ Status.Done → result ≢ Status.WriteFault → out.new ≡ out.old }
 {
@@ -40,17 +40,17 @@ pub fn answer_query<S: Source, O: Sink, E: Sink, C: Clock>(
 /// Loads the input, and writes the answer.
 fn pipe<S: Source, O: Sink, E: Sink>(
     alloc: Global,
-    query: &Query,
+    query: &Prepared,
     now: i64,
     src: &mut S,
     out: &mut O,
     err: &mut E,
 ) -> Result<(), Interrupt>
     requires { pos 0 ≤ℤ now }
-    ensures done { OnOk result (IsAnswered (meaning query.now) (unsigned_abs now)
+    ensures done { OnOk result (IsAnswered (condition_of query.now) (unsigned_abs now)
         (change_of S.left S.faults src.old src.new) (change_of O.written O.faults out.old out.new)
         (change_of E.written E.faults err.old err.new)) }
-    ensures stopped { IfErr result (StopsPipe (meaning query.now) (unsigned_abs now)
+    ensures stopped { IfErr result (StopsPipe (condition_of query.now) (unsigned_abs now)
         (change_of S.left S.faults src.old src.new) (change_of O.written O.faults out.old out.new)
         (change_of E.written E.faults err.old err.new)) }
     ensures untouched { IfErr result (λ interrupt. interrupt ≢ Interrupt.Unwritable → out.new ≡ out.old) }
@@ -58,7 +58,7 @@ fn pipe<S: Source, O: Sink, E: Sink>(
 {
     let mut shelf = Shelf::fresh(alloc)?;
     load(alloc, now, src, err, &mut shelf)?;
-    let lines = snapshot_lines(alloc, query, &shelf.look()?)?;
+    let lines = snapshot_lines(alloc, query, now, &shelf.look()?)?;
     match put_all(out, lines.as_slice()) {
         Ok(()) => Ok(()),
         Err(Failed) => Err(Interrupt::Unwritable),

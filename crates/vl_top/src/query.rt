@@ -1,61 +1,74 @@
-ghost use Rattle.std.specs.Prelude.{◌≡◌, IsTrue, option_map};
-ghost use Rattle.log_model.specs.Words.{is_word_text as is_word_text_of};
-ghost use Rattle.log_model.specs.Query.{is_keyword as is_keyword_of, query_of, holds as holds_of};
+//! Queries, read and prepared.
+ghost use Rattle.std.specs.Prelude.{◌≡◌, IfErr, IfOk, IsErr, string_bytes};
+ghost use Rattle.lq_filter.specs.Tree.{condition_of};
+ghost use Rattle.vl_top.specs.Program.{HasNoQuery, IsQueryText, IsReadableQuery};
+ghost use Rattle.vl_top.specs.Refused.{Refuses, said_of};
+ghost use Rattle.vl_top.specs.declared.query.Refused.TheVariants.{NoMemory};
 
-use vl_row::Row;
-use word_tokens::{has_word, is_word_text};
+use lq_filter::{PrepareFault, Prepared, prepare};
+use lq_parse::{QueryFault, parse};
+use std::alloc::{AllocError, Global};
 
-/// A query of LogsQL, as far as queries are built.
-#[derive(Clone, Copy)]
-pub enum Query<'a> {
-    /// `*`: every row.
-    Everything,
-    /// One word: the rows whose message has it.
-    Word(Word<'a>),
+/// Why a query is not asked.
+#[derive(Clone, Copy, Debug, PartialEq, Eq)]
+pub enum Refused {
+    /// The text spells no query.
+    Unspelled(QueryFault),
+    /// The regular expression with this number, counted from 0 in the order of the text, cannot be read.
+    Pattern { nth: u32 },
+    /// Memory ran out.
+    NoMemory,
 }
 
-/// One or more word characters.
-#[derive(Clone, Copy)]
-pub struct Word<'a> {
-    pub text: &'a str,
-    ghost is_word: { IsTrue (is_word_text_of text.now) },
-}
+impl From<QueryFault> for Refused {
+    ghost use Rattle.vl_top.specs.Refused.{refused_by};
 
-impl<'a> Query<'a> {
-    ghost use Rattle.vl_top.specs.Query.{meaning};
+    ghost from_gives = { λ fault refused. refused ≡ refused_by fault };
 
-    /// The query that the text spells, if it is one that is built.
-    #[tactic(auto, unfolding(log_model::specs::Query::query_of))]
-    pub fn read(text: &'a str) -> Option<Query<'a>>
-        ensures { option_map meaning result ≡ query_of text.now }
-    {
-        if text == "*" {
-            return Some(Query::Everything);
-        }
-        if is_word_text(text) && !is_keyword(text) {
-            Some(Query::Word(Word { text }))
-        } else {
-            None
+    fn from(fault: QueryFault) -> Refused {
+        match fault {
+            QueryFault::Memory => Refused::NoMemory,
+            _ => Refused::Unspelled(fault),
         }
     }
+}
 
-    /// Whether the row passes the query's filter.
-    #[tactic(auto, unfolding(log_model::specs::Query::holds))]
-    pub fn holds(&self, row: &Row) -> bool
-        ensures { result ≡ holds_of (meaning self.now) row.now }
+impl From<PrepareFault> for Refused {
+    ghost use Rattle.vl_top.specs.Refused.{refused_pattern};
+
+    ghost from_gives = { λ fault refused. refused ≡ refused_pattern fault };
+
+    fn from(fault: PrepareFault) -> Refused {
+        match fault {
+            PrepareFault::RegexRefused { nth } => Refused::Pattern { nth },
+            PrepareFault::Memory => Refused::NoMemory,
+        }
+    }
+}
+
+impl Refused {
+    /// What is said of it on the error stream.
+    pub fn text(self, alloc: Global) -> Result<String, AllocError>
+        ensures { IfOk result (λ text. string_bytes text ≡ said_of self) }
     {
         match self {
-            Query::Everything => true,
-            Query::Word(word) => has_word(row.value("_msg"), word.text),
+            Refused::Unspelled(fault) => format!(in alloc; "query: {fault}\n"),
+            Refused::Pattern { nth } => format!(in alloc; "query: RegexRefused number {nth}\n"),
+            Refused::NoMemory => String::from_str(alloc, "no memory\n"),
         }
     }
 }
 
-/// Whether the text is a word of the language itself, in any case of ASCII letters.
-fn is_keyword(text: &str) -> bool
-    ensures { result ≡ is_keyword_of text.now }
+/// Reads the text and prepares its query, all of its patterns too. Want of memory is free.
+pub fn read_query(alloc: Global, text: &str) -> Result<Prepared, Refused>
+    ensures read { IfOk result (λ query. IsQueryText text.now (condition_of query)) }
+    ensures refused { IfErr result (Refuses text.now) }
+
+    // A text that spells no query is refused. One whose patterns can all be read is not, unless memory runs out.
+    ensures unspelled { HasNoQuery text.now → IsErr result }
+    ensures readable { IsReadableQuery text.now → IfErr result (λ refused. refused ≡ NoMemory) }
 {
-    text.eq_ignore_ascii_case("and")
-        || text.eq_ignore_ascii_case("or")
-        || text.eq_ignore_ascii_case("not")
+    let query = parse(alloc, text)?;
+    let prepared = prepare(alloc, &query)?;
+    Ok(prepared)
 }

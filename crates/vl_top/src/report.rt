@@ -1,10 +1,12 @@
 //! What is said on the error stream where a run ends before all is done.
 ghost use Rattle.std.specs.Prelude.{◌≡◌, []};
 ghost use Rattle.vl_io.specs.Change.{IsTold, change_of};
-ghost use Rattle.vl_top.specs.Program.{no_memory, refused_text, stop_text, usage_text};
+ghost use Rattle.vl_top.specs.Program.{no_memory, stop_text, usage_text};
 ghost use Rattle.vl_top.specs.Pipe.{ReportsInterrupt};
+ghost use Rattle.vl_top.specs.Refused.{ReportsRefused};
 
 use crate::interrupt::Interrupt;
+use crate::query::Refused;
 use crate::status::Status;
 use std::alloc::Global;
 use vl_io::{Sink, put_all};
@@ -18,13 +20,20 @@ pub fn report_usage<E: Sink>(err: &mut E) -> Status
     Status::Usage
 }
 
-/// The query is refused.
-pub fn report_refused<E: Sink>(err: &mut E) -> Status
-    ensures status { result ≡ Status.QueryRefused }
-    ensures said { IsTold (change_of E.written E.faults err.old err.new) [] refused_text }
+/// The query is refused. Where there is no memory to say why, that is what is said.
+pub fn report_refused<E: Sink>(alloc: Global, refused: Refused, err: &mut E) -> Status
+    ensures { ReportsRefused (change_of E.written E.faults err.old err.new) refused result }
 {
-    say(err, "query: NotBuilt\n");
-    Status::QueryRefused
+    if refused == Refused::NoMemory {
+        return report_no_memory(err);
+    }
+    match refused.text(alloc) {
+        Ok(text) => {
+            say(err, text.as_str());
+            Status::QueryRefused
+        }
+        Err(_) => report_no_memory(err),
+    }
 }
 
 /// There is no memory.
@@ -54,6 +63,10 @@ pub fn report_interrupt<E: Sink>(alloc: Global, interrupt: Interrupt, err: &mut 
             }
             Err(_) => report_no_memory(err),
         },
+        Interrupt::ManyRows => {
+            say(err, "query: ManyRows\n");
+            Status::QueryRefused
+        }
         Interrupt::NoMemory => report_no_memory(err),
     }
 }

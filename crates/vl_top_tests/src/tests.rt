@@ -86,24 +86,35 @@ fn a_word_query_gives_the_lines_that_have_it(rt: HostRuntime) -> Result<(), Fail
     Ok(())
 }
 
-const NOT_BUILT: &[&str] = &[
-    "a b", "", "and", "Or", "NOT", "a-b", "\"a\"", "**", "_msg:a", "a|b", "\u{301}",
+/// A query that is refused, and its fault.
+const REFUSED: &[(&str, &str)] = &[
+    ("", "Syntax at 0"),
+    ("Or", "Syntax at 0"),
+    ("a b)", "Syntax at 3"),
+    ("x:", "Syntax at 2"),
+    ("\"abc", "OpenQuote at 0"),
+    ("\u{301}", "BadChar at 0"),
+    ("a | stats by (x)", "NotBuilt at 2"),
+    ("x:>1.5", "BadNumber at 3"),
+    ("_time:5q", "BadTime at 6"),
+    ("_time:99999999999999w", "BadDuration at 6"),
+    ("a ~\"b\" ~\"(\"", "RegexRefused number 1"),
+    ("{a=~\")(\"}", "RegexRefused number 0"),
 ];
 
-const BUILT: &[&str] = &["*", "error", "_", "7", "Straße", "android", "٣"];
-
 #[test]
-fn what_is_not_built_is_refused_before_anything_is_read(rt: HostRuntime) -> Result<(), Fail> {
+fn a_refused_query_is_told_before_anything_is_read(rt: HostRuntime) -> Result<(), Fail> {
     let failing = Failing {
         reads: &[0],
         ..NONE
     };
-    let refused = Wanted {
-        status: 1,
-        out: "",
-        err: "query: NotBuilt\n",
-    };
-    for query in NOT_BUILT {
+    for (query, fault) in REFUSED {
+        let err = format!(in rt.alloc(); "query: {fault}\n")?;
+        let refused = Wanted {
+            status: 1,
+            out: "",
+            err: err.as_str(),
+        };
         assert!(rt;
             ends(&rt, &["pipe", query], b"x\n", failing, refused)?,
             "{query}"
@@ -112,14 +123,65 @@ fn what_is_not_built_is_refused_before_anything_is_read(rt: HostRuntime) -> Resu
     Ok(())
 }
 
+const FOUR: &str = "{\"_msg\":\"a\"}\n{\"_msg\":\"b\"}\n{\"_msg\":\"c a\"}\n{\"_msg\":\"b c\"}\n";
+
+/// A query over `FOUR`, and the messages that it selects, with commas between them.
+const SELECTED: &[(&str, &str)] = &[
+    ("a or b c", "a,c a,b c"),
+    ("!a b", "b,b c"),
+    ("(a or b) c", "c a,b c"),
+    ("not (a or c)", "b"),
+    ("_msg:=a", "a"),
+    ("{app!=\"x\"} \"b\"", "b,b c"),
+    ("{app=\"x\"}", ""),
+    ("_time:5ns a", "a,c a"),
+    ("_time:(1970-01-01T00:00:00.000000004Z,1970-01-01T00:00:00.000000005Z]", "a,b,c a,b c"),
+    ("_time:[1970-01-01T00:00:00Z,1970-01-01T00:00:00.000000005Z)", ""),
+    ("~\"^[ab]$\"", "a,b"),
+    ("i(C)", "c a,b c"),
+    ("** b", "b,b c"),
+];
+
+/// The printed rows with these messages, between which there are commas.
+fn printed(alloc: Global, messages: &str) -> Result<String, AllocError> {
+    let mut text = String::new(alloc);
+    for message in messages.split(',') {
+        if !message.is_empty() {
+            write!(text, "{{\"_msg\":\"{message}\",\"_stream\":\"{{}}\",\"_stream_id\":\
+                \"44136fa355b3678a1146ad16f7e8649e\",\"_time\":\"1970-01-01T00:00:00.000000005Z\"}}\n")?;
+        }
+    }
+    Ok(text)
+}
+
+fn selects(rt: &HostRuntime, query: &str, messages: &str) -> Result<bool, AllocError> {
+    let out = printed(rt.alloc(), messages)?;
+    let wanted = Wanted {
+        status: 0,
+        out: out.as_str(),
+        err: "",
+    };
+    ends(rt, &["pipe", query], FOUR.as_bytes(), NONE, wanted)
+}
+
 #[test]
-fn what_is_built_is_answered(rt: HostRuntime) -> Result<(), Fail> {
+fn a_query_selects_rows(rt: HostRuntime) -> Result<(), Fail> {
+    for (query, messages) in SELECTED {
+        assert!(rt; selects(&rt, query, messages)?, "{query}");
+    }
+    Ok(())
+}
+
+const SPELLED: &[&str] = &["*", "error", "_", "7", "Straße", "android", "٣", "a-b"];
+
+#[test]
+fn a_query_over_nothing_is_answered(rt: HostRuntime) -> Result<(), Fail> {
     let done = Wanted {
         status: 0,
         out: "",
         err: "",
     };
-    for query in BUILT {
+    for query in SPELLED {
         assert!(rt; ends(&rt, &["pipe", query], b"", NONE, done)?, "{query}");
     }
     Ok(())

@@ -1,14 +1,12 @@
-use Rattle.std.proofs.Common.{◌≡◌, take, flat_map}
+use Rattle.std.proofs.Common.{◌≡◌, take}
 use Rattle.log_model.specs.Core.{parts_of}
-use Rattle.log_model.specs.History.{rows_in}
-use Rattle.log_model.specs.Print.{lines_text}
-use Rattle.log_model.specs.Query.{evaluation}
-use Rattle.vl_top.specs.Query.{meaning}
-use Rattle.vl_top.proofs.AnswerLemmas.{OrderedBelow}
+use Rattle.lq_filter.specs.Tree.{condition_of, moment_of, scanned}
+use Rattle.vl_top.specs.Answer.{AreLinesOf, held_in}
 use Rattle.vl_top.proofs.answer.snapshot_lines.Given as goal
 
 abbrev pub invariant-loop-i : goal.invariant-loop-i
 invariant-loop-i l = record {
-  lines : l.text.items ≡ lines_text (evaluation (meaning l.query) (flat_map rows_in (take l.i (parts_of l.snapshot))));
-  order : OrderedBelow l.i (parts_of l.snapshot);
+  filter : scanned l.scan ≡ condition_of l.query;
+  moment : moment_of l.scan ≡ l.now;
+  written : AreLinesOf l.lines (held_in (condition_of l.query) l.now (take l.i (parts_of l.snapshot)));
 }

@@ -1,0 +1,53 @@
+use Rattle.std.proofs.Common.{◌≡◌, rules, map, Some, inl, inr, refl, sym, ◌∙◌}
+use Rattle.vl_io.specs.Change.{change_of}
+use Rattle.lq_filter.specs.Tree.{condition_of}
+use Rattle.vl_top.proofs.RunLemmas.{complete, overflown, refused_early, without_memory}
+use Rattle.vl_top.specs.Program.{command_of, pipe}
+use Rattle.vl_top.specs.Run.{Run}
+use Rattle.vl_top.proofs.run.Goals as goal
+
+pub returns-in-Ok-clause-run : goal.returns-in-Ok-clause-run
+returns-in-Ok-clause-run g c =
+    let asked : command_of (map (λ word. word.now) c.args.words.now) ≡ Some (pipe c.in-Some.text.now) = search rules in
+    let query = condition_of c.in-Ok.query in record {
+      done = search rules;
+      refused = λ is. inr (overflown _ c.in-Some.text.now query asked c.in-Ok.ensures.read c.answer_query.result
+          c.answer_query.ensures.ends (sym c.number-in-Ok.ensures ∙ is));
+      unspelled = search rules;
+      usage = search rules;
+      said_usage = search rules;
+      read_fault = search rules;
+      write_fault = search rules;
+      limit = search rules;
+      memory = λ is. inr (without_memory _ c.in-Some.text.now query asked c.in-Ok.ensures.read c.answer_query.result
+          c.answer_query.ensures.ends (sym c.number-in-Ok.ensures ∙ is));
+      no_other = search rules;
+      complete = λ _ source output errors. complete _ c.in-Some.text.now query asked c.in-Ok.ensures.read
+          c.answer_query.result c.number-in-Ok.ensures c.answer_query.ensures.ends source output errors;
+    }
+
+pub returns-in-Err-clause-run : goal.returns-in-Err-clause-run
+returns-in-Err-clause-run g c =
+    let asked : command_of (map (λ word. word.now) c.args.words.now) ≡ Some (pipe c.in-Some.text.now) = search rules in
+    let run : Run = record {
+      words = map (λ word. word.now) c.args.words.now;
+      source = change_of g.S.Source.left g.S.Source.faults c.args.src.now c.args.src.now;
+      output = change_of g.O.Sink.written g.O.Sink.faults c.args.out.now c.args.out.now;
+      errors = change_of g.E.Sink.written g.E.Sink.faults c.args.err.now c.report_refused.new.err;
+      moments_before = g.C.Clock.moments c.args.clock.now;
+      moments_after = g.C.Clock.moments c.args.clock.now;
+      status = c.number-in-Err.result;
+    } in record {
+      done = search rules;
+      refused = λ is. inl (refused_early run c.in-Some.text.now asked (refl, refl) c.in-Err.refused c.report_refused.result
+          c.in-Err.ensures.refused c.report_refused.ensures (sym c.number-in-Err.ensures ∙ is));
+      unspelled = search rules;
+      usage = search rules;
+      said_usage = search rules;
+      read_fault = search rules;
+      write_fault = search rules;
+      limit = search rules;
+      memory = search rules;
+      no_other = search rules;
+      complete = search rules;
+    }
