@@ -78,16 +78,22 @@ pub fails-part : (condition : Condition) (now : ℤ) (parts : List (List Numbere
 fails-part condition now parts i part rows old is same before Memory h = tt
 fails-part condition now parts i part rows old is same before ManyRows h =
     let all : held_in condition now parts
-        ≡ held_in condition now (take (i + 1) parts)
-        ++ rows_that_hold condition now (flat_map rows_in (drop (i + 1) parts)) =
+    ≡ held_in condition now (take (i + 1) parts)
+    ++ rows_that_hold condition now (flat_map rows_in (drop (i + 1) parts)) =
     ap (held_in condition now) (sym (take-append-drop (i + 1) parts))
     ∙ ap (rows_that_hold condition now) (flat_map-append rows_in (take (i + 1) parts) (drop (i + 1) parts))
     ∙ held-append condition now (flat_map rows_in (take (i + 1) parts)) (flat_map rows_in (drop (i + 1) parts)) in
-    omega (arith, h, before.count, ap (λ rs. length (rows_that_hold condition now rs)) same, ap length all,
-        ap length (held-part condition now parts i part is),
-        length-append (held_in condition now (take (i + 1) parts))
-        (rows_that_hold condition now (flat_map rows_in (drop (i + 1) parts))),
-        length-append (held_in condition now (take i parts)) (rows_that_hold condition now (rows_in part)))
+    omega (
+      arith,
+      h,
+      before.count,
+      ap (λ rs. length (rows_that_hold condition now rs)) same,
+      ap length all,
+      ap length (held-part condition now parts i part is),
+      length-append (held_in condition now (take (i + 1) parts))
+          (rows_that_hold condition now (flat_map rows_in (drop (i + 1) parts))),
+      length-append (held_in condition now (take i parts)) (rows_that_hold condition now (rows_in part)),
+    )
 
 -- the rows that hold among the first ones and one more, which holds too, are no more than all that hold
 module _ (condition : Condition) (now : ℤ) (rows : List Row) (k : ℕ) (row : Row) where
@@ -95,19 +101,22 @@ module _ (condition : Condition) (now : ℤ) (rows : List Row) (k : ℕ) (row : 
       → length (rows_that_hold condition now (take k rows)) + 1 ≤ length (rows_that_hold condition now rows)
   held-more below is true_of =
       let first : rows_that_hold condition now (take (suc k) rows)
-          ≡ rows_that_hold condition now (take k rows) ++ rows_that_hold condition now (row ∷ []) =
+      ≡ rows_that_hold condition now (take k rows) ++ rows_that_hold condition now (row ∷ []) =
       ap (rows_that_hold condition now) (take-item rows k row below is) ∙ held-append condition now (take k rows) (row ∷ []) in
       let one : rows_that_hold condition now (row ∷ []) ≡ row ∷ [] = rw true_of refl in
       let all : rows_that_hold condition now rows
-          ≡ rows_that_hold condition now (take (suc k) rows) ++ rows_that_hold condition now (drop (suc k) rows) =
+      ≡ rows_that_hold condition now (take (suc k) rows) ++ rows_that_hold condition now (drop (suc k) rows) =
       ap (rows_that_hold condition now) (sym (take-append-drop (suc k) rows))
       ∙ held-append condition now (take (suc k) rows) (drop (suc k) rows) in
-      omega (arith, ap length all,
-          length-append (rows_that_hold condition now (take (suc k) rows))
-          (rows_that_hold condition now (drop (suc k) rows)),
-          ap length first,
-          length-append (rows_that_hold condition now (take k rows)) (rows_that_hold condition now (row ∷ [])),
-          ap length one)
+      omega (
+        arith,
+        ap length all,
+        length-append (rows_that_hold condition now (take (suc k) rows))
+            (rows_that_hold condition now (drop (suc k) rows)),
+        ap length first,
+        length-append (rows_that_hold condition now (take k rows)) (rows_that_hold condition now (row ∷ [])),
+        ap length one,
+      )
 
   pub fails-more : (initial lines : Lines) (before : List Row) → AreLinesOf initial before
       → WritesRows initial lines (rows_that_hold condition now (take k rows))
@@ -115,8 +124,14 @@ module _ (condition : Condition) (now : ℤ) (rows : List Row) (k : ℕ) (row : 
       → FailsFor lines.rows (row ∷ []) fault → FailsFor initial.rows (rows_that_hold condition now rows) fault
   fails-more initial lines before old written below is true_of Memory h = tt
   fails-more initial lines before old written below is true_of ManyRows h =
-      omega (arith, h, held-more below is true_of, old.count, (written before old).count,
-          length-append before (rows_that_hold condition now (take k rows)))
+      omega (
+        arith,
+        h,
+        held-more below is true_of,
+        old.count,
+        (written before old).count,
+        length-append before (rows_that_hold condition now (take k rows)),
+      )
 
 -- the first parts are in order
 abbrev pub OrderedBelow : ℕ → List (List Numbered) → Type 0

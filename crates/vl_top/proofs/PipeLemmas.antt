@@ -126,19 +126,19 @@ module _ (query : Condition) (now : ℕ) (source output errors : Change) (shelf 
     pub unanswered : (fault : AnswerFault) → FailsFor 0 (held_in query (pos now) (parts_of snapshot)) fault
         → StopsPipe query now source output errors (interrupt_of fault)
     unanswered answers.ManyRows h =
-      let many : row_limit ≤ length (held_in query (pos now) (parts_of snapshot)) = omega (arith, h) in
-      record {
-      input = l.begins.taken;
-      refusals = refusals_of l.groups;
-      gave = gave_all l;
-      spent = l.spent;
-      overflows = record {
-        history = l.holding.history;
-        taken = taken l;
-        evaluated = sym evaluated ∙ too_many (held_in query (pos now) (parts_of snapshot)) many;
-      };
-      named = l.named;
-    }
+        let many : row_limit ≤ length (held_in query (pos now) (parts_of snapshot)) = omega (arith, h) in
+        record {
+          input = l.begins.taken;
+          refusals = refusals_of l.groups;
+          gave = gave_all l;
+          spent = l.spent;
+          overflows = record {
+            history = l.holding.history;
+            taken = taken l;
+            evaluated = sym evaluated ∙ too_many (held_in query (pos now) (parts_of snapshot)) many;
+          };
+          named = l.named;
+        }
     unanswered answers.Memory h = stops_loaded now source errors shelf l
 
 module _ (now : ℕ) (source : Change) (err0 err1 err2 : Option (List ℕ)) (f0 f1 f2 : ℕ) where

@@ -66,14 +66,14 @@ module _ (run : Run) (text : List ℕ) (query : Condition) (asked : command_of r
       subst (EndsWell run) (sym is) (all_well status ends source output errors)
 
 module _ (run : Run) (text : List ℕ) (asked : command_of run.words ≡ Some (pipe text)) (unread : IsUnread run.source)
-    where
-  -- a query that is refused before anything is read
-  pub refused_early : (refused : Refused) (status : Status) → Refuses text refused
-      → ReportsRefused run.errors refused status → status_number status ≡ 1
-      → (refusal : Refusal) × ForCommand run (IsRefused run refusal)
-  refused_early (Unspelled fault) status why (inl told) is = (unspelled fault, (pipe text, asked, (why, unread, told.2)))
-  refused_early (Pattern nth) status why (inl told) is =
-      (unreadable_pattern nth, (pipe text, asked, (why, unread, told.2)))
-  refused_early NoMemory status why (inl told) is = absurd (told.1 refl)
-  refused_early refused status why (inr told) is =
-      absurd (let none : ⊥ = omega (arith, ap status_number told.0, is) in none)
+  where
+    -- a query that is refused before anything is read
+    pub refused_early : (refused : Refused) (status : Status) → Refuses text refused
+        → ReportsRefused run.errors refused status → status_number status ≡ 1
+        → (refusal : Refusal) × ForCommand run (IsRefused run refusal)
+    refused_early (Unspelled fault) status why (inl told) is = (unspelled fault, (pipe text, asked, (why, unread, told.2)))
+    refused_early (Pattern nth) status why (inl told) is =
+        (unreadable_pattern nth, (pipe text, asked, (why, unread, told.2)))
+    refused_early NoMemory status why (inl told) is = absurd (told.1 refl)
+    refused_early refused status why (inr told) is =
+        absurd (let none : ⊥ = omega (arith, ap status_number told.0, is) in none)

@@ -16,5 +16,5 @@ returns-in_err-push_line-clause-fault c =
     if_err c.from_residual-in_err-push_line.result _ _ c.from_residual-in_err-push_line.ensures.1
     (λ fault is. subst (FailsFor _ _) (sym is)
     (fails-more condition now c.args.rows.now c.loop-row.row-index c.row-item.result c.args.lines.now c.loop-row.lines
-        c.requires.0 c.requires.1 c.loop-row.invariant.written below c.row-item.is found c.in_err-push_line.field-0.0
-        c.in_err-push_line.ensures.fault))
+    c.requires.0 c.requires.1 c.loop-row.invariant.written below c.row-item.is found c.in_err-push_line.field-0.0
+    c.in_err-push_line.ensures.fault))

@@ -14,9 +14,9 @@ returns-in_err-push_lines-clause-fault c =
     if_err c.from_residual-in_err-push_lines.result _ _ c.from_residual-in_err-push_lines.ensures.1
     (λ fault is. subst (FailsFor 0 _) (sym is)
     (fails-part (condition_of c.args.query.now) c.args.now (parts_of c.args.snapshot.now) c.loop-i.i _
-        c.as_slice-rows.result.now c.loop-i.lines c.part.ensures (c.as_slice-rows.ensures.rows ∙ ap rows_in c.deref.ensures)
-        (simp to_z-of_z at c.loop-i.invariant.written) c.in_err-push_lines.field-0.0
-        (rw (c.loop-i.invariant.filter, simp to_z-of_z at c.loop-i.invariant.moment) at c.in_err-push_lines.ensures.fault)))
+    c.as_slice-rows.result.now c.loop-i.lines c.part.ensures (c.as_slice-rows.ensures.rows ∙ ap rows_in c.deref.ensures)
+    (simp to_z-of_z at c.loop-i.invariant.written) c.in_err-push_lines.field-0.0
+    (rw (c.loop-i.invariant.filter, simp to_z-of_z at c.loop-i.invariant.moment) at c.in_err-push_lines.ensures.fault)))
 
 pub loop-i-preserved : goal.loop-i-preserved
 loop-i-preserved c =

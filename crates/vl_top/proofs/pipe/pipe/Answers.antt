@@ -30,8 +30,8 @@ returns-in_err-lines-clause-stopped g c =
     if_err c.from_residual-in_err-lines.result _ _ c.from_residual-in_err-lines.ensures.1
     (λ interrupt is. subst (StopsPipe _ _ _ _ _) (sym is)
     (unanswered (condition_of c.args.query.now) (unsigned_abs c.args.now) _ _ _ c.load.new.shelf c.in_ok-look.field-0
-        (simp to_z-of_z at c.in_ok-load.ensures.loaded) c.in_ok-look.ensures.held c.snapshot_lines-2.ensures.order
-        c.in_err-lines.field-0.0 (subst (λ now. FailsFor 0 (held_in (condition_of c.args.query.now) now (parts_of c.in_ok-look.field-0)) c.in_err-lines.field-0.0) moment (simp to_z-of_z at c.in_err-lines.ensures.fault))))
+    (simp to_z-of_z at c.in_ok-load.ensures.loaded) c.in_ok-look.ensures.held c.snapshot_lines-2.ensures.order
+    c.in_err-lines.field-0.0 (subst (λ now. FailsFor 0 (held_in (condition_of c.args.query.now) now (parts_of c.in_ok-look.field-0)) c.in_err-lines.field-0.0) moment (simp to_z-of_z at c.in_err-lines.ensures.fault))))
 
 pub returns-in-Ok-clause-done : goal.returns-in-Ok-clause-done
 returns-in-Ok-clause-done g c =
