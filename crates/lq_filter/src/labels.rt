@@ -1,11 +1,3 @@
-use crate::fault::PrepareFault;
-use crate::matchers::Matchers;
-use crate::pattern::Pattern;
-use lq_ast::{Group, How, LabelTest, Select};
-use std::alloc::{AllocError, Global};
-use std::marker::Model;
-use vl_row::{Stream, Text};
-
 ghost use Rattle.std.specs.Prelude.{◌≡◌, ◌+◌, ℕ, Err, length, flat_map, IfOk, IfErr, IsOk};
 ghost use Rattle.std.specs.List.{list_all};
 ghost use Rattle.lq_ast.specs.Holds.{passes, selects};
@@ -14,6 +6,14 @@ ghost use Rattle.lq_ast.specs.View.{groups_of, test_of, tests_of};
 ghost use Rattle.lq_filter.specs.Labels.{groups_of as prepared_groups, how_of, test_of as prepared_test};
 ghost use Rattle.lq_filter.specs.Labels.{tests_of as prepared_tests, text_of};
 ghost use Rattle.lq_filter.specs.Refusal.{IsRefusal};
+
+use crate::fault::PrepareFault;
+use crate::matchers::Matchers;
+use crate::pattern::Pattern;
+use lq_ast::{Group, How, LabelTest, Select};
+use std::alloc::{AllocError, Global};
+use std::marker::Model;
+use vl_row::{Stream, Text};
 
 /// A selector of streams, whose patterns are read.
 #[derive(Drop)]
@@ -61,11 +61,16 @@ impl Model for WholePattern {
 
 impl Selector {
     /// Prepares a selector, whose first pattern has the number `nth`, and raises it by the number of patterns.
-    pub(crate) fn new(alloc: Global, select: &Select, nth: &mut u32) -> Result<Selector, PrepareFault>
+    pub(crate) fn new(
+        alloc: Global,
+        select: &Select,
+        nth: &mut u32,
+    ) -> Result<Selector, PrepareFault>
         ensures same { IfOk result (λ selector. prepared_groups selector ≡ groups_of select.now) }
         ensures counted { IsOk result →
             nth.new ≡ nth.old + length (flat_map (flat_map patterns_of_test) (groups_of select.now)) }
-        ensures refused { IfErr result (IsRefusal nth.old (flat_map (flat_map patterns_of_test) (groups_of select.now))) }
+        ensures refused { IfErr result
+            (IsRefusal nth.old (flat_map (flat_map patterns_of_test) (groups_of select.now))) }
     {
         let mut groups = Vec::new(alloc);
         for group in &select.groups {

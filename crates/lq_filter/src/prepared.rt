@@ -1,11 +1,3 @@
-use crate::fault::PrepareFault;
-use crate::labels::Selector;
-use crate::matchers::Matchers;
-use crate::tree::Tree;
-use lq_ast::{Query, Select};
-use std::alloc::{AllocError, Global};
-use vl_row::{Row, Stream};
-
 ghost use Rattle.std.specs.Prelude.{◌≡◌, IfOk, IfErr};
 ghost use Rattle.lq_ast.specs.Holds.{holds, selects};
 ghost use Rattle.lq_ast.specs.Patterns.{patterns_of};
@@ -13,6 +5,14 @@ ghost use Rattle.lq_ast.specs.View.{condition, groups_of};
 ghost use Rattle.lq_filter.specs.Labels.{groups_of as prepared_groups};
 ghost use Rattle.lq_filter.specs.Refusal.{IsRefusal};
 ghost use Rattle.lq_filter.specs.Tree.{condition_of, moment_of, scanned};
+
+use crate::fault::PrepareFault;
+use crate::labels::Selector;
+use crate::matchers::Matchers;
+use crate::tree::Tree;
+use lq_ast::{Query, Select};
+use std::alloc::{AllocError, Global};
+use vl_row::{Row, Stream};
 
 /// A query whose filter is prepared.
 #[derive(Drop)]
@@ -97,6 +97,7 @@ impl<'p> Scan<'p> {
         ensures filter { scanned self.new ≡ scanned self.old }
         ensures moment { moment_of self.new ≡ moment_of self.old }
     {
-        self.filter.holds(self.alloc, &mut self.matchers, self.now, row)
+        self.filter
+            .holds(self.alloc, &mut self.matchers, self.now, row)
     }
 }
