@@ -46,8 +46,10 @@ impl Prepared {
     pub fn selects(&self, alloc: Global, group: &Select, s: &Stream) -> Result<bool, AllocError>
         ensures { IfOk result (λ found. found ≡ selects (groups_of group.now) s.now) }
     {
-        let selector = selector_of(alloc, group)?;
-        selects_by(&selector, alloc, s)
+        match self.filter.selector_of(group) {
+            Some(selector) => selects_by(selector, alloc, s),
+            None => selects_anew(alloc, group, s),
+        }
     }
 
     /// Begins a scan of rows, at the moment `now`, which makes the matcher of a pattern once.
@@ -62,6 +64,14 @@ impl Prepared {
             matchers: Matchers::new(alloc),
         }
     }
+}
+
+// By a selector that is no part of the query.
+fn selects_anew(alloc: Global, group: &Select, s: &Stream) -> Result<bool, AllocError>
+    ensures { IfOk result (λ found. found ≡ selects (groups_of group.now) s.now) }
+{
+    let selector = selector_of(alloc, group)?;
+    selects_by(&selector, alloc, s)
 }
 
 fn selector_of(alloc: Global, group: &Select) -> Result<Selector, AllocError>

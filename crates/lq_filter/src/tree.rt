@@ -1,10 +1,11 @@
 ghost use Rattle.std.specs.Prelude.{◌≡◌, ◌+◌, ◌-ℤ◌, ◌&&◌, ℕ, List, [], ◌∷◌, pos, int_le, int_lt, length, map};
-ghost use Rattle.std.specs.Prelude.{IfOk, IfErr, IsOk};
+ghost use Rattle.std.specs.Prelude.{IfOk, IfErr, IfSome, IsOk};
 ghost use Rattle.lq_ast.specs.Condition as is;
 ghost use Rattle.lq_ast.specs.Condition.{conditions};
 ghost use Rattle.lq_ast.specs.Holds.{all_hold, holds, is_within, some_holds};
 ghost use Rattle.lq_ast.specs.Patterns.{Pattern, patterns_among, patterns_of};
 ghost use Rattle.lq_ast.specs.View.{condition, groups_of};
+ghost use Rattle.lq_filter.specs.Labels.{groups_of as prepared_groups};
 ghost use Rattle.lq_filter.specs.Refusal.{IsRefusal};
 ghost use Rattle.lq_filter.specs.Tree.{condition_of_tree};
 ghost use Rattle.lq_filter.specs.Value.{condition_of_field};
@@ -173,6 +174,34 @@ impl Tree {
             Tree::Any(trees) => some_holds(trees.as_slice(), alloc, matchers, now, row),
         }
     }
+}
+
+impl Tree {
+    /// The selector in it that was prepared from this one, if one was.
+    #[cycle(finding)]
+    pub(crate) fn selector_of(&self, select: &Select) -> Option<&Selector>
+        ensures { IfSome result (λ selector. prepared_groups selector.now ≡ groups_of select.now) }
+    {
+        match self {
+            Tree::Selected(selector) if selector.is_of(select) => Some(selector),
+            Tree::Not(tree) => tree.selector_of(select),
+            Tree::All(trees) | Tree::Any(trees) => selector_among(trees.as_slice(), select),
+            _ => None,
+        }
+    }
+}
+
+#[cycle(finding)]
+fn selector_among<'t>(trees: &'t [Tree], select: &Select) -> Option<&'t Selector>
+    ensures { IfSome result (λ selector. prepared_groups selector.now ≡ groups_of select.now) }
+{
+    for tree in trees {
+        let found = tree.selector_of(select);
+        if found.is_some() {
+            return found;
+        }
+    }
+    None
 }
 
 #[cycle(holding)]
