@@ -1,5 +1,5 @@
 -- Conditions of which all hold, or some, as lists.
-use Rattle.std.proofs.Common.{◌≡◌, ℤ, Bool, ◌&&◌, ◌||◌, List, [], ◌∷◌, ◌++◌, map, refl, ap}
+use Rattle.std.proofs.Common.{◌≡◌, ℤ, ◌&&◌, ◌||◌, List, [], ◌∷◌, ◌++◌, map, refl, ap}
 use Rattle.std.specs.Prelude.{flat_map}
 use Rattle.std.specs.List.{list_all, list_any}
 use Rattle.log_model.specs.Row.{Row}

@@ -1,9 +1,9 @@
 -- Where a phrase stands, by the places at which its bytes do.
-use Rattle.std.proofs.Common.{◌≡◌, ◌<◌, ◌≤◌, ℕ, suc, ◌+◌, ◌-◌, Bool, true, false, not, ◌&&◌, List, [], ◌∷◌, length}
+use Rattle.std.proofs.Common.{◌≡◌, ◌<◌, ◌≤◌, ℕ, suc, ◌+◌, Bool, true, false, not, ◌&&◌, List, [], ◌∷◌, length}
 use Rattle.std.proofs.Common.{take, drop, chars, refl, sym, ap, ◌∙◌, Option, is_some, nat_eq, ⊎_elim, arith}
 use Rattle.std.proofs.lemmas.Bool.{cases_lt, false_from_ne_true}
 use Rattle.std.proofs.lemmas.Str.{chars-nil}
-use Rattle.std.specs.List.{list_any, range_with_len, starts_with}
+use Rattle.std.specs.List.{starts_with}
 use Rattle.memchr.specs.Find.{Nowhere, OccursAt}
 use Rattle.log_model.specs.Words.{begins_word, ends_word, occurs, stands_at}
 use Rattle.word_tokens.proofs.Places.{OccursAt-starts_with}
