@@ -1,6 +1,6 @@
 -- When a condition holds for a row (LogsQL, "Filters").
-use Rattle.std.specs.Prelude.{ℕ, ℤ, pos, ◌-ℤ◌, int_le, int_lt, Bool, true, false, not, ◌&&◌, ◌||◌, nat_le, nat_eq, ◌==◌}
-use Rattle.std.specs.Prelude.{List, [], ◌∷◌, length, chars, bytes_eq, if◌then◌else◌}
+use Rattle.std.specs.Prelude.{ℤ, pos, ◌-ℤ◌, int_le, int_lt, Bool, true, false, not, ◌&&◌, ◌||◌, nat_le, nat_eq, ◌==◌}
+use Rattle.std.specs.Prelude.{List, length, chars, bytes_eq, if◌then◌else◌}
 use Rattle.std.specs.List.{list_all, list_any, starts_with}
 use Rattle.std.specs.Option.{option_map_or}
 use Rattle.std.specs.Ordering.{is_lt}
@@ -13,7 +13,6 @@ use Rattle.lq_ast.specs.Condition.{Condition, Conditions, Test, Tests}
 use Rattle.lq_ast.specs.Condition as is
 use Rattle.lq_ast.specs.Patterns.{is_found, whole}
 use Rattle.lq_ast.specs.Phrases.{case_folded, in_order}
-use Rattle.lq_ast.specs.declared.select.How.{How}
 use Rattle.lq_ast.specs.declared.select.How.TheVariants.{Is, IsNot, Matches, MatchesNot}
 
 -- The integer is between the ends, both included.

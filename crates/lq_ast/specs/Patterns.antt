@@ -5,7 +5,6 @@ use Rattle.regex.specs.Patterns.{default_config, find_str}
 use Rattle.regex_syntax.specs.Grammar.{read}
 use Rattle.lq_ast.specs.Condition.{Condition, Conditions, Test}
 use Rattle.lq_ast.specs.Condition as is
-use Rattle.lq_ast.specs.declared.select.How.{How}
 use Rattle.lq_ast.specs.declared.select.How.TheVariants.{Is, IsNot, Matches, MatchesNot}
 
 -- The grammar of `regex` has the text, and it nests no deeper than `regex` allows.

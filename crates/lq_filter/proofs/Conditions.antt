@@ -1,5 +1,5 @@
 -- Conditions of which all hold, or some, as lists.
-use Rattle.std.proofs.Common.{◌≡◌, ℤ, Bool, ◌&&◌, ◌||◌, List, [], ◌∷◌, ◌++◌, map, refl, ap}
+use Rattle.std.proofs.Common.{◌≡◌, ℤ, ◌&&◌, ◌||◌, List, [], ◌∷◌, ◌++◌, map, refl, ap}
 use Rattle.std.specs.Prelude.{flat_map}
 use Rattle.std.specs.List.{list_all, list_any}
 use Rattle.log_model.specs.Row.{Row}
@@ -18,6 +18,7 @@ module _ {X : Type 0} (mean : X → Condition) where
   some_holds-list now row [] = refl
   some_holds-list now row (x ∷ xs) = ap (λ b. holds now (mean x) row || b) (some_holds-list now row xs)
 
-  pub patterns_among-list : (xs : List X) → flat_map (λ x. patterns_of (mean x)) xs ≡ patterns_among (conditions (map mean xs))
+  pub patterns_among-list : (xs : List X) → flat_map (λ x. patterns_of (mean x)) xs ≡ patterns_among
+      (conditions (map mean xs))
   patterns_among-list [] = refl
   patterns_among-list (x ∷ xs) = ap (λ ps. patterns_of (mean x) ++ ps) (patterns_among-list xs)

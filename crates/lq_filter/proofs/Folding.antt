@@ -1,5 +1,5 @@
 -- The case folding of ASCII.
-use Rattle.std.proofs.Common.{◌≡◌, ℕ, List, IsAscii, chars, encode_utf8_all, map, sym, ap, ◌∙◌}
+use Rattle.std.proofs.Common.{◌≡◌, ℕ, List, IsAscii, encode_utf8_all, map, sym, ap, ◌∙◌}
 use Rattle.std.specs.Char.{to_ascii_lowercase}
 use Rattle.std.proofs.lemmas.Str.{chars-IsAscii, encodes-IsAscii}
 use Rattle.std.proofs.lemmas.Str.Ascii.{All-from_ascii, IsAscii-map, lowercase_ascii}

@@ -1,5 +1,6 @@
 -- The first place that passes a test, and whether some place passes it.
-use Rattle.std.proofs.Common.{◌≡◌, ◌<◌, ◌≤◌, ℕ, zero, suc, ◌+◌, ◌-◌, Bool, true, false, ◌&&◌, ◌||◌, List, length, get_or}
+use Rattle.std.proofs.Common.{◌≡◌, ◌<◌, ◌≤◌, ℕ, zero, suc, ◌+◌, ◌-◌, Bool, true, false, ◌||◌}
+use Rattle.std.proofs.Common.{get_or}
 use Rattle.std.proofs.Common.{refl, sym, ◌∙◌, Option, None, Some, is_some, arith}
 use Rattle.std.specs.List.{list_any, range_with_len}
 use Rattle.std.proofs.lemmas.Bool.{false_from_ne_true}
@@ -23,12 +24,19 @@ first_or_later test from n true later e ahead h =
     record { place = from; low = omega arith; high = omega arith; passes = e }
 first_or_later test from n false later e ahead h =
     let found = ahead h in
-    record { place = found.place; low = omega (arith, found.low); high = omega (arith, found.high); passes = found.passes }
+    record {
+      place = found.place;
+      low = omega (arith, found.low);
+      high = omega
+          (arith, found.high);
+      passes = found.passes;
+    }
 
 pub found_in : (test : ℕ → Bool) (from n : ℕ) → list_any test (range_with_len from n) ≡ true → Found test from n
 found_in test from zero h = false_is_no_true _ h
 found_in test from (suc n) h =
-    first_or_later test from n (test from) (list_any test (range_with_len (from + 1) n)) refl (found_in test (from + 1) n) h
+    first_or_later test from n (test from) (list_any test (range_with_len (from + 1) n)) refl
+    (found_in test (from + 1) n) h
 
 pub any_at : (test : ℕ → Bool) (from n place : ℕ) → from ≤ place → place < from + n → test place ≡ true
     → list_any test (range_with_len from n) ≡ true

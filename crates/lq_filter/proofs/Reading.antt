@@ -1,5 +1,6 @@
 -- A regular expression as it is read from its text.
-use Rattle.std.proofs.Common.{◌≡◌, ◌<◌, ◌≤◌, ℕ, Bool, false, List, None, Some, Option, is_some, get_or, refl, sym, ◌∙◌, ◌⊎◌}
+use Rattle.std.proofs.Common.{◌≡◌, ◌<◌, ◌≤◌, ℕ, Bool, false, List, None, Some, Option, is_some, refl}
+use Rattle.std.proofs.Common.{◌⊎◌}
 use Rattle.std.proofs.Common.{inl, inr, ◌≢◌, arith}
 use Rattle.std.specs.Prelude.{IsSomeAnd, IfSome}
 use Rattle.std.specs.Option.{option_map_or}
@@ -8,11 +9,11 @@ use Rattle.regex.specs.Patterns.{Re, Reads, Refuses, default_config, find_str}
 use Rattle.regex.specs.Strings.{IsReadFromSource, regex_config, regex_pattern, regex_source}
 use Rattle.regex.specs.declared.string.regex.Regex.{Regex}
 use Rattle.regex_syntax.specs.Brackets.{Nested}
-use Rattle.regex_syntax.specs.Grammar.{Names, read}
+use Rattle.regex_syntax.specs.Grammar.{Names}
 use Rattle.regex_syntax.specs.Same.{SameTree}
 use Rattle.regex_syntax.specs.declared.error.ErrorKind.{ErrorKind}
 use Rattle.regex_syntax.specs.declared.error.ErrorKind.TheVariants.{OutOfMemory}
-use Rattle.lq_ast.specs.Patterns.{IsReadable, is_found}
+use Rattle.lq_ast.specs.Patterns.{IsReadable}
 use Rattle.lq_filter.specs.Reads.{FindsAs}
 
 none_of : (o : Option (Nested Re × Names)) (X : Type 0) (n : ℕ) → (o ≡ None) ⊎ (X × IfSome o (λ (re, _). n < re.depth))
@@ -27,7 +28,8 @@ unfolding Refuses
 not_readable p k other (inl m) q = other m
 not_readable p k other (inr r) q = none_of _ _ _ r q
 
-by_reading : (o : Option (Nested Re × Names)) (Q : Nested Re × Names → Type 0) (b : Bool) (f : Re → Bool) → IsSomeAnd o Q
+by_reading : (o : Option (Nested Re × Names)) (Q : Nested Re × Names → Type 0) (b : Bool) (f : Re → Bool)
+    → IsSomeAnd o Q
     → ((re : Re) → IsSomeAnd o (λ (found, _). SameTree found.value re) → b ≡ f re)
     → b ≡ option_map_or (λ (re, _). f re.value) o false
 by_reading None Q b f p h = absurd p

@@ -1,6 +1,7 @@
 -- Which of several patterns is refused, and lists that are prepared element by element.
-use Rattle.std.proofs.Common.{◌≡◌, ◌<◌, ◌≤◌, ℕ, zero, suc, ◌+◌, ◌-◌, List, [], ◌∷◌, ◌++◌, length, drop, map, get_or, refl, sym}
-use Rattle.std.proofs.Common.{ap, ◌∙◌, append_assoc, length-append, arith, Some, None}
+use Rattle.std.proofs.Common.{◌≡◌, ◌<◌, ◌≤◌, ℕ, zero, suc, ◌+◌, ◌-◌, List, [], ◌∷◌, ◌++◌, length, drop, map, get_or}
+use Rattle.std.proofs.Common.{refl, sym}
+use Rattle.std.proofs.Common.{ap, ◌∙◌, append_assoc, length-append, arith}
 use Rattle.std.specs.Prelude.{IsSomeAnd, IsErrAnd, IfErr, Result, Ok, Err, slice_get, flat_map}
 use Rattle.std.proofs.lemmas.List.{map-append}
 use Rattle.std.proofs.lemmas.List.{append-nil, drop_all}
@@ -10,7 +11,8 @@ use Rattle.lq_filter.specs.declared.fault.PrepareFault.{PrepareFault}
 use Rattle.lq_filter.specs.declared.fault.PrepareFault.TheVariants.{RegexRefused, Memory}
 use Rattle.lq_filter.proofs.Walks.{rest_is}
 
-some_more : {X : Type 0} (P : X → Type 0) (xs ys : List X) (k : ℕ) → IsSomeAnd (slice_get xs k) P → IsSomeAnd (slice_get (xs ++ ys) k) P
+some_more : {X : Type 0} (P : X → Type 0) (xs ys : List X) (k : ℕ) → IsSomeAnd (slice_get xs k) P
+    → IsSomeAnd (slice_get (xs ++ ys) k) P
 some_more P [] ys k h = absurd h
 some_more P (x ∷ xs) ys zero h = h
 some_more P (x ∷ xs) ys (suc k) h = some_more P xs ys k h
@@ -21,7 +23,8 @@ some_later P [] ys k n e h = let same : n ≡ k = omega arith in rw same h
 some_later P (x ∷ xs) ys k zero e h = absurd (omega arith)
 some_later P (x ∷ xs) ys k (suc n) e h = some_later P xs ys k n (omega arith) h
 
-pub refusal_before : (first : ℕ) (xs ys : List Pattern) (fault : PrepareFault) → IsRefusal first xs fault → IsRefusal first (xs ++ ys) fault
+pub refusal_before : (first : ℕ) (xs ys : List Pattern) (fault : PrepareFault) → IsRefusal first xs fault
+    → IsRefusal first (xs ++ ys) fault
 refusal_before first xs ys (RegexRefused nth) h = (h.0, some_more _ xs ys (nth - first) h.1)
 refusal_before first xs ys Memory h = h
 
@@ -37,10 +40,12 @@ refused_one nth tried unreadable =
 
 -- What is left of a list to prepare: what is made so far is of the elements that were passed, the number of the next
 -- pattern counts those of them, and what is refused from here on is refused of the whole list.
-pub record Left {X C : Type 0} (mean : X → C) (patterns : X → List Pattern) (xs : List X) (first i : ℕ) (made : List C) (nth : ℕ) : Type 0 where
+pub record Left {X C : Type 0} (mean : X → C) (patterns : X → List Pattern) (xs : List X) (first i : ℕ)
+    (made : List C) (nth : ℕ) : Type 0 where
   pub built : made ++ map mean (drop i xs) ≡ map mean xs
   pub counted : nth + length (flat_map patterns (drop i xs)) ≡ first + length (flat_map patterns xs)
-  pub refused : (fault : PrepareFault) → IsRefusal nth (flat_map patterns (drop i xs)) fault → IsRefusal first (flat_map patterns xs) fault
+  pub refused : (fault : PrepareFault) → IsRefusal nth (flat_map patterns (drop i xs)) fault
+      → IsRefusal first (flat_map patterns xs) fault
 
 module _ {X C : Type 0} (mean : X → C) (patterns : X → List Pattern) (xs : List X) (first : ℕ) where
   pub left_at_first : Left mean patterns xs first 0 [] first
@@ -51,14 +56,17 @@ module _ {X C : Type 0} (mean : X → C) (patterns : X → List Pattern) (xs : L
       rest : drop i xs ≡ x ∷ drop (i + 1) xs
       rest = rest_is xs i x below is
 
-      pub refused_here : (fault : PrepareFault) → IsRefusal nth (patterns x) fault → IsRefusal first (flat_map patterns xs) fault
-      refused_here fault h = left.refused fault (rw rest (refusal_before nth (patterns x) (flat_map patterns (drop (i + 1) xs)) fault h))
+      pub refused_here : (fault : PrepareFault) → IsRefusal nth (patterns x) fault
+          → IsRefusal first (flat_map patterns xs) fault
+      refused_here fault h = left.refused fault (rw rest (refusal_before nth (patterns x)
+          (flat_map patterns (drop (i + 1) xs)) fault h))
 
       pub left_behind : (c : C) (next : ℕ) → c ≡ mean x → next ≡ nth + length (patterns x)
           → Left mean patterns xs first (i + 1) (made ++ c ∷ []) next
       left_behind c next same counted = record {
         built = append_assoc made (c ∷ []) (map mean (drop (i + 1) xs))
-            ∙ ap (λ d. made ++ d ∷ map mean (drop (i + 1) xs)) same ∙ sym (ap (λ ys. made ++ map mean ys) rest) ∙ left.built;
+            ∙ ap (λ d. made ++ d ∷ map mean (drop (i + 1) xs)) same ∙ sym (ap (λ ys. made ++ map mean ys) rest)
+            ∙ left.built;
         counted =
             let split = ap (λ ys. length (flat_map patterns ys)) rest in
             omega (arith, split, left.counted, length-append (patterns x) (flat_map patterns (drop (i + 1) xs)));
@@ -70,9 +78,11 @@ module _ {X C : Type 0} (mean : X → C) (patterns : X → List Pattern) (xs : L
     all_made ends = sym (append-nil made) ∙ ap (λ ys. made ++ map mean ys) (sym (drop_all i xs ends)) ∙ left.built
 
     pub all_counted : length xs ≤ i → nth ≡ first + length (flat_map patterns xs)
-    all_counted ends = let none = ap (λ ys. length (flat_map patterns ys)) (drop_all i xs ends) in omega (arith, none, left.counted)
+    all_counted ends = let none = ap (λ ys. length (flat_map patterns ys)) (drop_all i xs ends) in omega
+        (arith, none, left.counted)
 
-pub flat_map-map : {X Y Z : Type 0} (f : Y → List Z) (g : X → Y) (xs : List X) → flat_map f (map g xs) ≡ flat_map (λ x. f (g x)) xs
+pub flat_map-map : {X Y Z : Type 0} (f : Y → List Z) (g : X → Y) (xs : List X)
+    → flat_map f (map g xs) ≡ flat_map (λ x. f (g x)) xs
 flat_map-map f g [] = refl
 flat_map-map f g (x ∷ xs) = ap (λ zs. f (g x) ++ zs) (flat_map-map f g xs)
 
@@ -86,7 +96,8 @@ module _ {X Y : Type 0} (patterns : Y → List Pattern) (mean : X → Y) (xs ite
   as_mapped : flat_map (λ x. patterns (mean x)) items ≡ flat_map patterns (map mean xs)
   as_mapped = ap (flat_map (λ x. patterns (mean x))) same ∙ sym (flat_map-map patterns mean xs)
 
-  pub refused_mapped : (first : ℕ) (fault : PrepareFault) → IsRefusal first (flat_map (λ x. patterns (mean x)) items) fault
+  pub refused_mapped : (first : ℕ) (fault : PrepareFault) → IsRefusal first
+      (flat_map (λ x. patterns (mean x)) items) fault
       → IsRefusal first (flat_map patterns (map mean xs)) fault
   refused_mapped first fault h = rw as_mapped at h
 
@@ -94,5 +105,6 @@ module _ {X Y : Type 0} (patterns : Y → List Pattern) (mean : X → Y) (xs ite
       → nth ≡ first + length (flat_map patterns (map mean xs))
   counted_mapped first nth h = rw as_mapped at h
 
-pub map_one_more : {X C : Type 0} (show : X → C) (xs more : List X) (x : X) → more ≡ xs ++ x ∷ [] → map show more ≡ map show xs ++ show x ∷ []
+pub map_one_more : {X C : Type 0} (show : X → C) (xs more : List X) (x : X) → more ≡ xs ++ x ∷ []
+    → map show more ≡ map show xs ++ show x ∷ []
 map_one_more show xs more x e = ap (map show) e ∙ map-append show xs (x ∷ [])

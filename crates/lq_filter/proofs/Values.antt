@@ -17,10 +17,11 @@ last_of false false true t s i v e = let bad : ⊥ = cc in absurd bad
 last_of false false false t s i v e = refl
 
 -- the value of a field that is not computed is stored
-pub stored_value : (row : Row) (name : List ℕ) → is_reserved name ≡ false → field_value row.fields name ≡ value_of row name
+pub stored_value : (row : Row) (name : List ℕ) → is_reserved name ≡ false
+    → field_value row.fields name ≡ value_of row name
 stored_value row name e =
     last_of (bytes_eq name (codes "_time")) (bytes_eq name (codes "_stream")) (bytes_eq name (codes "_stream_id"))
-      (moment_text row.moment) (label_text row.labels) (stream_id row.labels) (field_value row.fields name) e
+    (moment_text row.moment) (label_text row.labels) (stream_id row.labels) (field_value row.fields name) e
 
 -- what is asked of the value of a field holds for a row where its condition does
 pub value_holds-holds : (now : ℤ) (row : Row) (name : List ℕ) (asked : ValueTest)

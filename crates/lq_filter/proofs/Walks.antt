@@ -1,17 +1,21 @@
 -- Walks over a list, by what its rest says once the first elements are passed.
-use Rattle.std.proofs.Common.{◌≡◌, ◌<◌, ◌≤◌, ℕ, suc, ◌+◌, Bool, true, false, ◌&&◌, ◌||◌, List, [], ◌∷◌, length, drop, map}
+use Rattle.std.proofs.Common.{◌≡◌, ◌<◌, ◌≤◌, ℕ, suc, ◌+◌, Bool, true, false, ◌&&◌, ◌||◌, List, [], ◌∷◌, length}
+use Rattle.std.proofs.Common.{drop, map}
 use Rattle.std.proofs.Common.{get_or, refl, sym, ap, ◌∙◌, drop-cons, add-one}
 use Rattle.std.proofs.lemmas.List.{drop_all}
 use Rattle.std.specs.List.{list_all, list_any}
 
-pub rest_is : {X : Type 0} (xs : List X) (i : ℕ) (x : X) → i < length xs → x ≡ get_or xs i x → drop i xs ≡ x ∷ drop (i + 1) xs
+pub rest_is : {X : Type 0} (xs : List X) (i : ℕ) (x : X) → i < length xs → x ≡ get_or xs i x
+    → drop i xs ≡ x ∷ drop (i + 1) xs
 rest_is xs i x below is = drop-cons xs i x below ∙ ap (λ y. y ∷ drop (suc i) xs) (sym is) ∙ rw add-one refl
 
-pub all_mapped : {X Y : Type 0} (test : Y → Bool) (f : X → Y) (xs : List X) → list_all (λ x. test (f x)) xs ≡ list_all test (map f xs)
+pub all_mapped : {X Y : Type 0} (test : Y → Bool) (f : X → Y) (xs : List X)
+    → list_all (λ x. test (f x)) xs ≡ list_all test (map f xs)
 all_mapped test f [] = refl
 all_mapped test f (x ∷ xs) = ap (λ b. test (f x) && b) (all_mapped test f xs)
 
-pub any_mapped : {X Y : Type 0} (test : Y → Bool) (f : X → Y) (xs : List X) → list_any (λ x. test (f x)) xs ≡ list_any test (map f xs)
+pub any_mapped : {X Y : Type 0} (test : Y → Bool) (f : X → Y) (xs : List X)
+    → list_any (λ x. test (f x)) xs ≡ list_any test (map f xs)
 any_mapped test f [] = refl
 any_mapped test f (x ∷ xs) = ap (λ b. test (f x) || b) (any_mapped test f xs)
 

@@ -1,5 +1,6 @@
 -- What a prepared test asks of a value, and the condition that it was made from.
-use Rattle.std.specs.Prelude.{ℕ, Bool, true, false, not, ◌&&◌, nat_le, nat_eq, List, length, chars, bytes_eq, if◌then◌else◌}
+use Rattle.std.specs.Prelude.{ℕ, Bool, false, not, ◌&&◌, nat_le, nat_eq, List, length, chars, bytes_eq}
+use Rattle.std.specs.Prelude.{if◌then◌else◌}
 use Rattle.std.specs.List.{list_any, starts_with}
 use Rattle.std.specs.Option.{option_map_or}
 use Rattle.std.specs.Ordering.{is_lt}
@@ -14,7 +15,8 @@ use Rattle.word_tokens.specs.Prefix.{occurs_as_prefix}
 use Rattle.lq_filter.specs.declared.value.FieldTest.{FieldTest}
 use Rattle.lq_filter.specs.declared.value.ValueTest.{ValueTest}
 use Rattle.lq_filter.specs.declared.value.ValueTest.TheVariants.{Filled, Missing, Phrase, Prefix, Exact, ExactPrefix}
-use Rattle.lq_filter.specs.declared.value.ValueTest.TheVariants.{OneOf, Pattern, Folded, Sequence, Length, Between, Number}
+use Rattle.lq_filter.specs.declared.value.ValueTest.TheVariants.{OneOf, Pattern, Folded, Sequence, Length, Between}
+use Rattle.lq_filter.specs.declared.value.ValueTest.TheVariants.{Number}
 
 abbrev pub value_holds : ValueTest → List ℕ → Bool
 value_holds Filled value = not (is_empty value)

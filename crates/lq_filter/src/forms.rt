@@ -1,15 +1,15 @@
 // What each form of filter asks of the value of its field.
-use crate::pattern::Pattern;
-use crate::fault::PrepareFault;
-use crate::phrase::Phrase;
-use crate::value::{FieldTest, Folded, ValueTest};
-use std::alloc::{AllocError, Global};
-use vl_row::Text;
-
 ghost use Rattle.std.specs.Prelude.{◌≡◌, ◌+◌, [], ◌∷◌, IfOk, IfErr, IsOk};
 ghost use Rattle.lq_ast.specs.Condition as is;
 ghost use Rattle.lq_filter.specs.Refusal.{IsRefusal};
 ghost use Rattle.lq_filter.specs.Value.{condition_of_field, condition_on};
+
+use crate::fault::PrepareFault;
+use crate::pattern::Pattern;
+use crate::phrase::Phrase;
+use crate::value::{FieldTest, Folded, ValueTest};
+use std::alloc::{AllocError, Global};
+use vl_row::Text;
 
 fn on(alloc: Global, field: &Text, test: ValueTest) -> Result<FieldTest, AllocError>
     ensures { IfOk result (λ made. condition_of_field made ≡ condition_on field.now test) }
@@ -51,7 +51,11 @@ pub(crate) fn exact(alloc: Global, field: &Text, text: &Text) -> Result<FieldTes
     on(alloc, field, ValueTest::Exact(text))
 }
 
-pub(crate) fn exact_prefix(alloc: Global, field: &Text, text: &Text) -> Result<FieldTest, AllocError>
+pub(crate) fn exact_prefix(
+    alloc: Global,
+    field: &Text,
+    text: &Text,
+) -> Result<FieldTest, AllocError>
     ensures { IfOk result (λ made. condition_of_field made ≡ is.exact_prefix field.now text.now) }
 {
     let text = text.try_copy(alloc)?;
@@ -76,7 +80,12 @@ fn copies(alloc: Global, texts: &[Text]) -> Result<Vec<Text>, AllocError>
 }
 
 /// Reads the pattern, whose number is `nth`, and raises that by one.
-pub(crate) fn pattern(alloc: Global, field: &Text, text: &Text, nth: &mut u32) -> Result<FieldTest, PrepareFault>
+pub(crate) fn pattern(
+    alloc: Global,
+    field: &Text,
+    text: &Text,
+    nth: &mut u32,
+) -> Result<FieldTest, PrepareFault>
     ensures same { IfOk result (λ made. condition_of_field made ≡ is.pattern field.now text.now) }
     ensures counted { IsOk result → nth.new ≡ nth.old + 1 }
     ensures refused { IfErr result (IsRefusal nth.old ((text.now, text.now) ∷ [])) }
@@ -111,13 +120,23 @@ fn phrases(alloc: Global, texts: &[Text]) -> Result<Vec<Phrase>, AllocError>
     Ok(all)
 }
 
-pub(crate) fn length(alloc: Global, field: &Text, low: u64, high: u64) -> Result<FieldTest, AllocError>
+pub(crate) fn length(
+    alloc: Global,
+    field: &Text,
+    low: u64,
+    high: u64,
+) -> Result<FieldTest, AllocError>
     ensures { IfOk result (λ made. condition_of_field made ≡ is.length_in field.now low high) }
 {
     on(alloc, field, ValueTest::Length { low, high })
 }
 
-pub(crate) fn between(alloc: Global, field: &Text, low: &Text, high: &Text) -> Result<FieldTest, AllocError>
+pub(crate) fn between(
+    alloc: Global,
+    field: &Text,
+    low: &Text,
+    high: &Text,
+) -> Result<FieldTest, AllocError>
     ensures { IfOk result (λ made. condition_of_field made ≡ is.text_in field.now low.now high.now) }
 {
     let low = low.try_copy(alloc)?;
@@ -125,7 +144,12 @@ pub(crate) fn between(alloc: Global, field: &Text, low: &Text, high: &Text) -> R
     on(alloc, field, ValueTest::Between { low, high })
 }
 
-pub(crate) fn number(alloc: Global, field: &Text, low: i128, high: i128) -> Result<FieldTest, AllocError>
+pub(crate) fn number(
+    alloc: Global,
+    field: &Text,
+    low: i128,
+    high: i128,
+) -> Result<FieldTest, AllocError>
     ensures { IfOk result (λ made. condition_of_field made ≡ is.number_in field.now low high) }
 {
     on(alloc, field, ValueTest::Number { low, high })

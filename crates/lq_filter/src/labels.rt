@@ -1,12 +1,4 @@
-use crate::fault::PrepareFault;
-use crate::matchers::Matchers;
-use crate::pattern::Pattern;
-use lq_ast::{Group, How, LabelTest, Select};
-use std::alloc::{AllocError, Global};
-use std::marker::Model;
-use vl_row::{Stream, Text};
-
-ghost use Rattle.std.specs.Prelude.{◌≡◌, ◌+◌, ℕ, Err, length, flat_map, IfOk, IfErr, IsOk};
+ghost use Rattle.std.specs.Prelude.{◌≡◌, ◌+◌, ℕ, Err, length, flat_map, IfOk, IfErr, IsOk, IsTrue};
 ghost use Rattle.std.specs.List.{list_all};
 ghost use Rattle.lq_ast.specs.Holds.{passes, selects};
 ghost use Rattle.lq_ast.specs.Patterns.{patterns_of_test};
@@ -14,6 +6,14 @@ ghost use Rattle.lq_ast.specs.View.{groups_of, test_of, tests_of};
 ghost use Rattle.lq_filter.specs.Labels.{groups_of as prepared_groups, how_of, test_of as prepared_test};
 ghost use Rattle.lq_filter.specs.Labels.{tests_of as prepared_tests, text_of};
 ghost use Rattle.lq_filter.specs.Refusal.{IsRefusal};
+
+use crate::fault::PrepareFault;
+use crate::matchers::Matchers;
+use crate::pattern::Pattern;
+use lq_ast::{Group, How, LabelTest, Select};
+use std::alloc::{AllocError, Global};
+use std::marker::Model;
+use vl_row::{Stream, Text};
 
 /// A selector of streams, whose patterns are read.
 #[derive(Drop)]
@@ -61,11 +61,16 @@ impl Model for WholePattern {
 
 impl Selector {
     /// Prepares a selector, whose first pattern has the number `nth`, and raises it by the number of patterns.
-    pub(crate) fn new(alloc: Global, select: &Select, nth: &mut u32) -> Result<Selector, PrepareFault>
+    pub(crate) fn new(
+        alloc: Global,
+        select: &Select,
+        nth: &mut u32,
+    ) -> Result<Selector, PrepareFault>
         ensures same { IfOk result (λ selector. prepared_groups selector ≡ groups_of select.now) }
         ensures counted { IsOk result →
             nth.new ≡ nth.old + length (flat_map (flat_map patterns_of_test) (groups_of select.now)) }
-        ensures refused { IfErr result (IsRefusal nth.old (flat_map (flat_map patterns_of_test) (groups_of select.now))) }
+        ensures refused { IfErr result
+            (IsRefusal nth.old (flat_map (flat_map patterns_of_test) (groups_of select.now))) }
     {
         let mut groups = Vec::new(alloc);
         for group in &select.groups {
@@ -73,6 +78,21 @@ impl Selector {
             groups.push(prepared)?;
         }
         Ok(Selector { groups })
+    }
+
+    /// Whether it was prepared from this selector.
+    pub(crate) fn is_of(&self, select: &Select) -> bool
+        ensures { IsTrue result → prepared_groups self.now ≡ groups_of select.now }
+    {
+        if self.groups.len() != select.groups.len() {
+            return false;
+        }
+        for place in 0..self.groups.len() {
+            if !self.groups[place].is_of(&select.groups[place]) {
+                return false;
+            }
+        }
+        true
     }
 
     /// Whether some group has all its tests true. Without groups every stream is selected.
@@ -111,6 +131,20 @@ impl PreparedGroup {
         Ok(PreparedGroup { tests })
     }
 
+    fn is_of(&self, group: &Group) -> bool
+        ensures { IsTrue result → prepared_tests self.now ≡ tests_of group.now }
+    {
+        if self.tests.len() != group.labels.len() {
+            return false;
+        }
+        for place in 0..self.tests.len() {
+            if !self.tests[place].is_of(&group.labels[place]) {
+                return false;
+            }
+        }
+        true
+    }
+
     fn selects<'p>(
         &'p self,
         alloc: Global,
@@ -138,6 +172,12 @@ impl PreparedTest {
         let name = test.name.try_copy(alloc)?;
         let asked = Asked::new(alloc, test.how, &test.text, nth)?;
         Ok(PreparedTest { name, asked })
+    }
+
+    fn is_of(&self, test: &LabelTest) -> bool
+        ensures { IsTrue result → prepared_test self.now ≡ test_of test.now }
+    {
+        self.name.as_str() == test.name.as_str() && self.asked.is_of(test.how, test.text.as_str())
     }
 
     fn holds<'p>(
@@ -172,6 +212,19 @@ impl Asked {
             How::IsNot => Ok(Asked::IsNot(text.try_copy(alloc)?)),
             How::Matches => Ok(Asked::Matches(WholePattern::new(alloc, text, nth)?)),
             How::MatchesNot => Ok(Asked::MatchesNot(WholePattern::new(alloc, text, nth)?)),
+        }
+    }
+
+    fn is_of(&self, how: How, text: &str) -> bool
+        ensures how { IsTrue result → how_of self.now ≡ how }
+        ensures text { IsTrue result → text_of self.now ≡ text.now }
+    {
+        match (self, how) {
+            (Asked::Is(own), How::Is) => own.as_str() == text,
+            (Asked::IsNot(own), How::IsNot) => own.as_str() == text,
+            (Asked::Matches(own), How::Matches) => own.text.as_str() == text,
+            (Asked::MatchesNot(own), How::MatchesNot) => own.text.as_str() == text,
+            _ => false,
         }
     }
 }

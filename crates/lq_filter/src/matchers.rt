@@ -1,11 +1,11 @@
-use crate::pattern::Pattern;
-use regex::Matcher;
-use std::alloc::{AllocError, Global};
-
 ghost use Rattle.std.specs.Prelude.{◌≡◌, IfOk, slice_index, ℕ, ◌<◌};
 ghost use Rattle.regex.specs.Strings.{matcher_pattern};
 ghost use Rattle.lq_ast.specs.Patterns.{is_found};
 ghost use Rattle.lq_filter.specs.Reads.{FindsAs};
+
+use crate::pattern::Pattern;
+use regex::Matcher;
+use std::alloc::{AllocError, Global};
 
 /// The matcher of one pattern.
 #[derive(Drop)]

@@ -1,13 +1,13 @@
-use crate::fault::PrepareFault;
-use regex::{Error, Matcher, Regex};
-use std::alloc::{AllocError, Global};
-use std::marker::Model;
-
 ghost use Rattle.std.specs.Prelude.{◌≡◌, [], ◌∷◌, IfOk, IfErr, string_bytes};
 ghost use Rattle.regex.specs.Strings.{matcher_pattern};
 ghost use Rattle.lq_ast.specs.Patterns.{CanBeRead, IsReadable, Pattern as Tried, whole};
 ghost use Rattle.lq_filter.specs.Reads.{FindsAs};
 ghost use Rattle.lq_filter.specs.Refusal.{IsRefusal};
+
+use crate::fault::PrepareFault;
+use regex::{Error, Matcher, Regex};
+use std::alloc::{AllocError, Global};
+use std::marker::Model;
 
 /// A regular expression that was read from its text.
 #[derive(Drop)]
@@ -31,7 +31,8 @@ impl Pattern {
     /// Reads the text, which belongs to the pattern with number `nth`.
     pub(crate) fn new(alloc: Global, text: &str, nth: u32) -> Result<Pattern, PrepareFault>
         ensures ok { IfOk result (λ pattern. pattern ≡ text.now) }
-        ensures refused { (tried : Tried) → (CanBeRead tried → IsReadable text.now) → IfErr result (IsRefusal nth (tried ∷ [])) }
+        ensures refused { (tried : Tried) → (CanBeRead tried → IsReadable text.now)
+            → IfErr result (IsRefusal nth (tried ∷ [])) }
     {
         match Regex::new(alloc, text) {
             Ok(regex) => Ok(Pattern { regex }),

@@ -1,13 +1,13 @@
-use memchr::memmem::Finder;
-use std::alloc::{AllocError, Global};
-use std::marker::Model;
-use word_tokens::is_word;
-
 ghost use Rattle.std.specs.Prelude.{◌≡◌, ◌==◌, ◌<◌, ◌≤◌, ◌+◌, false, length, chars, IfOk, IfSome};
 ghost use Rattle.memchr.specs.Find.{FindsNeedle, OccursAt};
 ghost use Rattle.log_model.specs.Words.{begins_word as begins_word_of, ends_word as ends_word_of, occurs, stands_at};
 ghost use Rattle.word_tokens.specs.Prefix.{occurs_as_prefix};
 ghost use Rattle.lq_filter.specs.Search.{FindsFirst, stands_apart_at};
+
+use memchr::memmem::Finder;
+use std::alloc::{AllocError, Global};
+use std::marker::Model;
+use word_tokens::is_word;
 
 /// A phrase, with a searcher for its bytes that is made once.
 #[derive(Drop)]

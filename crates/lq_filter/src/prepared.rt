@@ -1,11 +1,3 @@
-use crate::fault::PrepareFault;
-use crate::labels::Selector;
-use crate::matchers::Matchers;
-use crate::tree::Tree;
-use lq_ast::{Query, Select};
-use std::alloc::{AllocError, Global};
-use vl_row::{Row, Stream};
-
 ghost use Rattle.std.specs.Prelude.{◌≡◌, IfOk, IfErr};
 ghost use Rattle.lq_ast.specs.Holds.{holds, selects};
 ghost use Rattle.lq_ast.specs.Patterns.{patterns_of};
@@ -13,6 +5,14 @@ ghost use Rattle.lq_ast.specs.View.{condition, groups_of};
 ghost use Rattle.lq_filter.specs.Labels.{groups_of as prepared_groups};
 ghost use Rattle.lq_filter.specs.Refusal.{IsRefusal};
 ghost use Rattle.lq_filter.specs.Tree.{condition_of, moment_of, scanned};
+
+use crate::fault::PrepareFault;
+use crate::labels::Selector;
+use crate::matchers::Matchers;
+use crate::tree::Tree;
+use lq_ast::{Query, Select};
+use std::alloc::{AllocError, Global};
+use vl_row::{Row, Stream};
 
 /// A query whose filter is prepared.
 #[derive(Drop)]
@@ -46,8 +46,10 @@ impl Prepared {
     pub fn selects(&self, alloc: Global, group: &Select, s: &Stream) -> Result<bool, AllocError>
         ensures { IfOk result (λ found. found ≡ selects (groups_of group.now) s.now) }
     {
-        let selector = selector_of(alloc, group)?;
-        selects_by(&selector, alloc, s)
+        match self.filter.selector_of(group) {
+            Some(selector) => selects_by(selector, alloc, s),
+            None => selects_anew(alloc, group, s),
+        }
     }
 
     /// Begins a scan of rows, at the moment `now`, which makes the matcher of a pattern once.
@@ -62,6 +64,14 @@ impl Prepared {
             matchers: Matchers::new(alloc),
         }
     }
+}
+
+// By a selector that is no part of the query.
+fn selects_anew(alloc: Global, group: &Select, s: &Stream) -> Result<bool, AllocError>
+    ensures { IfOk result (λ found. found ≡ selects (groups_of group.now) s.now) }
+{
+    let selector = selector_of(alloc, group)?;
+    selects_by(&selector, alloc, s)
 }
 
 fn selector_of(alloc: Global, group: &Select) -> Result<Selector, AllocError>
@@ -97,6 +107,7 @@ impl<'p> Scan<'p> {
         ensures filter { scanned self.new ≡ scanned self.old }
         ensures moment { moment_of self.new ≡ moment_of self.old }
     {
-        self.filter.holds(self.alloc, &mut self.matchers, self.now, row)
+        self.filter
+            .holds(self.alloc, &mut self.matchers, self.now, row)
     }
 }

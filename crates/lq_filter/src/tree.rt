@@ -1,3 +1,15 @@
+ghost use Rattle.std.specs.Prelude.{◌≡◌, ◌+◌, ◌-ℤ◌, ◌&&◌, ℕ, List, [], ◌∷◌, pos, int_le, int_lt, length, map};
+ghost use Rattle.std.specs.Prelude.{IfOk, IfErr, IfSome, IsOk};
+ghost use Rattle.lq_ast.specs.Condition as is;
+ghost use Rattle.lq_ast.specs.Condition.{conditions};
+ghost use Rattle.lq_ast.specs.Holds.{all_hold, holds, is_within, some_holds};
+ghost use Rattle.lq_ast.specs.Patterns.{Pattern, patterns_among, patterns_of};
+ghost use Rattle.lq_ast.specs.View.{condition, groups_of};
+ghost use Rattle.lq_filter.specs.Labels.{groups_of as prepared_groups};
+ghost use Rattle.lq_filter.specs.Refusal.{IsRefusal};
+ghost use Rattle.lq_filter.specs.Tree.{condition_of_tree};
+ghost use Rattle.lq_filter.specs.Value.{condition_of_field};
+
 use crate::fault::PrepareFault;
 use crate::forms;
 use crate::labels::Selector;
@@ -6,17 +18,6 @@ use crate::value::FieldTest;
 use lq_ast::{Filter, Select};
 use std::alloc::{AllocError, Global};
 use vl_row::{Row, Text};
-
-ghost use Rattle.std.specs.Prelude.{◌≡◌, ◌+◌, ◌-ℤ◌, ◌&&◌, ℕ, List, [], ◌∷◌, pos, int_le, int_lt, length, map};
-ghost use Rattle.std.specs.Prelude.{IfOk, IfErr, IsOk};
-ghost use Rattle.lq_ast.specs.Condition as is;
-ghost use Rattle.lq_ast.specs.Condition.{conditions};
-ghost use Rattle.lq_ast.specs.Holds.{all_hold, holds, is_within, some_holds};
-ghost use Rattle.lq_ast.specs.Patterns.{Pattern, patterns_among, patterns_of};
-ghost use Rattle.lq_ast.specs.View.{condition, groups_of};
-ghost use Rattle.lq_filter.specs.Refusal.{IsRefusal};
-ghost use Rattle.lq_filter.specs.Tree.{condition_of_tree};
-ghost use Rattle.lq_filter.specs.Value.{condition_of_field};
 
 /// A filter for which everything that does not depend on a row is done.
 #[derive(Drop)]
@@ -33,7 +34,7 @@ pub(crate) enum Tree {
 
 impl Tree {
     /// Prepares a filter, whose first pattern has the number `nth`, and raises it by the number of patterns.
-    #[cycle(planting)]
+    #[cycle(preparing)]
     pub(crate) fn new(alloc: Global, filter: &Filter, nth: &mut u32) -> Result<Tree, PrepareFault>
         ensures same { IfOk result (λ tree. condition_of_tree tree ≡ condition filter.now) }
         ensures counted { IsOk result → nth.new ≡ nth.old + length (patterns_of (condition filter.now)) }
@@ -41,21 +42,24 @@ impl Tree {
     {
         match filter {
             Filter::All => Ok(Tree::Always),
-            Filter::Any { field } => of_field(forms::filled(alloc, field)),
-            Filter::Empty { field } => of_field(forms::missing(alloc, field)),
-            Filter::Phrase { field, text } => of_field(forms::phrase(alloc, field, text)),
-            Filter::Prefix { field, text } => of_field(forms::prefix(alloc, field, text)),
-            Filter::Exact { field, text } => of_field(forms::exact(alloc, field, text)),
-            Filter::ExactPrefix { field, text } => of_field(forms::exact_prefix(alloc, field, text)),
-            Filter::OneOf { field, texts } => of_field(forms::one_of(alloc, field, texts.as_slice())),
+            Filter::Any { field } => plain(forms::filled(alloc, field)),
+            Filter::Empty { field } => plain(forms::missing(alloc, field)),
+            Filter::Phrase { field, text } => plain(forms::phrase(alloc, field, text)),
+            Filter::Prefix { field, text } => plain(forms::prefix(alloc, field, text)),
+            Filter::Exact { field, text } => plain(forms::exact(alloc, field, text)),
+            Filter::ExactPrefix { field, text } => plain(forms::exact_prefix(alloc, field, text)),
+            Filter::OneOf { field, texts } => plain(forms::one_of(alloc, field, texts.as_slice())),
             Filter::Regex { field, pattern } => of_pattern(alloc, field, pattern, nth),
-            Filter::Fold { field, text } => of_field(forms::folded(alloc, field, text)),
-            Filter::Seq { field, texts } => of_field(forms::sequence(alloc, field, texts.as_slice())),
-            Filter::Length { field, low, high } => of_field(forms::length(alloc, field, *low, *high)),
-            Filter::Between { field, low, high } => of_field(forms::between(alloc, field, low, high)),
-            Filter::Range { field, low, high } => of_field(forms::number(alloc, field, *low, *high)),
+            Filter::Fold { field, text } => plain(forms::folded(alloc, field, text)),
+            Filter::Seq { field, texts } => plain(forms::sequence(alloc, field, texts.as_slice())),
+            Filter::Length { field, low, high } => plain(forms::length(alloc, field, *low, *high)),
+            Filter::Between { field, low, high } => plain(forms::between(alloc, field, low, high)),
+            Filter::Range { field, low, high } => plain(forms::number(alloc, field, *low, *high)),
             Filter::Last { span } => Ok(Tree::Last { span: *span }),
-            Filter::Times { from, to } => Ok(Tree::Times { from: *from, to: *to }),
+            Filter::Times { from, to } => Ok(Tree::Times {
+                from: *from,
+                to: *to,
+            }),
             Filter::Select(select) => of_selector(alloc, select, nth),
             Filter::Not(filter) => negated(alloc, filter, nth),
             Filter::All2(filters) => all_of(alloc, filters.as_slice(), nth),
@@ -64,7 +68,7 @@ impl Tree {
     }
 }
 
-#[cycle(planting)]
+#[cycle(preparing)]
 fn negated(alloc: Global, filter: &Filter, nth: &mut u32) -> Result<Tree, PrepareFault>
     ensures same { IfOk result (λ tree. condition_of_tree tree ≡ is.negated (condition filter.now)) }
     ensures counted { IsOk result → nth.new ≡ nth.old + length (patterns_of (condition filter.now)) }
@@ -74,30 +78,33 @@ fn negated(alloc: Global, filter: &Filter, nth: &mut u32) -> Result<Tree, Prepar
     Ok(Tree::Not(Box::new(alloc, tree)?))
 }
 
-#[cycle(planting)]
+#[cycle(preparing)]
 fn all_of(alloc: Global, filters: &[Filter], nth: &mut u32) -> Result<Tree, PrepareFault>
     ensures same { IfOk result (λ tree. condition_of_tree tree ≡ is.all_of (conditions (map condition filters.now))) }
-    ensures counted { IsOk result → nth.new ≡ nth.old + length (patterns_among (conditions (map condition filters.now))) }
+    ensures counted { IsOk result →
+        nth.new ≡ nth.old + length (patterns_among (conditions (map condition filters.now))) }
     ensures refused { IfErr result (IsRefusal nth.old (patterns_among (conditions (map condition filters.now)))) }
 {
     let trees = trees(alloc, filters, nth)?;
     Ok(Tree::All(trees))
 }
 
-#[cycle(planting)]
+#[cycle(preparing)]
 fn any_of(alloc: Global, filters: &[Filter], nth: &mut u32) -> Result<Tree, PrepareFault>
     ensures same { IfOk result (λ tree. condition_of_tree tree ≡ is.any_of (conditions (map condition filters.now))) }
-    ensures counted { IsOk result → nth.new ≡ nth.old + length (patterns_among (conditions (map condition filters.now))) }
+    ensures counted { IsOk result →
+        nth.new ≡ nth.old + length (patterns_among (conditions (map condition filters.now))) }
     ensures refused { IfErr result (IsRefusal nth.old (patterns_among (conditions (map condition filters.now)))) }
 {
     let trees = trees(alloc, filters, nth)?;
     Ok(Tree::Any(trees))
 }
 
-#[cycle(planting)]
+#[cycle(preparing)]
 fn trees(alloc: Global, filters: &[Filter], nth: &mut u32) -> Result<Vec<Tree>, PrepareFault>
     ensures same { IfOk result (λ trees. map condition_of_tree trees.items ≡ map condition filters.now) }
-    ensures counted { IsOk result → nth.new ≡ nth.old + length (patterns_among (conditions (map condition filters.now))) }
+    ensures counted { IsOk result →
+        nth.new ≡ nth.old + length (patterns_among (conditions (map condition filters.now))) }
     ensures refused { IfErr result (IsRefusal nth.old (patterns_among (conditions (map condition filters.now)))) }
 {
     let mut trees = Vec::new(alloc);
@@ -109,7 +116,7 @@ fn trees(alloc: Global, filters: &[Filter], nth: &mut u32) -> Result<Vec<Tree>, 
 }
 
 // A test of a field's value, which has no pattern.
-fn of_field(made: Result<FieldTest, AllocError>) -> Result<Tree, PrepareFault>
+fn plain(made: Result<FieldTest, AllocError>) -> Result<Tree, PrepareFault>
     ensures same { (asked : is.Condition) → IfOk made (λ field. condition_of_field field ≡ asked)
         → IfOk result (λ tree. condition_of_tree tree ≡ asked) }
     ensures refused { (first : ℕ) (patterns : List Pattern) → IfErr result (IsRefusal first patterns) }
@@ -120,7 +127,12 @@ fn of_field(made: Result<FieldTest, AllocError>) -> Result<Tree, PrepareFault>
     }
 }
 
-fn of_pattern(alloc: Global, field: &Text, pattern: &Text, nth: &mut u32) -> Result<Tree, PrepareFault>
+fn of_pattern(
+    alloc: Global,
+    field: &Text,
+    pattern: &Text,
+    nth: &mut u32,
+) -> Result<Tree, PrepareFault>
     ensures same { IfOk result (λ tree. condition_of_tree tree ≡ is.pattern field.now pattern.now) }
     ensures counted { IsOk result → nth.new ≡ nth.old + 1 }
     ensures refused { IfErr result (IsRefusal nth.old ((pattern.now, pattern.now) ∷ [])) }
@@ -162,6 +174,34 @@ impl Tree {
             Tree::Any(trees) => some_holds(trees.as_slice(), alloc, matchers, now, row),
         }
     }
+}
+
+impl Tree {
+    /// The selector in it that was prepared from this one, if one was.
+    #[cycle(finding)]
+    pub(crate) fn selector_of(&self, select: &Select) -> Option<&Selector>
+        ensures { IfSome result (λ selector. prepared_groups selector.now ≡ groups_of select.now) }
+    {
+        match self {
+            Tree::Selected(selector) if selector.is_of(select) => Some(selector),
+            Tree::Not(tree) => tree.selector_of(select),
+            Tree::All(trees) | Tree::Any(trees) => selector_among(trees.as_slice(), select),
+            _ => None,
+        }
+    }
+}
+
+#[cycle(finding)]
+fn selector_among<'t>(trees: &'t [Tree], select: &Select) -> Option<&'t Selector>
+    ensures { IfSome result (λ selector. prepared_groups selector.now ≡ groups_of select.now) }
+{
+    for tree in trees {
+        let found = tree.selector_of(select);
+        if found.is_some() {
+            return found;
+        }
+    }
+    None
 }
 
 #[cycle(holding)]

@@ -1,13 +1,3 @@
-use crate::matchers::Matchers;
-use crate::pattern::Pattern;
-use crate::phrase::Phrase;
-use caseless::Caseless;
-use std::alloc::{AllocError, Global};
-use std::marker::Model;
-use stream_label::{label_text, stream_id};
-use time_text::write_moment;
-use vl_row::{Row, Text, number};
-
 ghost use Rattle.std.specs.Prelude.{◌≡◌, ◌&&◌, ◌≤◌, ◌∷◌, ℕ, List, false, not, nat_le, length, chars, bytes_eq};
 ghost use Rattle.std.specs.Prelude.{IfOk, IfSome, IsTrue, MatchOption, if◌then◌else◌, string_bytes};
 ghost use Rattle.std.specs.List.{list_any};
@@ -20,6 +10,16 @@ ghost use Rattle.log_model.specs.Words.{occurs};
 ghost use Rattle.lq_ast.specs.Holds.{is_within};
 ghost use Rattle.lq_ast.specs.Phrases.{case_folded, in_order};
 ghost use Rattle.word_tokens.specs.Prefix.{occurs_as_prefix};
+
+use crate::matchers::Matchers;
+use crate::pattern::Pattern;
+use crate::phrase::Phrase;
+use caseless::Caseless;
+use std::alloc::{AllocError, Global};
+use std::marker::Model;
+use stream_label::{label_text, stream_id};
+use time_text::write_moment;
+use vl_row::{Row, Text, number};
 
 /// What is asked of the value of a field.
 #[derive(Drop)]
@@ -56,7 +56,9 @@ impl ValueTest {
             ValueTest::Phrase(phrase) => Ok(phrase.occurs_in(value)),
             ValueTest::Prefix(phrase) => Ok(has_prefix(phrase, value)),
             ValueTest::Exact(text) => Ok(value == text.as_str()),
-            ValueTest::ExactPrefix(text) => Ok(value.as_bytes().starts_with(text.as_str().as_bytes())),
+            ValueTest::ExactPrefix(text) => Ok(
+                value.as_bytes().starts_with(text.as_str().as_bytes()),
+            ),
             ValueTest::OneOf(texts) => Ok(is_one_of(texts.as_slice(), value)),
             ValueTest::Pattern(pattern) => matchers.is_found(alloc, pattern, value),
             ValueTest::Folded(folded) => folded.is_in(alloc, value),
@@ -120,7 +122,8 @@ fn computed(alloc: Global, name: &str, row: &Row) -> Result<Text, AllocError>
 }
 
 fn has_prefix(phrase: &Phrase, value: &str) -> bool
-    ensures { result ≡ (if is_empty phrase.now then not (is_empty value.now) else occurs_as_prefix value.now phrase.now) }
+    ensures { result ≡ (if is_empty phrase.now then not (is_empty value.now)
+        else occurs_as_prefix value.now phrase.now) }
 {
     if phrase.is_empty() {
         !value.is_empty()

@@ -133,7 +133,12 @@ impl<'l> Case<'l> {
     }
 
     /// The values between two ends, where an empty end of numbers is an infinite one.
-    fn interval_filter(&self, alloc: Global, form: &str, field: Text) -> Result<Filter, AllocError> {
+    fn interval_filter(
+        &self,
+        alloc: Global,
+        form: &str,
+        field: Text,
+    ) -> Result<Filter, AllocError> {
         match form {
             "between" => Ok(Filter::Between {
                 field,

@@ -1,5 +1,5 @@
 use lq_ast::{Filter, Group, How, LabelTest, Query, Select};
-use lq_filter::{PrepareFault, prepare};
+use lq_filter::{PrepareFault, Prepared, prepare};
 use std::alloc::{AllocError, Global};
 use std::test::Fail;
 use vl_row::{FieldList, Row, Text};
@@ -53,12 +53,16 @@ fn times_take_in_both_ends(rt: HostRuntime) -> Result<(), Fail> {
     Ok(())
 }
 
+fn label(alloc: Global, how: How, text: &str) -> Result<LabelTest, AllocError> {
+    let name = Text::try_of(alloc, "app")?;
+    let text = Text::try_of(alloc, text)?;
+    Ok(LabelTest { name, how, text })
+}
+
 /// `{app HOW text}`
 fn selector(alloc: Global, how: How, text: &str) -> Result<Select, AllocError> {
     let mut labels = Vec::new(alloc);
-    let name = Text::try_of(alloc, "app")?;
-    let text = Text::try_of(alloc, text)?;
-    labels.push(LabelTest { name, how, text })?;
+    labels.push(label(alloc, how, text)?)?;
     let mut groups = Vec::new(alloc);
     groups.push(Group { labels })?;
     Ok(Select { groups })
@@ -92,10 +96,120 @@ fn no_group_selects_all(rt: HostRuntime) -> Result<(), Fail> {
     Ok(())
 }
 
+/// `{app!=a, app=~TEXT or app=b}`
+fn two_groups(alloc: Global, text: &str) -> Result<Select, AllocError> {
+    let mut select = selector(alloc, How::IsNot, "a")?;
+    if let Some(group) = select.groups.first_mut() {
+        group.labels.push(label(alloc, How::Matches, text)?)?;
+    }
+    let mut labels = Vec::new(alloc);
+    labels.push(label(alloc, How::Is, "b")?)?;
+    select.groups.push(Group { labels })?;
+    Ok(select)
+}
+
+fn of_two_groups(alloc: Global) -> Result<Filter, AllocError> {
+    Ok(Filter::Select(two_groups(alloc, "a|c.*")?))
+}
+
+fn row_is_selected(alloc: Global, app: &str) -> Result<bool, AllocError> {
+    let row = row_of(alloc, 0, app)?;
+    holds(alloc, of_two_groups(alloc)?, 0, &row)
+}
+
+#[test]
+fn a_group_has_all_its_tests_true(rt: HostRuntime) -> Result<(), Fail> {
+    assert!(rt; row_is_selected(rt.alloc(), "b")? && row_is_selected(rt.alloc(), "cart")?);
+    Ok(())
+}
+
+#[test]
+fn no_group_has_all_its_tests_true(rt: HostRuntime) -> Result<(), Fail> {
+    assert!(rt; !row_is_selected(rt.alloc(), "a")? && !row_is_selected(rt.alloc(), "")?);
+    Ok(())
+}
+
+/// Whether the selector of a prepared query selects the stream.
+fn stream_is_selected(alloc: Global, app: &str) -> Result<bool, AllocError> {
+    let query = Query {
+        filter: Filter::Not(Box::new(alloc, of_two_groups(alloc)?)?),
+    };
+    match prepare(alloc, &query) {
+        Ok(prepared) => selects_stream(alloc, &prepared, app),
+        Err(_) => Err(AllocError),
+    }
+}
+
+fn selects_stream(alloc: Global, prepared: &Prepared, app: &str) -> Result<bool, AllocError> {
+    let row = row_of(alloc, 0, app)?;
+    let select = two_groups(alloc, "a|c.*")?;
+    prepared.selects(alloc, &select, row.stream())
+}
+
+#[test]
+fn a_stream_is_selected_alone(rt: HostRuntime) -> Result<(), Fail> {
+    assert!(rt; stream_is_selected(rt.alloc(), "b")? && stream_is_selected(rt.alloc(), "cart")?);
+    Ok(())
+}
+
+#[test]
+fn a_stream_is_not_selected_alone(rt: HostRuntime) -> Result<(), Fail> {
+    assert!(rt; !stream_is_selected(rt.alloc(), "a")? && !stream_is_selected(rt.alloc(), "")?);
+    Ok(())
+}
+
 fn pattern(alloc: Global, text: &str) -> Result<Filter, AllocError> {
     let field = Text::try_of(alloc, "v")?;
     let pattern = Text::try_of(alloc, text)?;
     Ok(Filter::Regex { field, pattern })
+}
+
+#[test]
+fn one_of_no_texts_never_holds(rt: HostRuntime) -> Result<(), Fail> {
+    let field = Text::try_of(rt.alloc(), "v")?;
+    let texts = Vec::new(rt.alloc());
+    assert!(rt; !holds_for_x(rt.alloc(), Filter::OneOf { field, texts })?);
+    Ok(())
+}
+
+#[test]
+fn no_phrases_are_in_order(rt: HostRuntime) -> Result<(), Fail> {
+    let field = Text::try_of(rt.alloc(), "v")?;
+    let texts = Vec::new(rt.alloc());
+    assert!(rt; holds_for_x(rt.alloc(), Filter::Seq { field, texts })?);
+    Ok(())
+}
+
+fn holds_for_x(alloc: Global, filter: Filter) -> Result<bool, AllocError> {
+    let row = row_of(alloc, 0, "")?;
+    holds(alloc, filter, 0, &row)
+}
+
+/// Whether a row whose label is `ab` holds before and after one without the label does not.
+fn scan_keeps_its_matchers(alloc: Global, prepared: &Prepared) -> Result<bool, AllocError> {
+    let mut scan = prepared.scan(alloc, 0);
+    let with_label = row_of(alloc, 0, "ab")?;
+    let without = row_of(alloc, 0, "")?;
+    Ok(scan.holds(&with_label)? && !scan.holds(&without)? && scan.holds(&with_label)?)
+}
+
+fn scan_of(alloc: Global, filters: Vec<Filter>) -> Result<bool, AllocError> {
+    let query = Query {
+        filter: Filter::All2(filters),
+    };
+    match prepare(alloc, &query) {
+        Ok(prepared) => scan_keeps_its_matchers(alloc, &prepared),
+        Err(_) => Err(AllocError),
+    }
+}
+
+#[test]
+fn a_scan_tells_its_patterns_apart(rt: HostRuntime) -> Result<(), Fail> {
+    let mut filters = Vec::new(rt.alloc());
+    filters.push(pattern(rt.alloc(), "^x")?)?;
+    filters.push(Filter::Select(selector(rt.alloc(), How::Matches, "a.")?))?;
+    assert!(rt; scan_of(rt.alloc(), filters)?);
+    Ok(())
 }
 
 fn second_is_refused(alloc: Global, second: Filter) -> Result<bool, AllocError> {

@@ -3,7 +3,8 @@ use Rattle.word_tokens.proofs.LastChar.{ends_word-chars, ends_word-empty}
 use Rattle.lq_filter.proofs.phrase.ends_word.Goals as goal
 
 pub returns-in-Some : goal.returns-in-Some
-returns-in-Some c = c.is_word.ensures ∙ ends_word-chars c.args.text.now _ c.in-Some.last c.utf8.text (search rules) (sym c.chars.ensures.rest ∙ c.in-Some.ensures.steps)
+returns-in-Some c = c.is_word.ensures ∙ ends_word-chars c.args.text.now _ c.in-Some.last c.utf8.text (search rules)
+    (sym c.chars.ensures.rest ∙ c.in-Some.ensures.steps)
 
 pub returns-in-None : goal.returns-in-None
 returns-in-None c = ends_word-empty c.args.text.now (search rules)

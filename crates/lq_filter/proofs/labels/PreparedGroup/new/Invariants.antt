@@ -7,4 +7,5 @@ use Rattle.lq_filter.proofs.labels.PreparedGroup.new.Given as goal
 
 abbrev pub invariant-loop-test : goal.invariant-loop-test
 invariant-loop-test l =
-    Left test_of (λ test. patterns_of_test (test_of test)) l.test-items l.fn.nth l.test-index (map prepared_test l.tests.items) l.nth
+    Left test_of (λ test. patterns_of_test (test_of test)) l.test-items l.fn.nth l.test-index
+    (map prepared_test l.tests.items) l.nth

@@ -8,4 +8,5 @@ use Rattle.lq_filter.proofs.labels.Selector.new.Given as goal
 
 abbrev pub invariant-loop-group : goal.invariant-loop-group
 invariant-loop-group l =
-    Left tests_of (λ group. flat_map patterns_of_test (tests_of group)) l.group-items l.fn.nth l.group-index (map prepared_tests l.groups.items) l.nth
+    Left tests_of (λ group. flat_map patterns_of_test (tests_of group)) l.group-items l.fn.nth l.group-index
+    (map prepared_tests l.groups.items) l.nth

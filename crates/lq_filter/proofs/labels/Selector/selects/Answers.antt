@@ -6,4 +6,5 @@ use Rattle.lq_filter.proofs.labels.Selector.selects.Goals as goal
 
 pub loop-group-init : goal.loop-group-init
 loop-group-init c =
-    rw c.deref-group-items.ensures.value (any_mapped (list_all (passes c.args.stream.now)) tests_of c.args.self.now.groups.items)
+    rw c.deref-group-items.ensures.value (any_mapped (list_all (passes c.args.stream.now))
+    tests_of c.args.self.now.groups.items)

@@ -1,7 +1,4 @@
 use Rattle.std.proofs.lemmas.Result.{IfOk-weaker}
-use Rattle.std.proofs.Common.{◌≡◌}
-use Rattle.regex.specs.Strings.{matcher_pattern, regex_pattern}
-use Rattle.lq_filter.specs.Reads.{FindsAs}
 use Rattle.lq_filter.proofs.Reading.{finds_as_read}
 use Rattle.lq_filter.proofs.pattern.Pattern.matcher.Goals as goal
 

@@ -6,4 +6,5 @@ pub returns-in-Err-Syntax-clause-refused : goal.returns-in-Err-Syntax-clause-ref
 returns-in-Err-Syntax-clause-refused c =
     let w = c.in-Err-Syntax in
     λ tried reads. refused_one c.args.nth tried
-      (λ can. not_readable c.args.text.now w.field-0-0.kind (rw w.field-0-is at w.ensures.kind) (w.ensures.by_grammar _ w.field-0-is) (reads can))
+    (λ can. not_readable c.args.text.now w.field-0-0.kind (rw w.field-0-is at w.ensures.kind)
+    (w.ensures.by_grammar _ w.field-0-is) (reads can))
