@@ -91,12 +91,12 @@ sums bytes [] (suc most) sum left less some = all_read bytes [] sum left refl so
 sums bytes (byte ∷ rest) zero sum left less some = absurd (omega (arith, less))
 sums bytes (byte ∷ rest) (suc most) sum left less some = by_part (part_at (byte ∷ rest)) refl
     (λ nanos next e. sums bytes next most (sum + nanos)
-      (next_left bytes (byte ∷ rest) next sum nanos (sum + nanos) left e (added sum nanos))
-      (let short = part_shorter (byte ∷ rest) nanos next e in omega (arith, less, short)) some)
+    (next_left bytes (byte ∷ rest) next sum nanos (sum + nanos) left e (added sum nanos))
+    (let short = part_shorter (byte ∷ rest) nanos next e in omega (arith, less, short)) some)
   where
     by_part : (p : Option (ℕ × List ℕ)) → part_at (byte ∷ rest) ≡ p
         → ((nanos : ℕ) (next : List ℕ) → part_at (byte ∷ rest) ≡ Some (nanos, next)
-          → AnswersSum (sum_from most (sum + nanos) next) bytes)
+        → AnswersSum (sum_from most (sum + nanos) next) bytes)
         → AnswersSum (p >>= λ part. sum_from most (sum + part.0) part.1) bytes
     by_part None e again = none_spelled bytes (byte ∷ rest) sum left (omega arith) e
     by_part (Some x) e again = again x.0 x.1 e

@@ -111,7 +111,7 @@ by_items text r (items, has, none, out) = (
   Ok has.0,
   has.1,
   ap (λ (l : Items). built text l (first_bar l)) (sym has.2) ∙ ap (built text items) none
-  ∙ outcome_named text items r out,
+      ∙ outcome_named text items r out,
 )
 
 by_bar : (text : Bytes) (at : ℕ) → (items : Items) × HasItems text items × (first_bar items ≡ Some at)
@@ -120,7 +120,7 @@ by_bar text at (items, has, bar) = (
   Ok has.0,
   has.1,
   ap (λ (l : Items). built text l (first_bar l)) (sym has.2)
-  ∙ ap (built text items) bar,
+      ∙ ap (built text items) bar,
 )
 
 answered_so : (text : Bytes) (r : Outcome) → QueryOf text r → Answered text r

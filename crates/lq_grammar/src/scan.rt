@@ -74,10 +74,7 @@ pub fn at_glued(tokens: &[Item], roles: &[Role]) -> bool
 }
 
 /// The text of a glued token of one of these roles, which has to stand here.
-pub fn glued_text<'t>(
-    tokens: &'t [Item],
-    roles: &[Role],
-) -> Result<(&'t str, &'t [Item]), Stop>
+pub fn glued_text<'t>(tokens: &'t [Item], roles: &[Role]) -> Result<(&'t str, &'t [Item]), Stop>
     ensures { Gives (λ x. (x.0.now, x.1.now)) result (one_at (glued roles.now) (λ t. t.content) tokens.now) }
 {
     match tokens {

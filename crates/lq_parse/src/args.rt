@@ -5,10 +5,8 @@ ghost use Rattle.grammar.specs.Reading.{first};
 ghost use Rattle.lq_grammar.specs.LogsQL.{arg, args, texts, heads};
 ghost use Rattle.lq_grammar.specs.Clauses.{Gives, at as at_of};
 
-use lq_grammar::Stop;
-use lq_grammar::Item;
-use lq_grammar::{BARES, Role, WORDS};
 use lq_grammar::scan::{at, glued_text, past, text, text_of};
+use lq_grammar::{BARES, Item, Role, Stop, WORDS};
 use std::alloc::Global;
 use vl_row::Text;
 

@@ -9,16 +9,14 @@ ghost use Rattle.lq_grammar.specs.LogsQL.{heads, group, negation, inner_negation
 ghost use Rattle.lq_grammar.specs.Values.{denied, field_named, of_list};
 ghost use Rattle.lq_grammar.specs.Clauses.{Gives, at as at_of, name_at};
 
-use lq_grammar::Stop;
-use lq_grammar::Item;
 use crate::label::selector;
 use crate::leaf::{bare_end, i_end, in_end, quoted_end, seq_end, string_range_end};
 use crate::leaves::{leaf, mark_leaf};
 use crate::number::{len_range_end, range_end};
-use lq_grammar::{NEGATIONS, Role, UNARY};
-use lq_grammar::scan::{at, expect, past, place, text_of};
 use crate::time::time;
 use lq_ast::Filter;
+use lq_grammar::scan::{at, expect, past, place, text_of};
+use lq_grammar::{Item, NEGATIONS, Role, Stop, UNARY};
 use std::alloc::Global;
 
 /// What stands in parentheses, where so many more may be open.

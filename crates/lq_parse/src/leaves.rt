@@ -6,15 +6,13 @@ ghost use Rattle.lq_ast.specs.View.{condition};
 ghost use Rattle.lq_grammar.specs.LogsQL.{leaf, range_leaf, word_leaf, mark_leaf};
 ghost use Rattle.lq_grammar.specs.Clauses.{Gives, at as at_of};
 
-use lq_grammar::Stop;
-use lq_grammar::Item;
 use crate::leaf::{
     bare_end, exact, i_end, in_end, quoted_end, regex, seq_end, star, string_range_end,
 };
 use crate::number::{greater, len_range_end, less, range_end};
-use lq_grammar::{QUOTED, Role};
-use lq_grammar::scan::{at, text_of};
 use lq_ast::Filter;
+use lq_grammar::scan::{at, text_of};
+use lq_grammar::{Item, QUOTED, Role, Stop};
 use std::alloc::Global;
 
 /// A leaf.

@@ -9,13 +9,11 @@ ghost use Rattle.lq_grammar.specs.Values.{low_of as lowest_of, high_of as highes
 ghost use Rattle.lq_grammar.specs.Clauses.{Gives, at};
 
 use crate::args::arg;
-use lq_grammar::Stop;
-use lq_grammar::Item;
 use crate::leaf::bare_end;
 use crate::make;
-use lq_grammar::Role;
-use lq_grammar::scan::{expect, past, past_glued, place};
 use lq_ast::Filter;
+use lq_grammar::scan::{expect, past, past_glued, place};
+use lq_grammar::{Item, Role, Stop};
 use std::alloc::Global;
 use vl_row::number;
 

@@ -4,10 +4,8 @@ ghost use Rattle.grammar.specs.Reading.{mapped};
 ghost use Rattle.lq_grammar.specs.LogsQL.{run, run_rest};
 ghost use Rattle.lq_grammar.specs.Clauses.{Gives, at};
 
-use lq_grammar::Stop;
-use lq_grammar::Item;
-use lq_grammar::{BARES, QUOTED, RUN_PARTS};
 use lq_grammar::scan::{glued_text_of, text, text_of};
+use lq_grammar::{BARES, Item, QUOTED, RUN_PARTS, Stop};
 use std::alloc::Global;
 use vl_row::Text;
 
