@@ -1,5 +1,6 @@
 -- A text has one outcome: the one that its tokens, and else reading from the left, come to.
-use Rattle.std.proofs.Common.{◌≡◌, ℕ, zero, suc, ◌+◌, ◌-◌, Bool, true, false, cond, ◌||◌, List, [], ◌∷◌, ◌++◌, length, drop, map}
+use Rattle.std.proofs.Common.{◌≡◌, ℕ, zero, suc, ◌+◌, ◌-◌, Bool, true, false, cond, ◌||◌, List, [], ◌∷◌, ◌++◌, length}
+use Rattle.std.proofs.Common.{drop, map}
 use Rattle.std.proofs.Common.{Option, Some, None, Result, Ok, Err, refl, sym, ap, ◌∙◌, subst, arith}
 use Rattle.std.proofs.lemmas.List.{length-append, drop_at}
 use Rattle.grammar.specs.Rule.{Token}
@@ -11,13 +12,15 @@ use Rattle.lq_lex.specs.Lexing.{HasLexed}
 use Rattle.lq_lex.specs.declared.fault.LexFault.{LexFault}
 use Rattle.lq_lex.proofs.Chains.{lexed_same}
 use Rattle.lq_grammar.specs.declared.fault.QueryFault.{QueryFault}
-use Rattle.lq_grammar.specs.declared.fault.QueryFault.TheVariants.{Lex, Syntax, TooDeep, BadNumber, BadTime, BadDuration}
+use Rattle.lq_grammar.specs.declared.fault.QueryFault.TheVariants.{Lex, Syntax, TooDeep, BadNumber, BadTime}
+use Rattle.lq_grammar.specs.declared.fault.QueryFault.TheVariants.{BadDuration}
 use Rattle.lq_grammar.specs.declared.fault.QueryFault.TheVariants.{Memory, NotBuilt}
 use Rattle.lq_grammar.specs.Values.{Bytes, Reason, bad_number, bad_time, bad_duration}
 use Rattle.lq_grammar.specs.Items.{item_of}
 use Rattle.lq_grammar.specs.Query.{HasItems, first_bar, IsQuery, reading, place_or_end, IsSyntax, IsFlaw}
 use Rattle.lq_grammar.specs.Query.{OutcomeOf, QueryOf}
 use Rattle.lq_grammar.proofs.Answered.{answered_query, only_query}
+use Rattle.lq_grammar.proofs.Bars.{no_bar}
 
 abbrev Items : Type 0
 Items = List (Token Bytes)
@@ -105,7 +108,8 @@ answer_to text (Err fault) = Err (Lex fault)
 abbrev Answered : Bytes → Outcome → Type 0
 Answered text r = (lexed : Lexed) × HasLexed text lexed × (answer_to text lexed ≡ r)
 
-by_items : (text : Bytes) (r : Outcome) → (items : Items) × HasItems text items × (first_bar items ≡ None) × OutcomeOf text items r
+by_items : (text : Bytes) (r : Outcome) → (items : Items) × HasItems text items × (first_bar items ≡ None)
+    × OutcomeOf text items r
     → Answered text r
 by_items text r (items, has, none, out) = (
   Ok has.0,
@@ -125,7 +129,7 @@ by_bar text at (items, has, bar) = (
 
 answered_so : (text : Bytes) (r : Outcome) → QueryOf text r → Answered text r
 unfolding QueryOf
-answered_so text (Ok c) h = by_items text (Ok c) h
+answered_so text (Ok c) h = by_items text (Ok c) (h.items, h.has_items, no_bar (Ok c) h.items h.spelled, h.spelled)
 answered_so text (Err (Lex fault)) h = (Err fault, h, refl)
 answered_so text (Err (Syntax at)) h = by_items text (Err (Syntax at)) h
 answered_so text (Err (TooDeep at)) h = by_items text (Err (TooDeep at)) h
@@ -145,8 +149,13 @@ one_outcome text one other h k =
 pub query_named : (text : Bytes) (items : Items) → HasItems text items → first_bar items ≡ None → (r : Outcome)
     → named text items (reading items) ≡ r → QueryOf text r
 unfolding QueryOf
-query_named text items has none (Ok c) e = (items, has, none, subst (OutcomeOf text items) e (named_outcome text items))
-query_named text items has none (Err (Lex fault)) e = absurd (subst (OutcomeOf text items) e (named_outcome text items))
+query_named text items has none (Ok c) e = record {
+  items = items;
+  has_items = has;
+  spelled = subst (OutcomeOf text items) e (named_outcome text items);
+}
+query_named text items has none (Err (Lex fault)) e =
+    absurd (subst (OutcomeOf text items) e (named_outcome text items))
 query_named text items has none (Err (Syntax at)) e =
     (items, has, none, subst (OutcomeOf text items) e (named_outcome text items))
 query_named text items has none (Err (TooDeep at)) e =

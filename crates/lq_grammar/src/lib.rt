@@ -1,7 +1,7 @@
 //! The grammar of LogsQL (LogsQL, "Query syntax"): what each token of a text is to it, and why a text is no query.
 //!
-//! The rules themselves are data, in `specs/LogsQL.antt`: a rule for each line of the grammar, with the value of what it
-//! spells. What a text is by them stands in `specs/Query.antt`. Readers are built of the steps of `scan`.
+//! The rules themselves are data, in `specs/LogsQL.antt`: a rule for each line of the grammar, with the value of what
+//! it spells. What a text is by them stands in `specs/Query.antt`. Readers are built of the steps of `scan`.
 #![tactic(auto)]
 
 ghost use Rattle.std.specs.Prelude.{◌≡◌, ℕ, List, Result};

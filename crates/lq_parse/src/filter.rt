@@ -5,7 +5,8 @@ ghost use Rattle.grammar.specs.Rule.{next};
 ghost use Rattle.grammar.specs.Reading.{first, mapped};
 ghost use Rattle.lq_ast.specs.Condition.{all_of, any_of};
 ghost use Rattle.lq_ast.specs.View.{condition};
-ghost use Rattle.lq_grammar.specs.LogsQL.{heads, group, negation, inner_negation, inner, unit, call_unit, range_unit, word_unit, stream_end, stream_value, unary, next_unary, and, or};
+ghost use Rattle.lq_grammar.specs.LogsQL.{heads, group, negation, inner_negation, inner, unit, call_unit, range_unit};
+ghost use Rattle.lq_grammar.specs.LogsQL.{word_unit, stream_end, stream_value, unary, next_unary, and, or};
 ghost use Rattle.lq_grammar.specs.Values.{denied, field_named, of_list};
 ghost use Rattle.lq_grammar.specs.Clauses.{Gives, at as at_of, name_at};
 
@@ -121,7 +122,8 @@ fn unary<'t>(
 
 /// A filter that is no negation.
 #[cycle(filter)]
-#[tactic(auto, unfolding(lq_grammar::specs::LogsQL::unit, lq_grammar::specs::LogsQL::selector, lq_grammar::specs::LogsQL::time_end))]
+#[tactic(auto, unfolding(lq_grammar::specs::LogsQL::unit, lq_grammar::specs::LogsQL::selector,
+    lq_grammar::specs::LogsQL::time_end))]
 fn unit<'t>(
     alloc: Global,
     tokens: &'t [Item],

@@ -85,7 +85,8 @@ fn groups<'t>(alloc: Global, tokens: &'t [Item]) -> Result<(Select, &'t [Item]),
 /// A selector.
 #[tactic(auto, unfolding(lq_grammar::specs::LogsQL::selector))]
 pub(crate) fn selector<'t>(alloc: Global, tokens: &'t [Item]) -> Result<(Select, &'t [Item]), Stop>
-    ensures { (depth : ℕ) → Gives (λ x. (on_streams (groups_of x.0), x.1.now)) result (at_of depth selector tokens.now) }
+    ensures { (depth : ℕ) → Gives (λ x. (on_streams (groups_of x.0), x.1.now)) result
+        (at_of depth selector tokens.now) }
 {
     let rest = expect(tokens, &[Role::CurlyOpen])?;
     let (select, rest) = optional_groups(alloc, rest)?;

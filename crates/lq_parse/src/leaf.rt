@@ -3,7 +3,8 @@ ghost use Rattle.std.specs.Prelude.{◌≡◌, ℕ};
 ghost use Rattle.std.specs.Option.{option_copied};
 ghost use Rattle.grammar.specs.Reading.{mapped};
 ghost use Rattle.lq_ast.specs.View.{condition};
-ghost use Rattle.lq_grammar.specs.LogsQL.{bare_end, quoted_end, in_end, i_end, seq_end, string_range_end, exact, regex, star};
+ghost use Rattle.lq_grammar.specs.LogsQL.{bare_end, quoted_end, in_end, i_end, seq_end, string_range_end, exact};
+ghost use Rattle.lq_grammar.specs.LogsQL.{regex, star};
 ghost use Rattle.lq_grammar.specs.Clauses.{Gives, at};
 
 use crate::args::{arg, args, texts};

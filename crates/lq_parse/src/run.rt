@@ -23,7 +23,8 @@ pub(crate) fn run<'t>(alloc: Global, tokens: &'t [Item]) -> Result<(Text, &'t [I
 
 /// What goes on with a run that began so.
 fn run_rest<'t>(alloc: Global, bare: &str, tokens: &'t [Item]) -> Result<(Text, &'t [Item]), Stop>
-    ensures { (depth : ℕ) → Gives (λ x. (x.0, x.1.now)) result (mapped (λ rest. bare.now ++ rest) (at depth run_rest tokens.now)) }
+    ensures { (depth : ℕ) → Gives (λ x. (x.0, x.1.now)) result
+        (mapped (λ rest. bare.now ++ rest) (at depth run_rest tokens.now)) }
 {
     let mut run = Text::try_of(alloc, bare)?;
     let mut rest = tokens;

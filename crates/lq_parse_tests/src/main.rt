@@ -1,8 +1,8 @@
 //! Reads a query on each line, and writes what it says, or why it is none. A control character stands in a line as its
 //! picture, from U+2400 on.
 //!
-//! The answers in `stdout` are not the program's own. They are made in Python, by a reader that follows all derivations
-//! of the grammar at once, token by token, and finds the faults along them afterwards.
+//! The answers in `stdout` are not the program's own. They are made in Python, by a reader that follows all
+//! derivations of the grammar at once, token by token, and finds the faults along them afterwards.
 #![tactic(auto)]
 
 mod shown;
