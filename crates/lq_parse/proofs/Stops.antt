@@ -108,6 +108,11 @@ pub only_when : (text : Bytes) (r : Result Query QueryFault) → (r ≢ refused 
     → (other : Outcome) → QueryOf text other → r ≢ refused Memory → outcome r ≡ other
 only_when text r found other h some = one_outcome text (outcome r) other (found some) h
 
+pub complete_when : (text : Bytes) (r : Result Query QueryFault) → (r ≢ refused Memory → QueryOf text (outcome r))
+    → (c : Condition) → IsQueryText text c → r ≢ refused Memory → outcome r ≡ Ok c
+unfolding QueryOf
+complete_when text r found c spelled some = only_when text r found (Ok c) spelled some
+
 -- a text whose tokens were not found
 pub lex_when : (text : Bytes) (r : Result Query QueryFault) (fault : LexFault)
     → (lex_failed fault ≢ lex_failed LexMemory → HasLexed text (Err fault))
