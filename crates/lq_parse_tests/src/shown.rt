@@ -4,6 +4,7 @@ use std::alloc::AllocError;
 use vl_row::Text;
 
 /// Appends a filter, with filters inside it down to a depth.
+#[cycle(shown)]
 pub(crate) fn push_filter(filter: &Filter, depth: u32, out: &mut String) -> Result<(), AllocError> {
     if depth == 0 {
         return out.push_str("..");
@@ -16,12 +17,14 @@ pub(crate) fn push_filter(filter: &Filter, depth: u32, out: &mut String) -> Resu
     }
 }
 
+#[cycle(shown)]
 fn push_not(inner: &Filter, depth: u32, out: &mut String) -> Result<(), AllocError> {
     out.push_str("not(")?;
     push_filter(inner, depth, out)?;
     out.push_str(")")
 }
 
+#[cycle(shown)]
 fn push_joined(
     word: &str,
     filters: &[Filter],

@@ -1,3 +1,4 @@
+use lq_lex::LexFault;
 use lq_parse::{QueryFault, parse};
 use std::alloc::{AllocError, Global};
 use std::test::Fail;
@@ -20,5 +21,12 @@ fn fault(alloc: Global, text: &str) -> Option<QueryFault> {
 fn the_longest_text(rt: HostRuntime) -> Result<(), Fail> {
     let text = letters(rt.alloc(), 16_384)?;
     assert!(rt; fault(rt.alloc(), text.as_str()) == None);
+    Ok(())
+}
+
+#[test]
+fn one_byte_too_many(rt: HostRuntime) -> Result<(), Fail> {
+    let text = letters(rt.alloc(), 16_385)?;
+    assert!(rt; fault(rt.alloc(), text.as_str()) == Some(QueryFault::Lex(LexFault::TooLong)));
     Ok(())
 }
