@@ -18,7 +18,7 @@ use Rattle.lq_grammar.specs.declared.fault.QueryFault.TheVariants.{Memory, NotBu
 use Rattle.lq_grammar.specs.Values.{Bytes, Reason, bad_number, bad_time, bad_duration}
 use Rattle.lq_grammar.specs.Items.{item_of}
 use Rattle.lq_grammar.specs.Query.{HasItems, first_bar, IsQuery, reading, place_or_end, IsSyntax, IsFlaw}
-use Rattle.lq_grammar.specs.Query.{OutcomeOf, QueryOf}
+use Rattle.lq_grammar.specs.Query.{flaw_fault, OutcomeOf, QueryOf}
 use Rattle.lq_grammar.proofs.Answered.{answered_query, only_query}
 use Rattle.lq_grammar.proofs.Bars.{no_bar}
 
@@ -34,16 +34,10 @@ Outcome = Result Condition QueryFault
 abbrev pub stop_place : Bytes → Items → ℕ → ℕ
 stop_place text items left = place_or_end text (drop (length items - left) items)
 
-abbrev pub named_flaw : Flaw Reason → ℕ → Outcome
-named_flaw too_deep at = Err (TooDeep at)
-named_flaw (refused bad_number) at = Err (BadNumber at)
-named_flaw (refused bad_time) at = Err (BadTime at)
-named_flaw (refused bad_duration) at = Err (BadDuration at)
-
 abbrev pub named : Bytes → Items → Result Condition (Stop Reason) → Outcome
 named text items (Ok c) = Ok c
 named text items (Err (stuck left)) = Err (Syntax (stop_place text items left))
-named text items (Err (flawed flaw at)) = named_flaw flaw at
+named text items (Err (flawed flaw at)) = Err (flaw_fault flaw at)
 
 -- the tokens that are left
 pub rest_is : (items before rest : Items) (left : ℕ) → items ≡ before ++ rest → left ≡ length rest
@@ -75,7 +69,7 @@ pub named_outcome : (text : Bytes) (items : Items) → OutcomeOf text items (nam
 named_outcome text items = by_read (reading items) refl (answered_query items)
   where
     by_flaw : (flaw : Flaw Reason) (at : ℕ) → reading items ≡ Err (flawed flaw at) → IsFlawed IsQuery items flaw at
-        → OutcomeOf text items (named_flaw flaw at)
+        → OutcomeOf text items (Err (flaw_fault flaw at))
     by_flaw too_deep at e h = record { is_first = e; has_flaw = h }
     by_flaw (refused bad_number) at e h = record { is_first = e; has_flaw = h }
     by_flaw (refused bad_time) at e h = record { is_first = e; has_flaw = h }
@@ -169,3 +163,10 @@ query_named text items has none (Err (BadDuration at)) e =
 query_named text items has none (Err Memory) e = absurd (subst (OutcomeOf text items) e (named_outcome text items))
 query_named text items has none (Err (NotBuilt at)) e =
     absurd (subst (OutcomeOf text items) e (named_outcome text items))
+
+-- what is a query but for a flaw
+pub flaw_named : (text : Bytes) (items : Items) (flaw : Flaw Reason) (at : ℕ) → HasItems text items
+    → IsQuery (Err (flaw, at)) items → QueryOf text (Err (flaw_fault flaw at))
+flaw_named text items flaw at has spelled =
+    query_named text items has (no_bar (Err (flaw, at)) items spelled) (Err (flaw_fault flaw at))
+    (ap (named text items) (only_query (Err (flaw, at)) items spelled))

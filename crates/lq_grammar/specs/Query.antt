@@ -71,6 +71,14 @@ pub record IsFlaw (items : List (Token Bytes)) (flaw : Flaw Reason) (at : ℕ) :
   pub is_first : reading items ≡ Err (flawed flaw at)
   pub has_flaw : IsFlawed IsQuery items flaw at
 
+-- the fault that a flaw is
+abbrev pub flaw_fault : Flaw Reason → ℕ → QueryFault
+flaw_fault too_deep at = TooDeep at
+flaw_fault (refused bad_number) at = BadNumber at
+flaw_fault (refused bad_time) at = BadTime at
+flaw_fault (refused bad_duration) at = BadDuration at
+
+-- The outcome of tokens among which no mark `|` is.
 abbrev pub OutcomeOf : Bytes → List (Token Bytes) → Result Condition QueryFault → Type 0
 OutcomeOf text items (Ok c) = IsQuery (Ok c) items
 OutcomeOf text items (Err (Lex fault)) = ⊥

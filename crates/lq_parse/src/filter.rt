@@ -16,7 +16,7 @@ use crate::leaves::{leaf, mark_leaf};
 use crate::number::{len_range_end, range_end};
 use crate::time::time;
 use lq_ast::Filter;
-use lq_grammar::scan::{at, expect, past, place, text_of};
+use lq_grammar::scan::{at, expect, past, place, text_past};
 use lq_grammar::{Item, NEGATIONS, Role, Stop, UNARY};
 use std::alloc::Global;
 
@@ -140,19 +140,19 @@ fn unit<'t>(
         let (select, rest) = selector(alloc, tokens)?;
         return Ok((Filter::Select(select), rest));
     }
-    if let Some((word, rest)) = text_of(tokens, &[Role::Time]) {
+    if let Some((word, rest)) = text_past(tokens, &[Role::Time]) {
         if let Some(rest) = past(rest, &[Role::Colon]) {
             return time(alloc, rest);
         }
         return bare_end(alloc, rest, word, field);
     }
-    if let Some((word, rest)) = text_of(tokens, &[Role::QuotedTime]) {
+    if let Some((word, rest)) = text_past(tokens, &[Role::QuotedTime]) {
         if let Some(rest) = past(rest, &[Role::Colon]) {
             return time(alloc, rest);
         }
         return quoted_end(alloc, rest, word, field);
     }
-    if let Some((word, rest)) = text_of(tokens, &[Role::Stream]) {
+    if let Some((word, rest)) = text_past(tokens, &[Role::Stream]) {
         return stream_end(alloc, rest, depth, word, field);
     }
     call_unit(alloc, tokens, depth, field)
@@ -209,19 +209,19 @@ fn call_unit<'t>(
     ensures { Gives (λ x. (condition x.0, x.1.now)) result
         (mapped (λ made. made (option_copied field.entry)) (at_of depth call_unit tokens.now)) }
 {
-    if let Some((word, rest)) = text_of(tokens, &[Role::In]) {
+    if let Some((word, rest)) = text_past(tokens, &[Role::In]) {
         if let Some(rest) = past(rest, &[Role::Colon]) {
             return inner(alloc, rest, depth, Some(name_of(word)));
         }
         return in_end(alloc, rest, word, field);
     }
-    if let Some((word, rest)) = text_of(tokens, &[Role::I]) {
+    if let Some((word, rest)) = text_past(tokens, &[Role::I]) {
         if let Some(rest) = past(rest, &[Role::Colon]) {
             return inner(alloc, rest, depth, Some(name_of(word)));
         }
         return i_end(alloc, rest, word, field);
     }
-    if let Some((word, rest)) = text_of(tokens, &[Role::Seq]) {
+    if let Some((word, rest)) = text_past(tokens, &[Role::Seq]) {
         if let Some(rest) = past(rest, &[Role::Colon]) {
             return inner(alloc, rest, depth, Some(name_of(word)));
         }
@@ -242,19 +242,19 @@ fn range_unit<'t>(
     ensures { Gives (λ x. (condition x.0, x.1.now)) result
         (mapped (λ made. made (option_copied field.entry)) (at_of depth range_unit tokens.now)) }
 {
-    if let Some((word, rest)) = text_of(tokens, &[Role::LenRange]) {
+    if let Some((word, rest)) = text_past(tokens, &[Role::LenRange]) {
         if let Some(rest) = past(rest, &[Role::Colon]) {
             return inner(alloc, rest, depth, Some(name_of(word)));
         }
         return len_range_end(alloc, rest, word, field);
     }
-    if let Some((word, rest)) = text_of(tokens, &[Role::StringRange]) {
+    if let Some((word, rest)) = text_past(tokens, &[Role::StringRange]) {
         if let Some(rest) = past(rest, &[Role::Colon]) {
             return inner(alloc, rest, depth, Some(name_of(word)));
         }
         return string_range_end(alloc, rest, word, field);
     }
-    if let Some((word, rest)) = text_of(tokens, &[Role::Range]) {
+    if let Some((word, rest)) = text_past(tokens, &[Role::Range]) {
         if let Some(rest) = past(rest, &[Role::Colon]) {
             return inner(alloc, rest, depth, Some(name_of(word)));
         }
@@ -275,13 +275,13 @@ fn word_unit<'t>(
     ensures { Gives (λ x. (condition x.0, x.1.now)) result
         (mapped (λ made. made (option_copied field.entry)) (at_of depth word_unit tokens.now)) }
 {
-    if let Some((word, rest)) = text_of(tokens, &[Role::Bare]) {
+    if let Some((word, rest)) = text_past(tokens, &[Role::Bare]) {
         if let Some(rest) = past(rest, &[Role::Colon]) {
             return inner(alloc, rest, depth, Some(name_of(word)));
         }
         return bare_end(alloc, rest, word, field);
     }
-    if let Some((word, rest)) = text_of(tokens, &[Role::Quoted]) {
+    if let Some((word, rest)) = text_past(tokens, &[Role::Quoted]) {
         if let Some(rest) = past(rest, &[Role::Colon]) {
             return inner(alloc, rest, depth, Some(name_of(word)));
         }
