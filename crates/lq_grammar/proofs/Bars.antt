@@ -1,10 +1,10 @@
 -- A query of this grammar has no mark `|`.
-use Rattle.std.proofs.Common.{◌≡◌, ℕ, zero, suc, Bool, true, false, cond, ◌&&◌, List, [], ◌∷◌, Option, Some, None, refl}
+use Rattle.std.proofs.Common.{◌≡◌, ℕ, zero, suc, Bool, true, false, cond, ◌&&◌, List, [], ◌∷◌, Some, None, refl}
 use Rattle.std.proofs.Common.{ap, ◌∙◌, inl, inr}
 use Rattle.std.specs.List.{find}
 use Rattle.std.specs.Option.{option_map}
 use Rattle.std.proofs.lemmas.Bool.{and_parts}
-use Rattle.grammar.specs.Rule.{Token, Class, has, next, Rule, empty, one, unless, both, either, many, checked, deeper}
+use Rattle.grammar.specs.Rule.{Token, Class, has, empty, one, unless, both, either, many, checked, deeper}
 use Rattle.grammar.specs.Spelling.{Outcome, Span, Series, Spelled, Within}
 use Rattle.grammar.proofs.Sets.{apart, apart_next}
 use Rattle.lq_ast.specs.Condition.{Condition}

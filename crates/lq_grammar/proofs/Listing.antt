@@ -20,5 +20,5 @@ pub one_more : (ts : List Piece) (i : ℕ) (t : Piece) (list longer : List (Toke
     → longer ≡ map item_of (take (i + 1) ts)
 one_more ts i t list longer item at is made more =
     more ∙ ap (λ (l : List (Token Bytes)). l ++ item ∷ []) is
-      ∙ ap (λ (x : Token Bytes). map item_of (take i ts) ++ x ∷ []) made ∙ sym (map_take ts i t at)
+    ∙ ap (λ (x : Token Bytes). map item_of (take i ts) ++ x ∷ []) made ∙ sym (map_take ts i t at)
     ∙ ap (λ (n : ℕ). map item_of (take n ts)) (sym (add-one i))

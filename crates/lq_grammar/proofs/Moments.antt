@@ -1,21 +1,16 @@
 -- What is said of durations and bounds holds, and nothing else does.
-use Rattle.std.proofs.Common.{◌≡◌, ℕ, zero, suc, ◌+◌, ◌-◌, ◌^◌, ◌<◌, ◌≤◌, Bool, true, false, cond, ◌&&◌, nat_lt}
+use Rattle.std.proofs.Common.{◌≡◌, ℕ, zero, suc, ◌+◌, ◌^◌, ◌<◌, ◌≤◌, Bool, true, false, cond, ◌&&◌}
 use Rattle.std.proofs.Common.{nat_le, ltb}
 use Rattle.std.proofs.Common.{List, [], ◌∷◌, length, drop, slice_index, ℤ, pos, Option, Some, None, Result, Ok, Err}
-use Rattle.std.proofs.Common.{IfOk}
-use Rattle.std.proofs.Common.{◌⊎◌, inl, inr, refl, sym, ap, ◌∙◌, subst, arith}
-use Rattle.std.specs.Prelude.{int_le, int_lt}
+use Rattle.std.proofs.Common.{inl, inr, refl, sym, ap, ◌∙◌, subst, arith}
 use Rattle.std.proofs.lemmas.Bool.{ltb-true, ltb-false, and_parts}
 use Rattle.std.proofs.lemmas.Int.{ints}
 use Rattle.std.proofs.lemmas.List.{length-drop}
 use Rattle.log_model.specs.MomentText.{IsMomentInRange}
 use Rattle.time_text.specs.Reading.{◌>>=◌, digits_len, number_at, AreAlike}
-use Rattle.time_text.specs.Duration.{SpellsDuration}
-use Rattle.time_text.specs.DurationReading.{letter_unit, begins_with, with_rest, unit_at, times, part_at, AnswersSum}
-use Rattle.time_text.specs.Bound.{SpellsBound, AreInRange}
+use Rattle.time_text.specs.DurationReading.{letter_unit, with_rest, unit_at, times, part_at, AnswersSum}
+use Rattle.time_text.specs.Bound.{AreInRange}
 use Rattle.time_text.specs.BoundReading.{bound_at}
-use Rattle.time_text.specs.declared.bound.Span.{Span}
-use Rattle.time_text.specs.declared.fault.TimeFault.{TimeFault}
 use Rattle.time_text.specs.declared.fault.TimeFault.TheVariants.{NotATime, OutOfRange as NotInRange}
 use Rattle.time_text.specs.declared.fault.DurationFault.{DurationFault}
 use Rattle.time_text.specs.declared.fault.DurationFault.TheVariants.{NotADuration, OutOfRange}
@@ -158,12 +153,15 @@ bound_says text = by_read (bound_at text) refl
     by_test ends e true both =
         let parts = and_parts (is_kept ends.0) (is_kept ends.1) both in
         is_read (Ok (record { from = ends.0; to = ends.1 })) text
-          (e, (in_range ends.0 parts.0, in_range ends.1 parts.1))
+        (e, (in_range ends.0 parts.0, in_range ends.1 parts.1))
     by_test ends e false some = λ first last spelled range.
         let out = is_out_of_range (Err NotInRange) text (ends, e, apart ends some) refl in
         let same = one_bound text first last out.0 out.1 spelled out.2 in
-        out.3 (subst (λ (m : ℤ). IsMomentInRange m) same.0 range.0, subst
-          (λ (m : ℤ). IsMomentInRange m) same.1 range.1)
+        out.3 (
+          subst (λ (m : ℤ). IsMomentInRange m) same.0 range.0,
+          subst
+              (λ (m : ℤ). IsMomentInRange m) same.1 range.1,
+        )
 
     by_read : (read : Option (ℤ × ℤ)) → bound_at text ≡ read → SaysBound text (kept read)
     by_read None e = λ first last spelled range. is_no_time (Err NotATime) text e refl first last spelled

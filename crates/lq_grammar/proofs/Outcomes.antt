@@ -1,5 +1,5 @@
 -- A text has one outcome: the one that its tokens, and else reading from the left, come to.
-use Rattle.std.proofs.Common.{◌≡◌, ℕ, zero, suc, ◌+◌, ◌-◌, Bool, true, false, cond, ◌||◌, List, [], ◌∷◌, ◌++◌, length}
+use Rattle.std.proofs.Common.{◌≡◌, ℕ, ◌-◌, List, ◌++◌, length}
 use Rattle.std.proofs.Common.{drop, map}
 use Rattle.std.proofs.Common.{Option, Some, None, Result, Ok, Err, refl, sym, ap, ◌∙◌, subst, arith}
 use Rattle.std.proofs.lemmas.List.{length-append, drop_at}
@@ -17,7 +17,7 @@ use Rattle.lq_grammar.specs.declared.fault.QueryFault.TheVariants.{BadDuration}
 use Rattle.lq_grammar.specs.declared.fault.QueryFault.TheVariants.{Memory, NotBuilt}
 use Rattle.lq_grammar.specs.Values.{Bytes, Reason, bad_number, bad_time, bad_duration}
 use Rattle.lq_grammar.specs.Items.{item_of}
-use Rattle.lq_grammar.specs.Query.{HasItems, first_bar, IsQuery, reading, place_or_end, IsSyntax, IsFlaw}
+use Rattle.lq_grammar.specs.Query.{HasItems, first_bar, IsQuery, reading, place_or_end}
 use Rattle.lq_grammar.specs.Query.{flaw_fault, OutcomeOf, QueryOf}
 use Rattle.lq_grammar.proofs.Answered.{answered_query, only_query}
 use Rattle.lq_grammar.proofs.Bars.{no_bar}

@@ -1,7 +1,7 @@
 -- The grammar of LogsQL's filters ("Query syntax"), a rule for each line of its EBNF, which stands above the rule. Words
 -- in capitals are Bare tokens in any case of their letters, and `^` says that a token is glued to the one before it.
 use Rattle.std.specs.Prelude.{ℕ, Bool, true, false, List, [], ◌∷◌, ◌++◌, flat_map, ℤ, None}
-use Rattle.grammar.specs.Rule.{Token, Class, Rule, empty, one, unless, both, either, many, checked, deeper, Grammar}
+use Rattle.grammar.specs.Rule.{Class, Rule, empty, one, unless, both, either, many, checked, deeper, Grammar}
 use Rattle.lq_ast.specs.declared.select.How.{How}
 use Rattle.lq_ast.specs.declared.select.How.TheVariants.{Is, IsNot, Matches, MatchesNot}
 use Rattle.lq_ast.specs.Condition.{Condition, Test, Tests}
@@ -205,7 +205,7 @@ unfoldable pub how : Parse How
 how =
     behind (any (Equals ∷ [])) (one (glued (Tilde ∷ [])) (λ _. Matches) ||| empty Is)
     ||| behind (any (Bang ∷ [])) (one (glued (Tilde ∷ [])) (λ _. MatchesNot)
-      ||| one (glued (Equals ∷ [])) (λ _. IsNot))
+    ||| one (glued (Equals ∷ [])) (λ _. IsNot))
 
 -- label = name ("=" | "!" ^"=" | "=" ^"~" | "!" ^"~") arg
 unfoldable pub label : Parse Test
