@@ -42,8 +42,8 @@ pub item_more : {A : Type 0} (depth : ℕ) (class : Class) (rule : Parse A) (lis
     → mapped (λ xs. longer ++ xs) (all_at depth (behind class rule) w) ≡ whole
 item_more depth class rule list longer u rest x w whole mark is same before =
     list_step logsql depth (behind class rule) list longer u x w whole refl
-      (next_first class rule u (next_read class u rest mark))
-      (behind_read depth class rule u rest mark ∙ is) same before
+    (next_first class rule u (next_read class u rest mark))
+    (behind_read depth class rule u rest mark ∙ is) same before
   where
     none : (k : Class) → k ++ [] ≡ k
     none [] = refl

@@ -35,7 +35,7 @@ text_read : (depth : ℕ) (u rest : Tokens) (x : Bytes) → (t : Token Bytes) ×
     × (x ≡ t.content) → (at depth (text class) u ≡ Ok (x, rest)) × (next class u ≡ true)
 text_read depth u rest x (t, is, h, e) = (
   ap (at depth (text class)) is ∙ cond-true (has class t) (Ok (t.content, rest)) (Err (stuck (suc (length rest)))) h
-  ∙ ap (λ (y : Bytes). found y rest) (sym e),
+      ∙ ap (λ (y : Bytes). found y rest) (sym e),
   ap (next class) is ∙ h,
 )
 

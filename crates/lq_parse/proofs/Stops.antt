@@ -1,10 +1,10 @@
 -- Where reading stops, as a fault with its place.
-use Rattle.std.proofs.Common.{◌≡◌, ◌≢◌, ℕ, ◌≤◌, ◌-◌, List, length, drop, Option, Some, None, Result, Ok, Err, IfOk}
+use Rattle.std.proofs.Common.{◌≡◌, ◌≢◌, ℕ, ◌≤◌, List, length, Option, Some, None, Result, Ok, Err, IfOk}
 use Rattle.std.proofs.Common.{sym, ap, ◌∙◌, subst, refl, arith}
 use Rattle.std.proofs.lemmas.List.{length-append}
 use Rattle.grammar.specs.Rule.{Token}
 use Rattle.grammar.specs.Spelling.{IsStuck}
-use Rattle.grammar.specs.Reading.{Answers, Stop, stuck, flawed}
+use Rattle.grammar.specs.Reading.{Answers, Stop, stuck}
 use Rattle.lq_ast.specs.Condition.{Condition}
 use Rattle.lq_lex.specs.Token.{Token as Piece}
 use Rattle.lq_lex.specs.Lexing.{HasLexed}
@@ -36,7 +36,7 @@ pub outcome_when : (text : Bytes) (items : Items) (r : Result Condition (Stop Re
     → OutcomeOf text items (named text items r)
 outcome_when text items r e =
     subst (λ (q : Result Condition (Stop Reason)). OutcomeOf text items (named text items q)) e
-      (named_outcome text items)
+    (named_outcome text items)
 
 pub few_left : (items : Items) (left : ℕ) → reading items ≡ Err (stuck left) → left ≤ length items
 few_left items left e = by_answer (subst (Answers IsQuery items) e (answered_query items))

@@ -1,5 +1,5 @@
 -- Durations and bounds as they are read.
-use Rattle.std.proofs.Common.{◌≡◌, ℕ, ◌^◌, ◌<◌, ◌≤◌, ℤ, pos, Option, Some, None, Result, Ok, Err, IfOk, refl, ap, ◌∙◌}
+use Rattle.std.proofs.Common.{◌≡◌, ℕ, ◌^◌, ◌<◌, ◌≤◌, ℤ, pos, Some, None, Result, Ok, Err, IfOk, refl}
 use Rattle.std.proofs.Common.{subst}
 use Rattle.std.specs.Option.{option_map}
 use Rattle.std.specs.Result.{result_ok}
@@ -13,7 +13,7 @@ use Rattle.time_text.specs.declared.fault.DurationFault.{DurationFault}
 use Rattle.time_text.specs.declared.fault.DurationFault.TheVariants.{NotADuration, OutOfRange}
 use Rattle.time_text.proofs.Bounds.{is_only}
 use Rattle.lq_grammar.specs.Values.{Bytes}
-use Rattle.lq_grammar.specs.Moments.{SaysDuration, duration_of, SaysBound, bound_of}
+use Rattle.lq_grammar.specs.Moments.{duration_of, bound_of}
 use Rattle.lq_grammar.proofs.Moments.{duration_says, duration_only, bound_says, bound_only}
 use Rattle.lq_parse.specs.Ends.{ends_of}
 

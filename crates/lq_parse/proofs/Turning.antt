@@ -41,7 +41,7 @@ abbrev found : Condition → List (Token Bytes) → Answer Bytes Reason Conditio
 found x w = Ok (x, w)
 
 module _ (depth : ℕ) (e : Parse Filtering) (join : Conditions → Condition) (field : Option Bytes)
-  (list : List Condition) where
+    (list : List Condition) where
   pub fold_end : (u : List (Token Bytes)) → nullable e ≡ false → next (first heads e) u ≡ false
       → gathered join field list (all_at depth e u) ≡ Ok (of_list join list, u)
   fold_end u some h =
@@ -79,8 +79,11 @@ unmapped {A} {B} f (Ok (x, v)) y w e =
 
     pair_is : (a b : B) (v w : List (Token Bytes)) → read_as a v ≡ read_as b w → (a ≡ b) × (v ≡ w)
     pair_is a b v w e =
-        let p : (a, v) ≡ (b, w) = cc in (ap (λ (q : B × List (Token Bytes)). q.0) p, ap
-        (λ (q : B × List (Token Bytes)). q.1) p)
+        let p : (a, v) ≡ (b, w) = cc in (
+          ap (λ (q : B × List (Token Bytes)). q.0) p,
+          ap
+              (λ (q : B × List (Token Bytes)). q.1) p,
+        )
 
 -- what a loop keeps that joins each filter
 pub fold_step : (depth : ℕ) (e : Parse Filtering) (join : Conditions → Condition) (field : Option Bytes)

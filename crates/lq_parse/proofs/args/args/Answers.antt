@@ -13,5 +13,5 @@ others-smaller c =
 pub others-preserved : goal.others-preserved
 others-preserved c depth =
     item_more depth (any (Comma ∷ [])) arg c.others.list.items _ c.others.rest.now c.in-Some.next.now
-      c.in_ok-text-2.text c.in_ok-text-2.behind.now _ c.in-Some.ensures
-      (c.in_ok-text-2.ensures depth) c.in_ok-push-2.ensures.items (c.others.invariant depth)
+    c.in_ok-text-2.text c.in_ok-text-2.behind.now _ c.in-Some.ensures
+    (c.in_ok-text-2.ensures depth) c.in_ok-push-2.ensures.items (c.others.invariant depth)

@@ -24,9 +24,9 @@ pub and-others-preserved : goal.and-others-preserved
 and-others-preserved t c = (
   omega arith,
   fold_step c.args.depth next_unary all_of (option_copied c.args.field)
-    (map condition c.others.filters.items) _ c.others.rest.now
-    (condition c.in_ok-another.another) c.in_ok-another.behind.now _ next_some
-    (sym c.at_unary.ensures ∙ c.others-test.true) c.in_ok-another.ensures
+      (map condition c.others.filters.items) _ c.others.rest.now
+      (condition c.in_ok-another.another) c.in_ok-another.behind.now _ next_some
+      (sym c.at_unary.ensures ∙ c.others-test.true) c.in_ok-another.ensures
       (ap (map condition) c.in_ok-push-2.ensures.items ∙ map-append condition c.others.filters.items _)
       c.others.invariant.1,
 )
@@ -34,7 +34,7 @@ and-others-preserved t c = (
 pub or-others-smaller : goal.or-others-smaller
 or-others-smaller t c =
     fold_shorter c.args.depth (behind (any (Or ∷ [])) and) (option_copied c.args.field) c.others.rest.now
-      (condition c.in_ok-another.another) c.in_ok-another.behind.now refl
+    (condition c.in_ok-another.another) c.in_ok-another.behind.now refl
     (ap (mapped (λ made. made (option_copied c.args.field)))
     (behind_read c.args.depth (any (Or ∷ [])) and c.others.rest.now c.in-Some.next.now c.in-Some.ensures)
     ∙ c.in_ok-another.ensures)
@@ -43,8 +43,8 @@ pub or-others-preserved : goal.or-others-preserved
 or-others-preserved t c = (
   omega arith,
   fold_step c.args.depth (behind (any (Or ∷ [])) and) any_of (option_copied c.args.field)
-    (map condition c.others.filters.items) _ c.others.rest.now
-    (condition c.in_ok-another.another) c.in_ok-another.behind.now _ refl
+      (map condition c.others.filters.items) _ c.others.rest.now
+      (condition c.in_ok-another.another) c.in_ok-another.behind.now _ refl
       (next_read (any (Or ∷ [])) c.others.rest.now c.in-Some.next.now c.in-Some.ensures)
       (ap (mapped (λ made. made (option_copied c.args.field)))
       (behind_read c.args.depth (any (Or ∷ [])) and c.others.rest.now c.in-Some.next.now c.in-Some.ensures)
@@ -64,8 +64,12 @@ negation-returns t c =
 pub negation-returns-in_err-filter : goal.negation-returns-in_err-filter
 negation-returns-in_err-filter t c =
     let p = err_from_is_err_and c.from_residual-in_err-filter.result c.from_residual-in_err-filter.ensures.1 in
-    rw (p.1, p.2, name_read c.args.depth negation c.args.tokens.now c.in_ok-rest.rest.now
-      (omega arith) c.in_ok-rest.ensures)
+    rw (
+      p.1,
+      p.2,
+      name_read c.args.depth negation c.args.tokens.now c.in_ok-rest.rest.now
+          (omega arith) c.in_ok-rest.ensures,
+    )
     (fails_so _ (option_copied c.args.field) (at (c.args.depth - 1) unary c.in_ok-rest.rest.now)
     c.in_err-filter.ensures)
 
@@ -80,7 +84,11 @@ inner_negation-returns t c =
 pub inner_negation-returns-in_err-filter : goal.inner_negation-returns-in_err-filter
 inner_negation-returns-in_err-filter t c =
     let p = err_from_is_err_and c.from_residual-in_err-filter.result c.from_residual-in_err-filter.ensures.1 in
-    rw (p.1, p.2, name_read c.args.depth inner_negation c.args.tokens.now c.in_ok-rest.rest.now
-      (omega arith) c.in_ok-rest.ensures)
+    rw (
+      p.1,
+      p.2,
+      name_read c.args.depth inner_negation c.args.tokens.now c.in_ok-rest.rest.now
+          (omega arith) c.in_ok-rest.ensures,
+    )
     (fails_so _ (option_copied c.args.field) (at (c.args.depth - 1) inner c.in_ok-rest.rest.now)
     c.in_err-filter.ensures)

@@ -15,6 +15,6 @@ others-smaller c =
 pub others-preserved : goal.others-preserved
 others-preserved c depth =
     item_more depth (any (Or ∷ [])) labels (map tests_of c.others.groups.items) _ c.others.rest.now c.in-Some.next.now
-      (tests_of c.in_ok-another.another) c.in_ok-another.behind.now _ c.in-Some.ensures (c.in_ok-another.ensures depth)
+    (tests_of c.in_ok-another.another) c.in_ok-another.behind.now _ c.in-Some.ensures (c.in_ok-another.ensures depth)
     (ap (map tests_of) c.in_ok-push-2.ensures.items ∙ map-append tests_of c.others.groups.items _)
     (c.others.invariant depth)

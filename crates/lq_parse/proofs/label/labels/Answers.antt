@@ -15,7 +15,7 @@ others-smaller c =
 pub others-preserved : goal.others-preserved
 others-preserved c depth =
     item_more depth (any (Comma ∷ [])) label (map test_of c.others.labels.items) _ c.others.rest.now
-      c.in-Some.next.now (test_of c.in_ok-another.another) c.in_ok-another.behind.now _ c.in-Some.ensures
-      (c.in_ok-another.ensures depth)
+    c.in-Some.next.now (test_of c.in_ok-another.another) c.in_ok-another.behind.now _ c.in-Some.ensures
+    (c.in_ok-another.ensures depth)
     (ap (map test_of) c.in_ok-push-2.ensures.items ∙ map-append test_of c.others.labels.items _)
     (c.others.invariant depth)

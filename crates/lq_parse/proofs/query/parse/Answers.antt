@@ -23,7 +23,7 @@ pub returns-in_err-tokens-clause-complete : goal.returns-in_err-tokens-clause-co
 returns-in_err-tokens-clause-complete c =
     complete_when c.args.s.now c.from_residual.result
     (lex_when c.args.s.now c.from_residual.result c.in_err-tokens.field-0.0 c.in_err-tokens.ensures.lexed
-      (err_from_is_err_and c.from_residual.result c.from_residual.ensures.1))
+    (err_from_is_err_and c.from_residual.result c.from_residual.ensures.1))
 
 pub returns-clause-complete : goal.returns-clause-complete
 returns-clause-complete c = complete_when c.args.s.now c.query_of.result c.query_of.ensures
