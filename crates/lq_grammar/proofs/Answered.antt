@@ -16,5 +16,6 @@ pub answered_query : (u : List (Token Bytes)) → Answers IsQuery u (whole (at m
 answered_query u = answered passes query query_passes most_open u
 
 -- what the tokens spell is read, so they spell at most one query
-pub only_query : (r : Outcome Reason Condition) (u : List (Token Bytes)) → IsQuery r u → whole (at most_open query) u ≡ as_read r
+pub only_query : (r : Outcome Reason Condition) (u : List (Token Bytes)) → IsQuery r u
+    → whole (at most_open query) u ≡ as_read r
 only_query r u s = answered_only passes query query_passes most_open r u s

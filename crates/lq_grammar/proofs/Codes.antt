@@ -1,5 +1,6 @@
 -- The kinds of the tokens of some roles.
-use Rattle.std.proofs.Common.{◌≡◌, ℕ, ◌+◌, ◌<◌, Bool, true, false, cond, eqb, ◌==◌, ◌||◌, List, [], ◌∷◌, ◌++◌, refl, sym, ap, ◌∙◌, arith}
+use Rattle.std.proofs.Common.{◌≡◌, ℕ, ◌+◌, ◌<◌, Bool, true, false, cond, eqb, ◌==◌, ◌||◌, List, [], ◌∷◌, ◌++◌, refl}
+use Rattle.std.proofs.Common.{sym, ap, ◌∙◌, arith}
 use Rattle.std.proofs.lemmas.Bool.{eqb-true}
 use Rattle.std.proofs.Common.{eq-eqb}
 use Rattle.std.specs.List.{list_any}
@@ -38,50 +39,64 @@ pub member-append : (c : ℕ) (a b : Class) → member c (a ++ b) ≡ (member c 
 member-append c [] b = refl
 member-append c (k ∷ a) b = by_test (eqb k c) (member-append c a b)
   where
-    by_test : (x : Bool) → member c (a ++ b) ≡ (member c a || member c b) → (x || member c (a ++ b)) ≡ ((x || member c a) || member c b)
+    by_test : (x : Bool) → member c (a ++ b) ≡ (member c a || member c b)
+        → (x || member c (a ++ b)) ≡ ((x || member c a) || member c b)
     by_test true e = refl
     by_test false e = e
 
 -- a kind that is not glued is among those that are not, and a glued one among the glued
 loose_in : (n : ℕ) (roles : List Role) → n < apart_by → member n (glued roles) ≡ false
 loose_in n [] h = refl
-loose_in n (r ∷ roles) h = ap (λ (b : Bool). b || member n (glued roles)) (differ (number r + apart_by) n (λ e. omega (arith, e))) ∙ loose_in n roles h
+loose_in n (r ∷ roles) h =
+    ap (λ (b : Bool). b || member n (glued roles)) (differ (number r + apart_by) n (λ e. omega (arith, e)))
+    ∙ loose_in n roles h
 
 glued_out : (n : ℕ) (roles : List Role) → member (n + apart_by) (loose roles) ≡ false
 glued_out n [] = refl
-glued_out n (r ∷ roles) = ap (λ (b : Bool). b || member (n + apart_by) (loose roles)) (differ (number r) (n + apart_by) (λ e. omega (arith, e, number_bound r))) ∙ glued_out n roles
+glued_out n (r ∷ roles) =
+    ap (λ (b : Bool). b || member (n + apart_by) (loose roles))
+    (differ (number r) (n + apart_by) (λ e. omega (arith, e, number_bound r))) ∙ glued_out n roles
 
 glued_same : (n : ℕ) (roles : List Role) → member (n + apart_by) (glued roles) ≡ member n (loose roles)
 glued_same n [] = refl
 glued_same n (r ∷ roles) =
-    ap (λ (b : Bool). b || member (n + apart_by) (glued roles)) (same_test (number r + apart_by) (n + apart_by) (number r) n (λ e. omega (arith, e)) (λ e. omega (arith, e)))
+    ap (λ (b : Bool). b || member (n + apart_by) (glued roles))
+    (same_test (number r + apart_by) (n + apart_by) (number r) n (λ e. omega (arith, e)) (λ e. omega (arith, e)))
     ∙ ap (λ (b : Bool). eqb (number r) n || b) (glued_same n roles)
 
 among : (n : ℕ) (roles : List Role) → list_any (λ other. number other == n) roles ≡ member n (loose roles)
 among n [] = refl
 among n (r ∷ roles) = ap (λ (b : Bool). eqb (number r) n || b) (among n roles)
 
-any_of_role : (role : Role) (roles : List Role) (g : Bool) → member (number role) (loose roles) ≡ member (number role + cond g apart_by 0) (any roles)
+any_of_role : (role : Role) (roles : List Role) (g : Bool)
+    → member (number role) (loose roles) ≡ member (number role + cond g apart_by 0) (any roles)
 any_of_role role roles true =
-    sym (glued_same (number role) roles) ∙ ap (λ (b : Bool). b || member (number role + apart_by) (glued roles)) (sym (glued_out (number role) roles)) ∙ sym (member-append (number role + apart_by) (loose roles) (glued roles))
+    sym (glued_same (number role) roles) ∙ ap (λ (b : Bool). b || member (number role + apart_by) (glued roles))
+    (sym (glued_out (number role) roles)) ∙ sym (member-append (number role + apart_by) (loose roles) (glued roles))
 any_of_role role roles false =
     let zero : number role + 0 ≡ number role = omega arith in
-    sym (ap (λ (n : ℕ). member n (any roles)) zero ∙ member-append (number role) (loose roles) (glued roles) ∙ ap (λ (b : Bool). member (number role) (loose roles) || b) (loose_in (number role) roles (number_bound role)) ∙ or_none (member (number role) (loose roles)))
+    sym (ap (λ (n : ℕ). member n (any roles)) zero ∙ member-append (number role) (loose roles) (glued roles)
+    ∙ ap (λ (b : Bool). member (number role) (loose roles) || b) (loose_in (number role) roles (number_bound role))
+    ∙ or_none (member (number role) (loose roles)))
 
-glued_of_role : (role : Role) (roles : List Role) (g : Bool) → cond g (member (number role) (loose roles)) false ≡ member (number role + cond g apart_by 0) (glued roles)
+glued_of_role : (role : Role) (roles : List Role) (g : Bool)
+    → cond g (member (number role) (loose roles)) false ≡ member (number role + cond g apart_by 0) (glued roles)
 glued_of_role role roles true = sym (glued_same (number role) roles)
 glued_of_role role roles false =
     let zero : number role + 0 ≡ number role = omega arith in
     sym (ap (λ (n : ℕ). member n (glued roles)) zero ∙ loose_in (number role) roles (number_bound role))
 
-pub any_role : (role : Role) (roles : List Role) (g : Bool) → list_any (λ other. number other == number role) roles ≡ member (number role + cond g apart_by 0) (any roles)
+pub any_role : (role : Role) (roles : List Role) (g : Bool)
+    → list_any (λ other. number other == number role) roles ≡ member (number role + cond g apart_by 0) (any roles)
 any_role role roles g = among (number role) roles ∙ any_of_role role roles g
 
-pub glued_role : (role : Role) (roles : List Role) (g : Bool) → g ≡ true → list_any (λ other. number other == number role) roles ≡ member (number role + cond g apart_by 0) (glued roles)
+pub glued_role : (role : Role) (roles : List Role) (g : Bool) → g ≡ true
+    → list_any (λ other. number other == number role) roles ≡ member (number role + cond g apart_by 0) (glued roles)
 glued_role role roles true e = among (number role) roles ∙ glued_of_role role roles true
 glued_role role roles false e = absurd cc
 
-pub loose_role : (role : Role) (roles : List Role) (g : Bool) → g ≡ false → g ≡ member (number role + cond g apart_by 0) (glued roles)
+pub loose_role : (role : Role) (roles : List Role) (g : Bool) → g ≡ false
+    → g ≡ member (number role + cond g apart_by 0) (glued roles)
 loose_role role roles true e = absurd cc
 loose_role role roles false e = glued_of_role role roles false
 

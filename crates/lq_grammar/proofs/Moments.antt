@@ -1,19 +1,16 @@
 -- What is said of durations and bounds holds, and nothing else does.
-use Rattle.std.proofs.Common.{◌≡◌, ℕ, zero, suc, ◌+◌, ◌-◌, ◌^◌, ◌<◌, ◌≤◌, Bool, true, false, cond, ◌&&◌, nat_lt, nat_le, ltb}
-use Rattle.std.proofs.Common.{List, [], ◌∷◌, length, drop, slice_index, ℤ, pos, Option, Some, None, Result, Ok, Err, IfOk}
-use Rattle.std.proofs.Common.{◌⊎◌, inl, inr, refl, sym, ap, ◌∙◌, subst, arith}
-use Rattle.std.specs.Prelude.{int_le, int_lt}
+use Rattle.std.proofs.Common.{◌≡◌, ℕ, zero, suc, ◌+◌, ◌^◌, ◌<◌, ◌≤◌, Bool, true, false, cond, ◌&&◌}
+use Rattle.std.proofs.Common.{nat_le, ltb}
+use Rattle.std.proofs.Common.{List, [], ◌∷◌, length, drop, slice_index, ℤ, pos, Option, Some, None, Result, Ok, Err}
+use Rattle.std.proofs.Common.{inl, inr, refl, sym, ap, ◌∙◌, subst, arith}
 use Rattle.std.proofs.lemmas.Bool.{ltb-true, ltb-false, and_parts}
 use Rattle.std.proofs.lemmas.Int.{ints}
 use Rattle.std.proofs.lemmas.List.{length-drop}
 use Rattle.log_model.specs.MomentText.{IsMomentInRange}
 use Rattle.time_text.specs.Reading.{◌>>=◌, digits_len, number_at, AreAlike}
-use Rattle.time_text.specs.Duration.{SpellsDuration}
-use Rattle.time_text.specs.DurationReading.{letter_unit, begins_with, with_rest, unit_at, times, part_at, AnswersSum}
-use Rattle.time_text.specs.Bound.{SpellsBound, AreInRange}
+use Rattle.time_text.specs.DurationReading.{letter_unit, with_rest, unit_at, times, part_at, AnswersSum}
+use Rattle.time_text.specs.Bound.{AreInRange}
 use Rattle.time_text.specs.BoundReading.{bound_at}
-use Rattle.time_text.specs.declared.bound.Span.{Span}
-use Rattle.time_text.specs.declared.fault.TimeFault.{TimeFault}
 use Rattle.time_text.specs.declared.fault.TimeFault.TheVariants.{NotATime, OutOfRange as NotInRange}
 use Rattle.time_text.specs.declared.fault.DurationFault.{DurationFault}
 use Rattle.time_text.specs.declared.fault.DurationFault.TheVariants.{NotADuration, OutOfRange}
@@ -91,12 +88,12 @@ sums bytes [] (suc most) sum left less some = all_read bytes [] sum left refl so
 sums bytes (byte ∷ rest) zero sum left less some = absurd (omega (arith, less))
 sums bytes (byte ∷ rest) (suc most) sum left less some = by_part (part_at (byte ∷ rest)) refl
     (λ nanos next e. sums bytes next most (sum + nanos)
-      (next_left bytes (byte ∷ rest) next sum nanos (sum + nanos) left e (added sum nanos))
-      (let short = part_shorter (byte ∷ rest) nanos next e in omega (arith, less, short)) some)
+    (next_left bytes (byte ∷ rest) next sum nanos (sum + nanos) left e (added sum nanos))
+    (let short = part_shorter (byte ∷ rest) nanos next e in omega (arith, less, short)) some)
   where
     by_part : (p : Option (ℕ × List ℕ)) → part_at (byte ∷ rest) ≡ p
         → ((nanos : ℕ) (next : List ℕ) → part_at (byte ∷ rest) ≡ Some (nanos, next)
-          → AnswersSum (sum_from most (sum + nanos) next) bytes)
+        → AnswersSum (sum_from most (sum + nanos) next) bytes)
         → AnswersSum (p >>= λ part. sum_from most (sum + part.0) part.1) bytes
     by_part None e again = none_spelled bytes (byte ∷ rest) sum left (omega arith) e
     by_part (Some x) e again = again x.0 x.1 e
@@ -107,7 +104,8 @@ says_sum text (Some sum) (nanos, spelled, alike) = by_test (ltb sum (2 ^ 63)) re
   where
     by_test : (b : Bool) → ltb sum (2 ^ 63) ≡ b → AreAlike sum nanos
         → SaysDuration text (cond b (Ok (pos sum)) (Err OutOfRange))
-    by_test true e (inl same) = (nanos, ap pos same, spelled, subst (λ (n : ℕ). n < 2 ^ 63) same (ltb-true sum (2 ^ 63) e))
+    by_test true e (inl same) =
+        (nanos, ap pos same, spelled, subst (λ (n : ℕ). n < 2 ^ 63) same (ltb-true sum (2 ^ 63) e))
     by_test true e (inr beyond) = absurd (omega (arith, ltb-true sum (2 ^ 63) e, beyond.0))
     by_test false e (inl same) = (nanos, spelled, subst (λ (n : ℕ). 2 ^ 63 ≤ n) same (ltb-false sum (2 ^ 63) e))
     by_test false e (inr beyond) = (nanos, spelled, beyond.1)
@@ -154,11 +152,16 @@ bound_says text = by_read (bound_at text) refl
         → SaysBound text (cond b (Some ends) None)
     by_test ends e true both =
         let parts = and_parts (is_kept ends.0) (is_kept ends.1) both in
-        is_read (Ok (record { from = ends.0; to = ends.1 })) text (e, (in_range ends.0 parts.0, in_range ends.1 parts.1))
+        is_read (Ok (record { from = ends.0; to = ends.1 })) text
+        (e, (in_range ends.0 parts.0, in_range ends.1 parts.1))
     by_test ends e false some = λ first last spelled range.
         let out = is_out_of_range (Err NotInRange) text (ends, e, apart ends some) refl in
         let same = one_bound text first last out.0 out.1 spelled out.2 in
-        out.3 (subst (λ (m : ℤ). IsMomentInRange m) same.0 range.0, subst (λ (m : ℤ). IsMomentInRange m) same.1 range.1)
+        out.3 (
+          subst (λ (m : ℤ). IsMomentInRange m) same.0 range.0,
+          subst
+              (λ (m : ℤ). IsMomentInRange m) same.1 range.1,
+        )
 
     by_read : (read : Option (ℤ × ℤ)) → bound_at text ≡ read → SaysBound text (kept read)
     by_read None e = λ first last spelled range. is_no_time (Err NotATime) text e refl first last spelled

@@ -1,7 +1,11 @@
 -- The numbers of roles are small.
 use Rattle.std.proofs.Common.{◌<◌, lit<}
 use Rattle.lq_grammar.specs.declared.role.Role.{Role}
-use Rattle.lq_grammar.specs.declared.role.Role.TheVariants.{And, Or, Not, In, I, Seq, LenRange, StringRange, Range, Time, Stream, Bare, QuotedTime, Quoted, Bar, Open, Close, SquareOpen, SquareClose, CurlyOpen, CurlyClose, Comma, Colon, Equals, Bang, Tilde, Star, Less, Greater, Minus, Plus}
+use Rattle.lq_grammar.specs.declared.role.Role.TheVariants.{And, Or, Not, In, I, Seq, LenRange, StringRange, Range}
+use Rattle.lq_grammar.specs.declared.role.Role.TheVariants.{Time, Stream, Bare, QuotedTime, Quoted, Bar, Open, Close}
+use Rattle.lq_grammar.specs.declared.role.Role.TheVariants.{SquareOpen, SquareClose, CurlyOpen, CurlyClose, Comma}
+use Rattle.lq_grammar.specs.declared.role.Role.TheVariants.{Colon, Equals, Bang, Tilde, Star, Less, Greater, Minus}
+use Rattle.lq_grammar.specs.declared.role.Role.TheVariants.{Plus}
 use Rattle.lq_grammar.specs.Roles.{number, apart_by}
 
 pub number_bound : (role : Role) → number role < apart_by

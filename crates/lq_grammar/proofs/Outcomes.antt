@@ -1,5 +1,6 @@
 -- A text has one outcome: the one that its tokens, and else reading from the left, come to.
-use Rattle.std.proofs.Common.{◌≡◌, ℕ, zero, suc, ◌+◌, ◌-◌, Bool, true, false, cond, ◌||◌, List, [], ◌∷◌, ◌++◌, length, drop, map}
+use Rattle.std.proofs.Common.{◌≡◌, ℕ, ◌-◌, List, ◌++◌, length}
+use Rattle.std.proofs.Common.{drop, map}
 use Rattle.std.proofs.Common.{Option, Some, None, Result, Ok, Err, refl, sym, ap, ◌∙◌, subst, arith}
 use Rattle.std.proofs.lemmas.List.{length-append, drop_at}
 use Rattle.grammar.specs.Rule.{Token}
@@ -11,13 +12,15 @@ use Rattle.lq_lex.specs.Lexing.{HasLexed}
 use Rattle.lq_lex.specs.declared.fault.LexFault.{LexFault}
 use Rattle.lq_lex.proofs.Chains.{lexed_same}
 use Rattle.lq_grammar.specs.declared.fault.QueryFault.{QueryFault}
-use Rattle.lq_grammar.specs.declared.fault.QueryFault.TheVariants.{Lex, Syntax, TooDeep, BadNumber, BadTime, BadDuration}
+use Rattle.lq_grammar.specs.declared.fault.QueryFault.TheVariants.{Lex, Syntax, TooDeep, BadNumber, BadTime}
+use Rattle.lq_grammar.specs.declared.fault.QueryFault.TheVariants.{BadDuration}
 use Rattle.lq_grammar.specs.declared.fault.QueryFault.TheVariants.{Memory, NotBuilt}
 use Rattle.lq_grammar.specs.Values.{Bytes, Reason, bad_number, bad_time, bad_duration}
 use Rattle.lq_grammar.specs.Items.{item_of}
-use Rattle.lq_grammar.specs.Query.{HasItems, first_bar, IsQuery, reading, place_or_end, IsSyntax, IsFlaw}
-use Rattle.lq_grammar.specs.Query.{OutcomeOf, QueryOf}
+use Rattle.lq_grammar.specs.Query.{HasItems, first_bar, IsQuery, reading, place_or_end}
+use Rattle.lq_grammar.specs.Query.{flaw_fault, OutcomeOf, QueryOf}
 use Rattle.lq_grammar.proofs.Answered.{answered_query, only_query}
+use Rattle.lq_grammar.proofs.Bars.{no_bar}
 
 abbrev Items : Type 0
 Items = List (Token Bytes)
@@ -31,16 +34,10 @@ Outcome = Result Condition QueryFault
 abbrev pub stop_place : Bytes → Items → ℕ → ℕ
 stop_place text items left = place_or_end text (drop (length items - left) items)
 
-abbrev pub named_flaw : Flaw Reason → ℕ → Outcome
-named_flaw too_deep at = Err (TooDeep at)
-named_flaw (refused bad_number) at = Err (BadNumber at)
-named_flaw (refused bad_time) at = Err (BadTime at)
-named_flaw (refused bad_duration) at = Err (BadDuration at)
-
 abbrev pub named : Bytes → Items → Result Condition (Stop Reason) → Outcome
 named text items (Ok c) = Ok c
 named text items (Err (stuck left)) = Err (Syntax (stop_place text items left))
-named text items (Err (flawed flaw at)) = named_flaw flaw at
+named text items (Err (flawed flaw at)) = Err (flaw_fault flaw at)
 
 -- the tokens that are left
 pub rest_is : (items before rest : Items) (left : ℕ) → items ≡ before ++ rest → left ≡ length rest
@@ -72,7 +69,7 @@ pub named_outcome : (text : Bytes) (items : Items) → OutcomeOf text items (nam
 named_outcome text items = by_read (reading items) refl (answered_query items)
   where
     by_flaw : (flaw : Flaw Reason) (at : ℕ) → reading items ≡ Err (flawed flaw at) → IsFlawed IsQuery items flaw at
-        → OutcomeOf text items (named_flaw flaw at)
+        → OutcomeOf text items (Err (flaw_fault flaw at))
     by_flaw too_deep at e h = record { is_first = e; has_flaw = h }
     by_flaw (refused bad_number) at e h = record { is_first = e; has_flaw = h }
     by_flaw (refused bad_time) at e h = record { is_first = e; has_flaw = h }
@@ -105,13 +102,14 @@ answer_to text (Err fault) = Err (Lex fault)
 abbrev Answered : Bytes → Outcome → Type 0
 Answered text r = (lexed : Lexed) × HasLexed text lexed × (answer_to text lexed ≡ r)
 
-by_items : (text : Bytes) (r : Outcome) → (items : Items) × HasItems text items × (first_bar items ≡ None) × OutcomeOf text items r
+by_items : (text : Bytes) (r : Outcome) → (items : Items) × HasItems text items × (first_bar items ≡ None)
+    × OutcomeOf text items r
     → Answered text r
 by_items text r (items, has, none, out) = (
   Ok has.0,
   has.1,
   ap (λ (l : Items). built text l (first_bar l)) (sym has.2) ∙ ap (built text items) none
-  ∙ outcome_named text items r out,
+      ∙ outcome_named text items r out,
 )
 
 by_bar : (text : Bytes) (at : ℕ) → (items : Items) × HasItems text items × (first_bar items ≡ Some at)
@@ -120,12 +118,12 @@ by_bar text at (items, has, bar) = (
   Ok has.0,
   has.1,
   ap (λ (l : Items). built text l (first_bar l)) (sym has.2)
-  ∙ ap (built text items) bar,
+      ∙ ap (built text items) bar,
 )
 
 answered_so : (text : Bytes) (r : Outcome) → QueryOf text r → Answered text r
 unfolding QueryOf
-answered_so text (Ok c) h = by_items text (Ok c) h
+answered_so text (Ok c) h = by_items text (Ok c) (h.items, h.has_items, no_bar (Ok c) h.items h.spelled, h.spelled)
 answered_so text (Err (Lex fault)) h = (Err fault, h, refl)
 answered_so text (Err (Syntax at)) h = by_items text (Err (Syntax at)) h
 answered_so text (Err (TooDeep at)) h = by_items text (Err (TooDeep at)) h
@@ -145,8 +143,13 @@ one_outcome text one other h k =
 pub query_named : (text : Bytes) (items : Items) → HasItems text items → first_bar items ≡ None → (r : Outcome)
     → named text items (reading items) ≡ r → QueryOf text r
 unfolding QueryOf
-query_named text items has none (Ok c) e = (items, has, none, subst (OutcomeOf text items) e (named_outcome text items))
-query_named text items has none (Err (Lex fault)) e = absurd (subst (OutcomeOf text items) e (named_outcome text items))
+query_named text items has none (Ok c) e = record {
+  items = items;
+  has_items = has;
+  spelled = subst (OutcomeOf text items) e (named_outcome text items);
+}
+query_named text items has none (Err (Lex fault)) e =
+    absurd (subst (OutcomeOf text items) e (named_outcome text items))
 query_named text items has none (Err (Syntax at)) e =
     (items, has, none, subst (OutcomeOf text items) e (named_outcome text items))
 query_named text items has none (Err (TooDeep at)) e =
@@ -160,3 +163,10 @@ query_named text items has none (Err (BadDuration at)) e =
 query_named text items has none (Err Memory) e = absurd (subst (OutcomeOf text items) e (named_outcome text items))
 query_named text items has none (Err (NotBuilt at)) e =
     absurd (subst (OutcomeOf text items) e (named_outcome text items))
+
+-- what is a query but for a flaw
+pub flaw_named : (text : Bytes) (items : Items) (flaw : Flaw Reason) (at : ℕ) → HasItems text items
+    → IsQuery (Err (flaw, at)) items → QueryOf text (Err (flaw_fault flaw at))
+flaw_named text items flaw at has spelled =
+    query_named text items has (no_bar (Err (flaw, at)) items spelled) (Err (flaw_fault flaw at))
+    (ap (named text items) (only_query (Err (flaw, at)) items spelled))

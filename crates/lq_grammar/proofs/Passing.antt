@@ -7,7 +7,13 @@ use Rattle.grammar.proofs.Whole.{Passes, PassesAt}
 use Rattle.lq_grammar.specs.declared.role.Role.TheVariants.{Open, SquareOpen, Colon, Star}
 use Rattle.lq_grammar.specs.Roles.{glued, any, bares, quoted, run_parts}
 use Rattle.lq_grammar.specs.Values.{Bytes}
-use Rattle.lq_grammar.specs.LogsQL.{Name, group, negation, inner_negation, heads, rules, logsql, query, texts, groups, optional_groups, or, and, next_unary, unary, unit, word_unit, range_unit, call_unit, stream_end, stream_value, time_end, inner, time, interval, last_bound, lone_run, bound, run, run_rest, selector, labels, label, how, leaf, range_leaf, word_leaf, mark_leaf, star, less, greater, regex, exact, range_end, ends, last_end, closing, string_range_end, len_range_end, seq_end, i_end, in_end, quoted_end, bare_end, high_size, size, end, num, args, arg}
+use Rattle.lq_grammar.specs.LogsQL.{Name, group, negation, inner_negation, heads, rules, logsql, query, texts, groups}
+use Rattle.lq_grammar.specs.LogsQL.{optional_groups, or, and, next_unary, unary, unit, word_unit, range_unit}
+use Rattle.lq_grammar.specs.LogsQL.{call_unit, stream_end, stream_value, time_end, inner, time, interval, last_bound}
+use Rattle.lq_grammar.specs.LogsQL.{lone_run, bound, run, run_rest, selector, labels, label, how, leaf, range_leaf}
+use Rattle.lq_grammar.specs.LogsQL.{word_leaf, mark_leaf, star, less, greater, regex, exact, range_end, ends, last_end}
+use Rattle.lq_grammar.specs.LogsQL.{closing, string_range_end, len_range_end, seq_end, i_end, in_end, quoted_end}
+use Rattle.lq_grammar.specs.LogsQL.{bare_end, high_size, size, end, num, args, arg}
 
 -- what goes on with each name
 abbrev next_to : Name → Class
@@ -30,43 +36,64 @@ abbrev short : Name → List (Token Bytes)
 short = shortest sample heads rules
 
 fit : (n : Name) → fits heads next_to (rules n) ≡ true
-unfolding query texts groups optional_groups or and next_unary unary unit word_unit range_unit call_unit stream_end stream_value time_end inner time interval last_bound lone_run bound run run_rest selector labels label how leaf range_leaf word_leaf mark_leaf star less greater regex exact range_end ends last_end closing string_range_end len_range_end seq_end i_end in_end quoted_end bare_end high_size size end num args arg
+unfolding query texts groups optional_groups or and next_unary unary unit word_unit range_unit call_unit stream_end
+    stream_value time_end inner time interval last_bound lone_run bound run run_rest selector labels label how leaf
+    range_leaf word_leaf mark_leaf star less greater regex exact range_end ends last_end closing string_range_end
+    len_range_end seq_end i_end in_end quoted_end bare_end high_size size end num args arg
 fit group = refl
 fit negation = refl
 fit inner_negation = refl
 
 next_in : (n : Name) → inside (more false heads next_to (rules n)) (next_to n) ≡ true
-unfolding query texts groups optional_groups or and next_unary unary unit word_unit range_unit call_unit stream_end stream_value time_end inner time interval last_bound lone_run bound run run_rest selector labels label how leaf range_leaf word_leaf mark_leaf star less greater regex exact range_end ends last_end closing string_range_end len_range_end seq_end i_end in_end quoted_end bare_end high_size size end num args arg
+unfolding query texts groups optional_groups or and next_unary unary unit word_unit range_unit call_unit stream_end
+    stream_value time_end inner time interval last_bound lone_run bound run run_rest selector labels label how leaf
+    range_leaf word_leaf mark_leaf star less greater regex exact range_end ends last_end closing string_range_end
+    len_range_end seq_end i_end in_end quoted_end bare_end high_size size end num args arg
 next_in group = refl
 next_in negation = refl
 next_in inner_negation = refl
 
 shuts_in : (n : Name) → inside (more true heads shuts (rules n)) (shuts n) ≡ true
-unfolding query texts groups optional_groups or and next_unary unary unit word_unit range_unit call_unit stream_end stream_value time_end inner time interval last_bound lone_run bound run run_rest selector labels label how leaf range_leaf word_leaf mark_leaf star less greater regex exact range_end ends last_end closing string_range_end len_range_end seq_end i_end in_end quoted_end bare_end high_size size end num args arg
+unfolding query texts groups optional_groups or and next_unary unary unit word_unit range_unit call_unit stream_end
+    stream_value time_end inner time interval last_bound lone_run bound run run_rest selector labels label how leaf
+    range_leaf word_leaf mark_leaf star less greater regex exact range_end ends last_end closing string_range_end
+    len_range_end seq_end i_end in_end quoted_end bare_end high_size size end num args arg
 shuts_in group = refl
 shuts_in negation = refl
 shuts_in inner_negation = refl
 
 head_is : (n : Name) → has (heads n) (sample (heads n)) ≡ true
-unfolding query texts groups optional_groups or and next_unary unary unit word_unit range_unit call_unit stream_end stream_value time_end inner time interval last_bound lone_run bound run run_rest selector labels label how leaf range_leaf word_leaf mark_leaf star less greater regex exact range_end ends last_end closing string_range_end len_range_end seq_end i_end in_end quoted_end bare_end high_size size end num args arg
+unfolding query texts groups optional_groups or and next_unary unary unit word_unit range_unit call_unit stream_end
+    stream_value time_end inner time interval last_bound lone_run bound run run_rest selector labels label how leaf
+    range_leaf word_leaf mark_leaf star less greater regex exact range_end ends last_end closing string_range_end
+    len_range_end seq_end i_end in_end quoted_end bare_end high_size size end num args arg
 head_is group = refl
 head_is negation = refl
 head_is inner_negation = refl
 
 is_plain : (n : Name) → plain (rules n) ≡ true
-unfolding query texts groups optional_groups or and next_unary unary unit word_unit range_unit call_unit stream_end stream_value time_end inner time interval last_bound lone_run bound run run_rest selector labels label how leaf range_leaf word_leaf mark_leaf star less greater regex exact range_end ends last_end closing string_range_end len_range_end seq_end i_end in_end quoted_end bare_end high_size size end num args arg
+unfolding query texts groups optional_groups or and next_unary unary unit word_unit range_unit call_unit stream_end
+    stream_value time_end inner time interval last_bound lone_run bound run run_rest selector labels label how leaf
+    range_leaf word_leaf mark_leaf star less greater regex exact range_end ends last_end closing string_range_end
+    len_range_end seq_end i_end in_end quoted_end bare_end high_size size end num args arg
 is_plain group = refl
 is_plain negation = refl
 is_plain inner_negation = refl
 
 plain_solid : (n : Name) → solid sample nothing heads shuts (rules n) ≡ true
-unfolding query texts groups optional_groups or and next_unary unary unit word_unit range_unit call_unit stream_end stream_value time_end inner time interval last_bound lone_run bound run run_rest selector labels label how leaf range_leaf word_leaf mark_leaf star less greater regex exact range_end ends last_end closing string_range_end len_range_end seq_end i_end in_end quoted_end bare_end high_size size end num args arg
+unfolding query texts groups optional_groups or and next_unary unary unit word_unit range_unit call_unit stream_end
+    stream_value time_end inner time interval last_bound lone_run bound run run_rest selector labels label how leaf
+    range_leaf word_leaf mark_leaf star less greater regex exact range_end ends last_end closing string_range_end
+    len_range_end seq_end i_end in_end quoted_end bare_end high_size size end num args arg
 plain_solid group = refl
 plain_solid negation = refl
 plain_solid inner_negation = refl
 
 is_solid : (n : Name) → solid sample short heads shuts (rules n) ≡ true
-unfolding query texts groups optional_groups or and next_unary unary unit word_unit range_unit call_unit stream_end stream_value time_end inner time interval last_bound lone_run bound run run_rest selector labels label how leaf range_leaf word_leaf mark_leaf star less greater regex exact range_end ends last_end closing string_range_end len_range_end seq_end i_end in_end quoted_end bare_end high_size size end num args arg
+unfolding query texts groups optional_groups or and next_unary unary unit word_unit range_unit call_unit stream_end
+    stream_value time_end inner time interval last_bound lone_run bound run run_rest selector labels label how leaf
+    range_leaf word_leaf mark_leaf star less greater regex exact range_end ends last_end closing string_range_end
+    len_range_end seq_end i_end in_end quoted_end bare_end high_size size end num args arg
 is_solid group = refl
 is_solid negation = refl
 is_solid inner_negation = refl
@@ -86,11 +113,17 @@ passes = record {
 }
 
 query_fits : fits heads next_to query ≡ true
-unfolding query texts groups optional_groups or and next_unary unary unit word_unit range_unit call_unit stream_end stream_value time_end inner time interval last_bound lone_run bound run run_rest selector labels label how leaf range_leaf word_leaf mark_leaf star less greater regex exact range_end ends last_end closing string_range_end len_range_end seq_end i_end in_end quoted_end bare_end high_size size end num args arg
+unfolding query texts groups optional_groups or and next_unary unary unit word_unit range_unit call_unit stream_end
+    stream_value time_end inner time interval last_bound lone_run bound run run_rest selector labels label how leaf
+    range_leaf word_leaf mark_leaf star less greater regex exact range_end ends last_end closing string_range_end
+    len_range_end seq_end i_end in_end quoted_end bare_end high_size size end num args arg
 query_fits = refl
 
 query_solid : solid sample short heads shuts query ≡ true
-unfolding query texts groups optional_groups or and next_unary unary unit word_unit range_unit call_unit stream_end stream_value time_end inner time interval last_bound lone_run bound run run_rest selector labels label how leaf range_leaf word_leaf mark_leaf star less greater regex exact range_end ends last_end closing string_range_end len_range_end seq_end i_end in_end quoted_end bare_end high_size size end num args arg
+unfolding query texts groups optional_groups or and next_unary unary unit word_unit range_unit call_unit stream_end
+    stream_value time_end inner time interval last_bound lone_run bound run run_rest selector labels label how leaf
+    range_leaf word_leaf mark_leaf star less greater regex exact range_end ends last_end closing string_range_end
+    len_range_end seq_end i_end in_end quoted_end bare_end high_size size end num args arg
 query_solid = refl
 
 pub query_passes : PassesAt passes query

@@ -1,14 +1,20 @@
--- The grammar of LogsQL's filters ("Query syntax"), a rule for each line of its EBNF, which stands above the rule. Words in
--- capitals are Bare tokens in any case of their letters, and `^` says that a token is glued to the one before it.
+-- The grammar of LogsQL's filters ("Query syntax"), a rule for each line of its EBNF, which stands above the rule. Words
+-- in capitals are Bare tokens in any case of their letters, and `^` says that a token is glued to the one before it.
 use Rattle.std.specs.Prelude.{ℕ, Bool, true, false, List, [], ◌∷◌, ◌++◌, flat_map, ℤ, None}
-use Rattle.grammar.specs.Rule.{Token, Class, Rule, empty, one, unless, both, either, many, checked, deeper, Grammar}
+use Rattle.grammar.specs.Rule.{Class, Rule, empty, one, unless, both, either, many, checked, deeper, Grammar}
 use Rattle.lq_ast.specs.declared.select.How.{How}
 use Rattle.lq_ast.specs.declared.select.How.TheVariants.{Is, IsNot, Matches, MatchesNot}
 use Rattle.lq_ast.specs.Condition.{Condition, Test, Tests}
-use Rattle.lq_grammar.specs.declared.role.Role.TheVariants.{And, Or, In, I, Seq, LenRange, StringRange, Range, Time, Stream, Bare, QuotedTime, Quoted, Open, Close, SquareOpen, SquareClose, CurlyOpen, CurlyClose, Comma, Colon, Equals, Bang, Tilde, Star, Less, Greater, Minus}
+use Rattle.lq_grammar.specs.declared.role.Role.TheVariants.{And, Or, In, I, Seq, LenRange, StringRange, Range, Time}
+use Rattle.lq_grammar.specs.declared.role.Role.TheVariants.{Stream, Bare, QuotedTime, Quoted, Open, Close, SquareOpen}
+use Rattle.lq_grammar.specs.declared.role.Role.TheVariants.{SquareClose, CurlyOpen, CurlyClose, Comma, Colon, Equals}
+use Rattle.lq_grammar.specs.declared.role.Role.TheVariants.{Bang, Tilde, Star, Less, Greater, Minus}
 use Rattle.lq_grammar.specs.declared.role.Role.{Role}
 use Rattle.lq_grammar.specs.Roles.{glued, any, bares, quoted, words, negations, run_parts}
-use Rattle.lq_grammar.specs.Values.{Bytes, Reason, Filtering, End, field_named, named, everything, phrased, prefixed, exactly, exactly_prefixed, matching, one_of_texts, in_any_case, in_sequence, of_length, text_between, denied, on_streams, all_hold, any_holds, number_value, size_value, high_size_value, end_value, in_range}
+use Rattle.lq_grammar.specs.Values.{Bytes, Reason, Filtering, End, field_named, named, everything, phrased, prefixed}
+use Rattle.lq_grammar.specs.Values.{exactly, exactly_prefixed, matching, one_of_texts, in_any_case, in_sequence}
+use Rattle.lq_grammar.specs.Values.{of_length, text_between, denied, on_streams, all_hold, any_holds, number_value}
+use Rattle.lq_grammar.specs.Values.{size_value, high_size_value, end_value, in_range}
 use Rattle.lq_grammar.specs.Values.{above, at_least, below, at_most}
 use Rattle.lq_grammar.specs.Moments.{run_value, bound_value, in_interval}
 
@@ -147,7 +153,9 @@ range_end =
 
 -- "=" arg [^"*"]
 unfoldable pub exact : Parse Filtering
-exact = behind (any (Equals ∷ [])) (ended arg (one (glued (Star ∷ [])) (λ _. exactly_prefixed) ||| unless (glued (Star ∷ [])) exactly))
+exact =
+    behind (any (Equals ∷ [])) (ended arg (one (glued (Star ∷ [])) (λ _. exactly_prefixed)
+    ||| unless (glued (Star ∷ [])) exactly))
 
 -- "~" text                      text = Bare | Quoted
 unfoldable pub regex : Parse Filtering
@@ -155,7 +163,9 @@ regex = behind (any (Tilde ∷ [])) (made matching (text (any (bares ++ quoted))
 
 -- ">" [^"="] num
 unfoldable pub greater : Parse Filtering
-greater = behind (any (Greater ∷ [])) (both (λ _ number. at_least number) (mark (glued (Equals ∷ []))) num ||| made above num)
+greater =
+    behind (any (Greater ∷ [])) (both (λ _ number. at_least number) (mark (glued (Equals ∷ []))) num
+    ||| made above num)
 
 -- "<" [^"="] num
 unfoldable pub less : Parse Filtering
@@ -169,7 +179,8 @@ unfoldable pub mark_leaf : Parse Filtering
 mark_leaf = exact ||| regex ||| greater ||| less ||| star
 
 unfoldable pub word_leaf : Parse Filtering
-word_leaf = ended (text (any (Bare ∷ Time ∷ Stream ∷ []))) bare_end ||| ended (text (any quoted)) quoted_end ||| mark_leaf
+word_leaf =
+    ended (text (any (Bare ∷ Time ∷ Stream ∷ []))) bare_end ||| ended (text (any quoted)) quoted_end ||| mark_leaf
 
 unfoldable pub range_leaf : Parse Filtering
 range_leaf =
@@ -178,8 +189,8 @@ range_leaf =
     ||| ended (text (any (Range ∷ []))) range_end
     ||| word_leaf
 
--- leaf = "*" | word [^"*"] | "=" arg [^"*"] | "~" text | IN .. | I .. | SEQ .. | LEN_RANGE .. | STRING_RANGE .. | RANGE ..
---      | ">" [^"="] num | "<" [^"="] num
+-- leaf = "*" | word [^"*"] | "=" arg [^"*"] | "~" text | IN .. | I .. | SEQ .. | LEN_RANGE .. | STRING_RANGE ..
+--      | RANGE .. | ">" [^"="] num | "<" [^"="] num
 unfoldable pub leaf : Parse Filtering
 leaf =
     ended (text (any (In ∷ []))) in_end
@@ -193,7 +204,8 @@ leaf =
 unfoldable pub how : Parse How
 how =
     behind (any (Equals ∷ [])) (one (glued (Tilde ∷ [])) (λ _. Matches) ||| empty Is)
-    ||| behind (any (Bang ∷ [])) (one (glued (Tilde ∷ [])) (λ _. MatchesNot) ||| one (glued (Equals ∷ [])) (λ _. IsNot))
+    ||| behind (any (Bang ∷ [])) (one (glued (Tilde ∷ [])) (λ _. MatchesNot)
+    ||| one (glued (Equals ∷ [])) (λ _. IsNot))
 
 -- label = name ("=" | "!" ^"=" | "=" ^"~" | "!" ^"~") arg
 unfoldable pub label : Parse Test
@@ -217,7 +229,9 @@ selector = behind (any (CurlyOpen ∷ [])) (closed (made on_streams optional_gro
 
 -- {^Bare | ^":" | ^"-" | ^"+"}, as long as it can be
 unfoldable pub run_rest : Parse Bytes
-run_rest = both (λ parts (_ : Unit {0}). flat_map (λ part. part) parts) (many (λ parts. parts) (text (glued run_parts))) (unless (glued run_parts) tt)
+run_rest =
+    both (λ parts (_ : Unit {0}). flat_map (λ part. part) parts) (many (λ parts. parts) (text (glued run_parts)))
+    (unless (glued run_parts) tt)
 
 -- run = Quoted | Bare {^Bare | ^":" | ^"-" | ^"+"}
 unfoldable pub run : Parse Bytes
@@ -237,7 +251,8 @@ last_bound = both (λ span included. (span, included)) bound closing
 
 -- run "," run ("]" or ")")      The value is made of whether the first end is included.
 unfoldable pub interval : Parse (Bool → Condition)
-interval = both (λ from last included. in_interval included from last.0 last.1) bound (behind (any (Comma ∷ [])) last_bound)
+interval =
+    both (λ from last included. in_interval included from last.0 last.1) bound (behind (any (Comma ∷ [])) last_bound)
 
 -- time = run | ("[" or "(") run "," run ("]" or ")")
 unfoldable pub time : Parse Condition
@@ -272,7 +287,9 @@ unfoldable pub stream_end : Parse (Bytes → Filtering)
 stream_end = both (λ _ filter. filter) (mark (any (Colon ∷ []))) stream_value ||| bare_end
 
 unfoldable pub word_unit : Parse Filtering
-word_unit = ended (text (any (Bare ∷ []))) (colon bare_end) ||| ended (text (any (Quoted ∷ []))) (colon quoted_end) ||| mark_leaf
+word_unit =
+    ended (text (any (Bare ∷ []))) (colon bare_end) ||| ended (text (any (Quoted ∷ []))) (colon quoted_end)
+    ||| mark_leaf
 
 unfoldable pub range_unit : Parse Filtering
 range_unit =

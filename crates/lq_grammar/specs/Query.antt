@@ -9,7 +9,8 @@ use Rattle.lq_ast.specs.Condition.{Condition}
 use Rattle.lq_lex.specs.Token.{Token as Piece}
 use Rattle.lq_lex.specs.Lexing.{HasLexed, IsTokens}
 use Rattle.lq_grammar.specs.declared.fault.QueryFault.{QueryFault}
-use Rattle.lq_grammar.specs.declared.fault.QueryFault.TheVariants.{Lex, Syntax, TooDeep, BadNumber, BadTime, BadDuration}
+use Rattle.lq_grammar.specs.declared.fault.QueryFault.TheVariants.{Lex, Syntax, TooDeep, BadNumber, BadTime}
+use Rattle.lq_grammar.specs.declared.fault.QueryFault.TheVariants.{BadDuration}
 use Rattle.lq_grammar.specs.declared.fault.QueryFault.TheVariants.{Memory, NotBuilt}
 use Rattle.lq_grammar.specs.declared.role.Role.TheVariants.{Bar}
 use Rattle.lq_grammar.specs.Roles.{any}
@@ -70,6 +71,14 @@ pub record IsFlaw (items : List (Token Bytes)) (flaw : Flaw Reason) (at : ℕ) :
   pub is_first : reading items ≡ Err (flawed flaw at)
   pub has_flaw : IsFlawed IsQuery items flaw at
 
+-- the fault that a flaw is
+abbrev pub flaw_fault : Flaw Reason → ℕ → QueryFault
+flaw_fault too_deep at = TooDeep at
+flaw_fault (refused bad_number) at = BadNumber at
+flaw_fault (refused bad_time) at = BadTime at
+flaw_fault (refused bad_duration) at = BadDuration at
+
+-- The outcome of tokens among which no mark `|` is.
 abbrev pub OutcomeOf : Bytes → List (Token Bytes) → Result Condition QueryFault → Type 0
 OutcomeOf text items (Ok c) = IsQuery (Ok c) items
 OutcomeOf text items (Err (Lex fault)) = ⊥
@@ -81,9 +90,10 @@ OutcomeOf text items (Err (BadDuration at)) = IsFlaw items (refused bad_duration
 OutcomeOf text items (Err Memory) = ⊥
 OutcomeOf text items (Err (NotBuilt at)) = ⊥
 
--- The text spells a query with this condition, or has this first fault. A text without tokens, and then one with a mark
--- `|`, is refused before all others. No text has two outcomes, and each has one.
+-- The text spells a query with this condition, or has this first fault. A text without tokens is refused for that, and
+-- else one with a mark `|`. No text has two outcomes.
 unfoldable pub QueryOf : Bytes → Result Condition QueryFault → Type 0
+QueryOf text (Ok c) = IsQueryText text c
 QueryOf text (Err (Lex fault)) = HasLexed text (Err fault)
 QueryOf text (Err (NotBuilt at)) = (items : List (Token Bytes)) × HasItems text items × (first_bar items ≡ Some at)
 QueryOf text outcome =

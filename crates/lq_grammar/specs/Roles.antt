@@ -2,7 +2,11 @@
 use Rattle.std.specs.Prelude.{ℕ, ◌+◌, List, [], ◌∷◌, ◌++◌, map}
 use Rattle.grammar.specs.Rule.{Class}
 use Rattle.lq_grammar.specs.declared.role.Role.{Role}
-use Rattle.lq_grammar.specs.declared.role.Role.TheVariants.{And, Or, Not, In, I, Seq, LenRange, StringRange, Range, Time, Stream, Bare, QuotedTime, Quoted, Bar, Open, Close, SquareOpen, SquareClose, CurlyOpen, CurlyClose, Comma, Colon, Equals, Bang, Tilde, Star, Less, Greater, Minus, Plus}
+use Rattle.lq_grammar.specs.declared.role.Role.TheVariants.{And, Or, Not, In, I, Seq, LenRange, StringRange, Range}
+use Rattle.lq_grammar.specs.declared.role.Role.TheVariants.{Time, Stream, Bare, QuotedTime, Quoted, Bar, Open, Close}
+use Rattle.lq_grammar.specs.declared.role.Role.TheVariants.{SquareOpen, SquareClose, CurlyOpen, CurlyClose, Comma}
+use Rattle.lq_grammar.specs.declared.role.Role.TheVariants.{Colon, Equals, Bang, Tilde, Star, Less, Greater, Minus}
+use Rattle.lq_grammar.specs.declared.role.Role.TheVariants.{Plus}
 
 -- the number of each role, and so of the kind of a token that is not glued
 abbrev pub number : Role → ℕ

@@ -1,6 +1,7 @@
 // What tokens are to the grammar.
 ghost use Rattle.std.specs.Prelude.{◌≡◌};
-ghost use Rattle.lq_grammar.specs.Items.{call_role, word_role, quoted_role, bracket_role, sign_role, mark_role, role_of};
+ghost use Rattle.lq_grammar.specs.Items.{call_role, word_role, quoted_role, bracket_role, sign_role, mark_role};
+ghost use Rattle.lq_grammar.specs.Items.{role_of};
 
 use crate::role::Role;
 use lq_lex::Kind;

@@ -1,4 +1,4 @@
-// Single tokens.
+//! The steps of a reader: single tokens, at the front of those that are left.
 ghost use Rattle.std.specs.Prelude.{◌≡◌, ◌≤◌, ◌-◌, length, drop};
 ghost use Rattle.std.specs.List.{find};
 ghost use Rattle.std.specs.Option.{option_map};
@@ -44,7 +44,7 @@ pub fn expect<'t>(tokens: &'t [Item], roles: &[Role]) -> Result<&'t [Item], Stop
 }
 
 /// The text of a token of one of these roles, and what follows it.
-pub fn text_of<'t>(tokens: &'t [Item], roles: &[Role]) -> Option<(&'t str, &'t [Item])>
+pub fn text_past<'t>(tokens: &'t [Item], roles: &[Role]) -> Option<(&'t str, &'t [Item])>
     ensures { TakesText (any roles.now) tokens.now result }
 {
     match tokens {
@@ -74,10 +74,7 @@ pub fn at_glued(tokens: &[Item], roles: &[Role]) -> bool
 }
 
 /// The text of a glued token of one of these roles, which has to stand here.
-pub fn glued_text<'t>(
-    tokens: &'t [Item],
-    roles: &[Role],
-) -> Result<(&'t str, &'t [Item]), Stop>
+pub fn glued_text<'t>(tokens: &'t [Item], roles: &[Role]) -> Result<(&'t str, &'t [Item]), Stop>
     ensures { Gives (λ x. (x.0.now, x.1.now)) result (one_at (glued roles.now) (λ t. t.content) tokens.now) }
 {
     match tokens {
@@ -107,7 +104,7 @@ pub fn expect_glued<'t>(tokens: &'t [Item], roles: &[Role]) -> Result<&'t [Item]
 }
 
 /// The text of a glued token of one of these roles, and what follows it.
-pub fn glued_text_of<'t>(tokens: &'t [Item], roles: &[Role]) -> Option<(&'t str, &'t [Item])>
+pub fn glued_text_past<'t>(tokens: &'t [Item], roles: &[Role]) -> Option<(&'t str, &'t [Item])>
     ensures { TakesText (glued roles.now) tokens.now result }
 {
     match tokens {

@@ -15,5 +15,8 @@ condition-Not b = search (rules, the_lemmas)
 abbrev found : Condition → List (Token Bytes) → Answer Bytes Reason Condition
 found x w = Ok (x, w)
 
-pub not_read : (b : Box Filter Global) (filter : Filter) (w : List (Token Bytes)) → b.value ≡ filter → found (is.negated (condition filter)) w ≡ found (condition (Not b)) w
-not_read b filter w e = ap (λ (f : Filter). found (is.negated (condition f)) w) (sym e) ∙ ap (λ (x : Condition). found x w) (sym (condition-Not b))
+pub not_read : (b : Box Filter Global) (filter : Filter) (w : List (Token Bytes)) → b.value ≡ filter
+    → found (is.negated (condition filter)) w ≡ found (condition (Not b)) w
+not_read b filter w e =
+    ap (λ (f : Filter). found (is.negated (condition f)) w) (sym e)
+    ∙ ap (λ (x : Condition). found x w) (sym (condition-Not b))

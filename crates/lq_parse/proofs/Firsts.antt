@@ -4,7 +4,9 @@ use Rattle.grammar.specs.Reading.{first}
 use Rattle.lq_grammar.specs.declared.role.Role.TheVariants.{Minus}
 use Rattle.lq_grammar.specs.Roles.{any, words, starts}
 use Rattle.lq_grammar.specs.Values.{Bytes}
-use Rattle.lq_grammar.specs.LogsQL.{heads, arg, args, texts, optional_groups, groups, labels, label, next_unary, unary, unit, selector, call_unit, range_unit, word_unit, mark_leaf, exact, regex, greater, less, star}
+use Rattle.lq_grammar.specs.LogsQL.{heads, arg, args, texts, optional_groups, groups, labels, label, next_unary, unary}
+use Rattle.lq_grammar.specs.LogsQL.{unit, selector, call_unit, range_unit, word_unit, mark_leaf, exact, regex, greater}
+use Rattle.lq_grammar.specs.LogsQL.{less, star}
 use Rattle.grammar.proofs.Sets.{inside, inside_next}
 use Rattle.std.proofs.Common.{sym}
 use Rattle.lq_grammar.specs.Clauses.{at}
@@ -16,23 +18,28 @@ pub next_append : {X : Type 0} → (a b : Class) (u : List (Token X)) → next (
 next_append a b [] = refl
 next_append a b (t ∷ ts) = member-append t.kind a b
 
-pub arg_first : (u : List (Token Bytes)) → next (any (Minus ∷ [])) u ≡ false → next (first heads arg) u ≡ next (any words) u
+pub arg_first : (u : List (Token Bytes)) → next (any (Minus ∷ [])) u ≡ false
+    → next (first heads arg) u ≡ next (any words) u
 unfolding arg
 arg_first u e = next_append (any (Minus ∷ [])) (any words) u ∙ ap (λ (b : Bool). b || next (any words) u) e
 
-pub texts_some : (depth : ℕ) (u : List (Token Bytes)) → next (first heads arg) u ≡ true → at depth texts u ≡ at depth args u
+pub texts_some : (depth : ℕ) (u : List (Token Bytes)) → next (first heads arg) u ≡ true
+    → at depth texts u ≡ at depth args u
 unfolding texts args arg
 texts_some depth u e = cond-true (next (first heads arg) u) (at depth args u) (Ok ([], u)) e
 
-pub texts_none : (depth : ℕ) (u : List (Token Bytes)) → next (first heads arg) u ≡ false → at depth texts u ≡ Ok ([], u)
+pub texts_none : (depth : ℕ) (u : List (Token Bytes)) → next (first heads arg) u ≡ false
+    → at depth texts u ≡ Ok ([], u)
 unfolding texts args arg
 texts_none depth u e = cond-false (next (first heads arg) u) (at depth args u) (Ok ([], u)) e
 
-pub groups_some : (depth : ℕ) (u : List (Token Bytes)) → next (any words) u ≡ true → at depth optional_groups u ≡ at depth groups u
+pub groups_some : (depth : ℕ) (u : List (Token Bytes)) → next (any words) u ≡ true
+    → at depth optional_groups u ≡ at depth groups u
 unfolding optional_groups groups labels label
 groups_some depth u e = cond-true (next (any words) u) (at depth groups u) (Ok ([], u)) e
 
-pub groups_none : (depth : ℕ) (u : List (Token Bytes)) → next (any words) u ≡ false → at depth optional_groups u ≡ Ok ([], u)
+pub groups_none : (depth : ℕ) (u : List (Token Bytes)) → next (any words) u ≡ false
+    → at depth optional_groups u ≡ Ok ([], u)
 unfolding optional_groups groups labels label
 groups_none depth u e = cond-false (next (any words) u) (at depth groups u) (Ok ([], u)) e
 

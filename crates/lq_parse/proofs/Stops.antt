@@ -1,17 +1,20 @@
 -- Where reading stops, as a fault with its place.
-use Rattle.std.proofs.Common.{◌≡◌, ◌≢◌, ℕ, ◌≤◌, ◌-◌, List, length, drop, Option, Some, None, Result, Ok, Err, IfOk, sym, ap, ◌∙◌, subst, refl, arith}
+use Rattle.std.proofs.Common.{◌≡◌, ◌≢◌, ℕ, ◌≤◌, List, length, Option, Some, None, Result, Ok, Err, IfOk}
+use Rattle.std.proofs.Common.{sym, ap, ◌∙◌, subst, refl, arith}
 use Rattle.std.proofs.lemmas.List.{length-append}
 use Rattle.grammar.specs.Rule.{Token}
 use Rattle.grammar.specs.Spelling.{IsStuck}
-use Rattle.grammar.specs.Reading.{Answers, Stop, stuck, flawed}
+use Rattle.grammar.specs.Reading.{Answers, Stop, stuck}
 use Rattle.lq_ast.specs.Condition.{Condition}
 use Rattle.lq_lex.specs.Token.{Token as Piece}
 use Rattle.lq_lex.specs.Lexing.{HasLexed}
 use Rattle.lq_lex.specs.declared.fault.LexFault.{LexFault}
-use Rattle.lq_lex.specs.declared.fault.LexFault.TheVariants.{TooLong, OpenQuote, BadEscape, BadChar, Memory as LexMemory}
+use Rattle.lq_lex.specs.declared.fault.LexFault.TheVariants.{TooLong, OpenQuote, BadEscape, BadChar}
+use Rattle.lq_lex.specs.declared.fault.LexFault.TheVariants.{Memory as LexMemory}
 use Rattle.lq_grammar.specs.declared.fault.Stop.{Stop as Halt}
 use Rattle.lq_grammar.specs.declared.fault.QueryFault.{QueryFault}
-use Rattle.lq_grammar.specs.declared.fault.QueryFault.TheVariants.{Lex, Syntax, TooDeep, BadNumber, BadTime, BadDuration}
+use Rattle.lq_grammar.specs.declared.fault.QueryFault.TheVariants.{Lex, Syntax, TooDeep, BadNumber, BadTime}
+use Rattle.lq_grammar.specs.declared.fault.QueryFault.TheVariants.{BadDuration}
 use Rattle.lq_grammar.specs.declared.fault.QueryFault.TheVariants.{Memory, NotBuilt}
 use Rattle.lq_ast.specs.View.{condition}
 use Rattle.lq_ast.specs.declared.query.Query.{Query}
@@ -32,7 +35,8 @@ Outcome = Result Condition QueryFault
 pub outcome_when : (text : Bytes) (items : Items) (r : Result Condition (Stop Reason)) → reading items ≡ r
     → OutcomeOf text items (named text items r)
 outcome_when text items r e =
-    subst (λ (q : Result Condition (Stop Reason)). OutcomeOf text items (named text items q)) e (named_outcome text items)
+    subst (λ (q : Result Condition (Stop Reason)). OutcomeOf text items (named text items q)) e
+    (named_outcome text items)
 
 pub few_left : (items : Items) (left : ℕ) → reading items ≡ Err (stuck left) → left ≤ length items
 few_left items left e = by_answer (subst (Answers IsQuery items) e (answered_query items))
@@ -55,7 +59,8 @@ abbrev lex_failed : LexFault → Result (List Piece) LexFault
 lex_failed fault = Err fault
 
 -- a text without tokens
-pub lex_found : (text : Bytes) (fault : LexFault) → (lex_failed fault ≢ lex_failed LexMemory → HasLexed text (Err fault))
+pub lex_found : (text : Bytes) (fault : LexFault) → (lex_failed fault ≢ lex_failed LexMemory
+    → HasLexed text (Err fault))
     → failed (lex_fault fault) ≢ failed Memory → QueryOf text (Err (lex_fault fault))
 unfolding QueryOf
 lex_found text TooLong lexed some = lexed (λ e. cc)
@@ -65,7 +70,8 @@ lex_found text (BadChar at) lexed some = lexed (λ e. cc)
 lex_found text LexMemory lexed some = absurd (some refl)
 
 -- where the reader stopped at this, reading does
-pub fails_so : (items : Items) (halt other : Halt) → halt ≡ other → Fails halt (reading items) → Fails other (reading items)
+pub fails_so : (items : Items) (halt other : Halt) → halt ≡ other → Fails halt (reading items)
+    → Fails other (reading items)
 fails_so items halt other e h = subst (λ (k : Halt). Fails k (reading items)) e h
 
 -- a text whose tokens were read to their end
@@ -92,19 +98,20 @@ stop_found text items (BadDuration at) has none out some = (items, has, none, ou
 stop_found text items Memory has none out some = absurd (some refl)
 stop_found text items (NotBuilt at) has none out some = absurd out
 
--- what a query is that a text spells
-pub spelled_so : (text : Bytes) (c : Condition) → QueryOf text (Ok c) → IsQueryText text c
-unfolding QueryOf
-spelled_so text c (items, has, none, spelled) = record { items = items; has_items = has; spelled = spelled }
-
 pub spelled_when : (text : Bytes) (r : Result Query QueryFault) → (r ≢ refused Memory → QueryOf text (outcome r))
     → IfOk r (λ query. IsQueryText text (condition query.filter))
-spelled_when text (Ok query) found = spelled_so text (condition query.filter) (found (λ e. cc))
+unfolding QueryOf
+spelled_when text (Ok query) found = found (λ e. cc)
 spelled_when text (Err fault) found = tt
 
 pub only_when : (text : Bytes) (r : Result Query QueryFault) → (r ≢ refused Memory → QueryOf text (outcome r))
     → (other : Outcome) → QueryOf text other → r ≢ refused Memory → outcome r ≡ other
 only_when text r found other h some = one_outcome text (outcome r) other (found some) h
+
+pub complete_when : (text : Bytes) (r : Result Query QueryFault) → (r ≢ refused Memory → QueryOf text (outcome r))
+    → (c : Condition) → IsQueryText text c → r ≢ refused Memory → outcome r ≡ Ok c
+unfolding QueryOf
+complete_when text r found c spelled some = only_when text r found (Ok c) spelled some
 
 -- a text whose tokens were not found
 pub lex_when : (text : Bytes) (r : Result Query QueryFault) (fault : LexFault)

@@ -1,5 +1,6 @@
 -- Durations and bounds as they are read.
-use Rattle.std.proofs.Common.{◌≡◌, ℕ, ◌^◌, ◌<◌, ◌≤◌, ℤ, pos, Option, Some, None, Result, Ok, Err, IfOk, refl, ap, ◌∙◌, subst}
+use Rattle.std.proofs.Common.{◌≡◌, ℕ, ◌^◌, ◌<◌, ◌≤◌, ℤ, pos, Some, None, Result, Ok, Err, IfOk, refl}
+use Rattle.std.proofs.Common.{subst}
 use Rattle.std.specs.Option.{option_map}
 use Rattle.std.specs.Result.{result_ok}
 use Rattle.log_model.specs.MomentText.{IsMomentInRange}
@@ -12,7 +13,7 @@ use Rattle.time_text.specs.declared.fault.DurationFault.{DurationFault}
 use Rattle.time_text.specs.declared.fault.DurationFault.TheVariants.{NotADuration, OutOfRange}
 use Rattle.time_text.proofs.Bounds.{is_only}
 use Rattle.lq_grammar.specs.Values.{Bytes}
-use Rattle.lq_grammar.specs.Moments.{SaysDuration, duration_of, SaysBound, bound_of}
+use Rattle.lq_grammar.specs.Moments.{duration_of, bound_of}
 use Rattle.lq_grammar.proofs.Moments.{duration_says, duration_only, bound_says, bound_only}
 use Rattle.lq_parse.specs.Ends.{ends_of}
 
@@ -42,7 +43,7 @@ pub bound_read : (text : Bytes) (r : Bounded)
     → IfOk r (λ span. SpellsBound text span.from span.to × AreInRange span.from span.to)
     → (r ≡ refused NotATime → (first last : ℤ) → SpellsBound text first last → ⊥)
     → (r ≡ refused NotInRange
-      → (first : ℤ) × (last : ℤ) × SpellsBound text first last × (AreInRange first last → ⊥))
+    → (first : ℤ) × (last : ℤ) × SpellsBound text first last × (AreInRange first last → ⊥))
     → option_map ends_of (result_ok r) ≡ bound_of text
 bound_read text (Ok span) ok none out =
     bound_only text (Some (ends_of span)) (bound_of text) ok (bound_says text)
@@ -51,6 +52,6 @@ bound_read text (Err NotATime) ok none out =
 bound_read text (Err NotInRange) ok none out =
     let far = out refl in
     bound_only text None (bound_of text) (λ first last spelled range.
-      let same = is_only text first last far.0 far.1 spelled far.2 in
-      far.3 (subst (λ (m : ℤ). IsMomentInRange m) same.0 range.0, subst (λ (m : ℤ). IsMomentInRange m) same.1 range.1))
+    let same = is_only text first last far.0 far.1 spelled far.2 in
+    far.3 (subst (λ (m : ℤ). IsMomentInRange m) same.0 range.0, subst (λ (m : ℤ). IsMomentInRange m) same.1 range.1))
     (bound_says text)

@@ -1,5 +1,5 @@
 -- What parsing answers, as the outcome of a text.
-use Rattle.std.specs.Prelude.{◌≡◌, List, Result, Ok, Err}
+use Rattle.std.specs.Prelude.{List, Result, Ok, Err}
 use Rattle.grammar.specs.Rule.{Token}
 use Rattle.lq_ast.specs.Condition.{Condition}
 use Rattle.lq_ast.specs.View.{condition}

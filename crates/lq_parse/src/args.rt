@@ -5,10 +5,8 @@ ghost use Rattle.grammar.specs.Reading.{first};
 ghost use Rattle.lq_grammar.specs.LogsQL.{arg, args, texts, heads};
 ghost use Rattle.lq_grammar.specs.Clauses.{Gives, at as at_of};
 
-use lq_grammar::Stop;
-use lq_grammar::Item;
-use lq_grammar::{BARES, Role, WORDS};
-use lq_grammar::scan::{at, glued_text, past, text, text_of};
+use lq_grammar::scan::{at, glued_text, past, text, text_past};
+use lq_grammar::{BARES, Item, Role, Stop, WORDS};
 use std::alloc::Global;
 use vl_row::Text;
 
@@ -17,7 +15,7 @@ use vl_row::Text;
 pub(crate) fn arg<'t>(alloc: Global, tokens: &'t [Item]) -> Result<(Text, &'t [Item]), Stop>
     ensures { (depth : ℕ) → Gives (λ x. (x.0, x.1.now)) result (at_of depth arg tokens.now) }
 {
-    if let Some((minus, rest)) = text_of(tokens, &[Role::Minus]) {
+    if let Some((minus, rest)) = text_past(tokens, &[Role::Minus]) {
         let (digits, rest) = glued_text(rest, BARES)?;
         let mut text = Text::try_of(alloc, minus)?;
         text.push_str(alloc, digits)?;

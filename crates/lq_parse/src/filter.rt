@@ -5,20 +5,19 @@ ghost use Rattle.grammar.specs.Rule.{next};
 ghost use Rattle.grammar.specs.Reading.{first, mapped};
 ghost use Rattle.lq_ast.specs.Condition.{all_of, any_of};
 ghost use Rattle.lq_ast.specs.View.{condition};
-ghost use Rattle.lq_grammar.specs.LogsQL.{heads, group, negation, inner_negation, inner, unit, call_unit, range_unit, word_unit, stream_end, stream_value, unary, next_unary, and, or};
+ghost use Rattle.lq_grammar.specs.LogsQL.{heads, group, negation, inner_negation, inner, unit, call_unit, range_unit};
+ghost use Rattle.lq_grammar.specs.LogsQL.{word_unit, stream_end, stream_value, unary, next_unary, and, or};
 ghost use Rattle.lq_grammar.specs.Values.{denied, field_named, of_list};
 ghost use Rattle.lq_grammar.specs.Clauses.{Gives, at as at_of, name_at};
 
-use lq_grammar::Stop;
-use lq_grammar::Item;
 use crate::label::selector;
 use crate::leaf::{bare_end, i_end, in_end, quoted_end, seq_end, string_range_end};
 use crate::leaves::{leaf, mark_leaf};
 use crate::number::{len_range_end, range_end};
-use lq_grammar::{NEGATIONS, Role, UNARY};
-use lq_grammar::scan::{at, expect, past, place, text_of};
 use crate::time::time;
 use lq_ast::Filter;
+use lq_grammar::scan::{at, expect, past, place, text_past};
+use lq_grammar::{Item, NEGATIONS, Role, Stop, UNARY};
 use std::alloc::Global;
 
 /// What stands in parentheses, where so many more may be open.
@@ -140,19 +139,19 @@ fn unit<'t>(
         let (select, rest) = selector(alloc, tokens)?;
         return Ok((Filter::Select(select), rest));
     }
-    if let Some((word, rest)) = text_of(tokens, &[Role::Time]) {
+    if let Some((word, rest)) = text_past(tokens, &[Role::Time]) {
         if let Some(rest) = past(rest, &[Role::Colon]) {
             return time(alloc, rest);
         }
         return bare_end(alloc, rest, word, field);
     }
-    if let Some((word, rest)) = text_of(tokens, &[Role::QuotedTime]) {
+    if let Some((word, rest)) = text_past(tokens, &[Role::QuotedTime]) {
         if let Some(rest) = past(rest, &[Role::Colon]) {
             return time(alloc, rest);
         }
         return quoted_end(alloc, rest, word, field);
     }
-    if let Some((word, rest)) = text_of(tokens, &[Role::Stream]) {
+    if let Some((word, rest)) = text_past(tokens, &[Role::Stream]) {
         return stream_end(alloc, rest, depth, word, field);
     }
     call_unit(alloc, tokens, depth, field)
@@ -209,19 +208,19 @@ fn call_unit<'t>(
     ensures { Gives (λ x. (condition x.0, x.1.now)) result
         (mapped (λ made. made (option_copied field.entry)) (at_of depth call_unit tokens.now)) }
 {
-    if let Some((word, rest)) = text_of(tokens, &[Role::In]) {
+    if let Some((word, rest)) = text_past(tokens, &[Role::In]) {
         if let Some(rest) = past(rest, &[Role::Colon]) {
             return inner(alloc, rest, depth, Some(name_of(word)));
         }
         return in_end(alloc, rest, word, field);
     }
-    if let Some((word, rest)) = text_of(tokens, &[Role::I]) {
+    if let Some((word, rest)) = text_past(tokens, &[Role::I]) {
         if let Some(rest) = past(rest, &[Role::Colon]) {
             return inner(alloc, rest, depth, Some(name_of(word)));
         }
         return i_end(alloc, rest, word, field);
     }
-    if let Some((word, rest)) = text_of(tokens, &[Role::Seq]) {
+    if let Some((word, rest)) = text_past(tokens, &[Role::Seq]) {
         if let Some(rest) = past(rest, &[Role::Colon]) {
             return inner(alloc, rest, depth, Some(name_of(word)));
         }
@@ -242,19 +241,19 @@ fn range_unit<'t>(
     ensures { Gives (λ x. (condition x.0, x.1.now)) result
         (mapped (λ made. made (option_copied field.entry)) (at_of depth range_unit tokens.now)) }
 {
-    if let Some((word, rest)) = text_of(tokens, &[Role::LenRange]) {
+    if let Some((word, rest)) = text_past(tokens, &[Role::LenRange]) {
         if let Some(rest) = past(rest, &[Role::Colon]) {
             return inner(alloc, rest, depth, Some(name_of(word)));
         }
         return len_range_end(alloc, rest, word, field);
     }
-    if let Some((word, rest)) = text_of(tokens, &[Role::StringRange]) {
+    if let Some((word, rest)) = text_past(tokens, &[Role::StringRange]) {
         if let Some(rest) = past(rest, &[Role::Colon]) {
             return inner(alloc, rest, depth, Some(name_of(word)));
         }
         return string_range_end(alloc, rest, word, field);
     }
-    if let Some((word, rest)) = text_of(tokens, &[Role::Range]) {
+    if let Some((word, rest)) = text_past(tokens, &[Role::Range]) {
         if let Some(rest) = past(rest, &[Role::Colon]) {
             return inner(alloc, rest, depth, Some(name_of(word)));
         }
@@ -275,13 +274,13 @@ fn word_unit<'t>(
     ensures { Gives (λ x. (condition x.0, x.1.now)) result
         (mapped (λ made. made (option_copied field.entry)) (at_of depth word_unit tokens.now)) }
 {
-    if let Some((word, rest)) = text_of(tokens, &[Role::Bare]) {
+    if let Some((word, rest)) = text_past(tokens, &[Role::Bare]) {
         if let Some(rest) = past(rest, &[Role::Colon]) {
             return inner(alloc, rest, depth, Some(name_of(word)));
         }
         return bare_end(alloc, rest, word, field);
     }
-    if let Some((word, rest)) = text_of(tokens, &[Role::Quoted]) {
+    if let Some((word, rest)) = text_past(tokens, &[Role::Quoted]) {
         if let Some(rest) = past(rest, &[Role::Colon]) {
             return inner(alloc, rest, depth, Some(name_of(word)));
         }

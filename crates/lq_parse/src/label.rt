@@ -6,11 +6,9 @@ ghost use Rattle.lq_grammar.specs.Values.{field_named as name_of, on_streams};
 ghost use Rattle.lq_grammar.specs.Clauses.{Gives, at as at_of};
 
 use crate::args::arg;
-use lq_grammar::Stop;
-use lq_grammar::Item;
-use lq_grammar::{Role, WORDS};
-use lq_grammar::scan::{at, expect, expect_glued, past, past_glued, text};
 use lq_ast::{Group, How, LabelTest, Select};
+use lq_grammar::scan::{at, expect, expect_glued, past, past_glued, text};
+use lq_grammar::{Item, Role, Stop, WORDS};
 use std::alloc::{AllocError, Global};
 use vl_row::Text;
 
@@ -87,7 +85,8 @@ fn groups<'t>(alloc: Global, tokens: &'t [Item]) -> Result<(Select, &'t [Item]),
 /// A selector.
 #[tactic(auto, unfolding(lq_grammar::specs::LogsQL::selector))]
 pub(crate) fn selector<'t>(alloc: Global, tokens: &'t [Item]) -> Result<(Select, &'t [Item]), Stop>
-    ensures { (depth : ℕ) → Gives (λ x. (on_streams (groups_of x.0), x.1.now)) result (at_of depth selector tokens.now) }
+    ensures { (depth : ℕ) → Gives (λ x. (on_streams (groups_of x.0), x.1.now)) result
+        (at_of depth selector tokens.now) }
 {
     let rest = expect(tokens, &[Role::CurlyOpen])?;
     let (select, rest) = optional_groups(alloc, rest)?;

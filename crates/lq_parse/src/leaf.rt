@@ -3,16 +3,15 @@ ghost use Rattle.std.specs.Prelude.{◌≡◌, ℕ};
 ghost use Rattle.std.specs.Option.{option_copied};
 ghost use Rattle.grammar.specs.Reading.{mapped};
 ghost use Rattle.lq_ast.specs.View.{condition};
-ghost use Rattle.lq_grammar.specs.LogsQL.{bare_end, quoted_end, in_end, i_end, seq_end, string_range_end, exact, regex, star};
+ghost use Rattle.lq_grammar.specs.LogsQL.{bare_end, quoted_end, in_end, i_end, seq_end, string_range_end, exact};
+ghost use Rattle.lq_grammar.specs.LogsQL.{regex, star};
 ghost use Rattle.lq_grammar.specs.Clauses.{Gives, at};
 
 use crate::args::{arg, args, texts};
-use lq_grammar::Stop;
-use lq_grammar::Item;
 use crate::make;
-use lq_grammar::{Role, TEXTS};
-use lq_grammar::scan::{at_glued, expect, past_glued, text};
 use lq_ast::Filter;
+use lq_grammar::scan::{at_glued, expect, past_glued, text};
+use lq_grammar::{Item, Role, Stop, TEXTS};
 use std::alloc::Global;
 
 /// A prefix, or a phrase that begins no call.

@@ -6,15 +6,13 @@ ghost use Rattle.lq_ast.specs.View.{condition};
 ghost use Rattle.lq_grammar.specs.LogsQL.{leaf, range_leaf, word_leaf, mark_leaf};
 ghost use Rattle.lq_grammar.specs.Clauses.{Gives, at as at_of};
 
-use lq_grammar::Stop;
-use lq_grammar::Item;
 use crate::leaf::{
     bare_end, exact, i_end, in_end, quoted_end, regex, seq_end, star, string_range_end,
 };
 use crate::number::{greater, len_range_end, less, range_end};
-use lq_grammar::{QUOTED, Role};
-use lq_grammar::scan::{at, text_of};
 use lq_ast::Filter;
+use lq_grammar::scan::{at, text_past};
+use lq_grammar::{Item, QUOTED, Role, Stop};
 use std::alloc::Global;
 
 /// A leaf.
@@ -27,13 +25,13 @@ pub(crate) fn leaf<'t>(
     ensures { (depth : ℕ) → Gives (λ x. (condition x.0, x.1.now)) result
         (mapped (λ made. made (option_copied field.entry)) (at_of depth leaf tokens.now)) }
 {
-    if let Some((word, rest)) = text_of(tokens, &[Role::In]) {
+    if let Some((word, rest)) = text_past(tokens, &[Role::In]) {
         return in_end(alloc, rest, word, field);
     }
-    if let Some((word, rest)) = text_of(tokens, &[Role::I]) {
+    if let Some((word, rest)) = text_past(tokens, &[Role::I]) {
         return i_end(alloc, rest, word, field);
     }
-    if let Some((word, rest)) = text_of(tokens, &[Role::Seq]) {
+    if let Some((word, rest)) = text_past(tokens, &[Role::Seq]) {
         return seq_end(alloc, rest, word, field);
     }
     range_leaf(alloc, tokens, field)
@@ -48,13 +46,13 @@ fn range_leaf<'t>(
     ensures { (depth : ℕ) → Gives (λ x. (condition x.0, x.1.now)) result
         (mapped (λ made. made (option_copied field.entry)) (at_of depth range_leaf tokens.now)) }
 {
-    if let Some((word, rest)) = text_of(tokens, &[Role::LenRange]) {
+    if let Some((word, rest)) = text_past(tokens, &[Role::LenRange]) {
         return len_range_end(alloc, rest, word, field);
     }
-    if let Some((word, rest)) = text_of(tokens, &[Role::StringRange]) {
+    if let Some((word, rest)) = text_past(tokens, &[Role::StringRange]) {
         return string_range_end(alloc, rest, word, field);
     }
-    if let Some((word, rest)) = text_of(tokens, &[Role::Range]) {
+    if let Some((word, rest)) = text_past(tokens, &[Role::Range]) {
         return range_end(alloc, rest, word, field);
     }
     word_leaf(alloc, tokens, field)
@@ -69,10 +67,10 @@ fn word_leaf<'t>(
     ensures { (depth : ℕ) → Gives (λ x. (condition x.0, x.1.now)) result
         (mapped (λ made. made (option_copied field.entry)) (at_of depth word_leaf tokens.now)) }
 {
-    if let Some((word, rest)) = text_of(tokens, &[Role::Bare, Role::Time, Role::Stream]) {
+    if let Some((word, rest)) = text_past(tokens, &[Role::Bare, Role::Time, Role::Stream]) {
         return bare_end(alloc, rest, word, field);
     }
-    if let Some((word, rest)) = text_of(tokens, QUOTED) {
+    if let Some((word, rest)) = text_past(tokens, QUOTED) {
         return quoted_end(alloc, rest, word, field);
     }
     mark_leaf(alloc, tokens, field)

@@ -9,7 +9,6 @@ mod leaves;
 mod make;
 mod number;
 mod query;
-
 mod run;
 mod time;
 

@@ -2,9 +2,12 @@
 ghost use Rattle.std.specs.Prelude.{◌≡◌, IfOk};
 ghost use Rattle.std.specs.Option.{option_copied};
 ghost use Rattle.lq_ast.specs.View.{condition};
-ghost use Rattle.lq_grammar.specs.Values.{field_in as field_of, everything as everything_of, phrased as phrased_of, prefixed as prefixed_of};
-ghost use Rattle.lq_grammar.specs.Values.{number_between, of_length as of_length_of, above as above_of, at_least as at_least_of, below as below_of, at_most as at_most_of};
-ghost use Rattle.lq_grammar.specs.Values.{exactly, exactly_prefixed, matching as matching_of, one_of_texts, in_any_case, in_sequence, text_between};
+ghost use Rattle.lq_grammar.specs.Values.{field_in as field_of, everything as everything_of, phrased as phrased_of};
+ghost use Rattle.lq_grammar.specs.Values.{prefixed as prefixed_of};
+ghost use Rattle.lq_grammar.specs.Values.{number_between, of_length as of_length_of, above as above_of};
+ghost use Rattle.lq_grammar.specs.Values.{at_least as at_least_of, below as below_of, at_most as at_most_of};
+ghost use Rattle.lq_grammar.specs.Values.{exactly, exactly_prefixed, matching as matching_of, one_of_texts};
+ghost use Rattle.lq_grammar.specs.Values.{in_any_case, in_sequence, text_between};
 
 use lq_ast::Filter;
 use std::alloc::{AllocError, Global};

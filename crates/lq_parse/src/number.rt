@@ -3,19 +3,18 @@ ghost use Rattle.std.specs.Prelude.{◌≡◌, ℕ, IfOk};
 ghost use Rattle.std.specs.Option.{option_copied};
 ghost use Rattle.grammar.specs.Reading.{mapped};
 ghost use Rattle.lq_ast.specs.View.{condition};
-ghost use Rattle.lq_grammar.specs.LogsQL.{num, end, ends, last_end, closing, size, high_size, greater, less, len_range_end, range_end};
+ghost use Rattle.lq_grammar.specs.LogsQL.{num, end, ends, last_end, closing, size, high_size, greater, less};
+ghost use Rattle.lq_grammar.specs.LogsQL.{len_range_end, range_end};
 ghost use Rattle.lq_parse.specs.Ends.{end_of};
 ghost use Rattle.lq_grammar.specs.Values.{low_of as lowest_of, high_of as highest_of};
 ghost use Rattle.lq_grammar.specs.Clauses.{Gives, at};
 
 use crate::args::arg;
-use lq_grammar::Stop;
-use lq_grammar::Item;
 use crate::leaf::bare_end;
 use crate::make;
-use lq_grammar::Role;
-use lq_grammar::scan::{expect, past, past_glued, place};
 use lq_ast::Filter;
+use lq_grammar::scan::{expect, past, past_glued, place};
+use lq_grammar::{Item, Role, Stop};
 use std::alloc::Global;
 use vl_row::number;
 

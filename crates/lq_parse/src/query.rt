@@ -1,5 +1,5 @@
 // Whole queries.
-ghost use Rattle.std.specs.Prelude.{◌≡◌, ◌≢◌, Result, Err, IfOk};
+ghost use Rattle.std.specs.Prelude.{◌≡◌, ◌≢◌, Result, Ok, Err, IfOk};
 ghost use Rattle.lq_ast.specs.Condition.{Condition};
 ghost use Rattle.lq_ast.specs.View.{condition};
 ghost use Rattle.lq_grammar.specs.Query.{HasItems, QueryOf, IsQueryText, reading};
@@ -21,6 +21,7 @@ const MOST_OPEN: u32 = 64;
 pub fn parse(alloc: Global, s: &str) -> Result<Query, QueryFault>
     // The text spells the query.
     ensures spelled { IfOk result (λ query. IsQueryText s.now (condition query.filter)) }
+    ensures complete { (c : Condition) → IsQueryText s.now c → result ≢ Err QueryFault.Memory → outcome result ≡ Ok c }
     // Each text is a query or has one first fault, and which is answered, unless memory runs out.
     ensures found { result ≢ Err QueryFault.Memory → QueryOf s.now (outcome result) }
     ensures only { (other : Result Condition QueryFault) → QueryOf s.now other → result ≢ Err QueryFault.Memory

@@ -4,10 +4,8 @@ ghost use Rattle.grammar.specs.Reading.{mapped};
 ghost use Rattle.lq_grammar.specs.LogsQL.{run, run_rest};
 ghost use Rattle.lq_grammar.specs.Clauses.{Gives, at};
 
-use lq_grammar::Stop;
-use lq_grammar::Item;
-use lq_grammar::{BARES, QUOTED, RUN_PARTS};
-use lq_grammar::scan::{glued_text_of, text, text_of};
+use lq_grammar::scan::{glued_text_past, text, text_past};
+use lq_grammar::{BARES, Item, QUOTED, RUN_PARTS, Stop};
 use std::alloc::Global;
 use vl_row::Text;
 
@@ -16,7 +14,7 @@ use vl_row::Text;
 pub(crate) fn run<'t>(alloc: Global, tokens: &'t [Item]) -> Result<(Text, &'t [Item]), Stop>
     ensures { (depth : ℕ) → Gives (λ x. (x.0, x.1.now)) result (at depth run tokens.now) }
 {
-    if let Some((quoted, rest)) = text_of(tokens, QUOTED) {
+    if let Some((quoted, rest)) = text_past(tokens, QUOTED) {
         return Ok((Text::try_of(alloc, quoted)?, rest));
     }
     let (bare, rest) = text(tokens, BARES)?;
@@ -25,11 +23,12 @@ pub(crate) fn run<'t>(alloc: Global, tokens: &'t [Item]) -> Result<(Text, &'t [I
 
 /// What goes on with a run that began so.
 fn run_rest<'t>(alloc: Global, bare: &str, tokens: &'t [Item]) -> Result<(Text, &'t [Item]), Stop>
-    ensures { (depth : ℕ) → Gives (λ x. (x.0, x.1.now)) result (mapped (λ rest. bare.now ++ rest) (at depth run_rest tokens.now)) }
+    ensures { (depth : ℕ) → Gives (λ x. (x.0, x.1.now)) result
+        (mapped (λ rest. bare.now ++ rest) (at depth run_rest tokens.now)) }
 {
     let mut run = Text::try_of(alloc, bare)?;
     let mut rest = tokens;
-    'parts: while let Some((part, behind)) = glued_text_of(rest, RUN_PARTS) {
+    'parts: while let Some((part, behind)) = glued_text_past(rest, RUN_PARTS) {
         run.push_str(alloc, part)?;
         rest = behind;
     }

@@ -8,13 +8,11 @@ ghost use Rattle.lq_grammar.specs.Moments.{start_of as first_of, stop_of as last
 ghost use Rattle.lq_parse.specs.Ends.{ends_of};
 ghost use Rattle.lq_grammar.specs.Clauses.{Gives, at};
 
-use lq_grammar::Stop;
-use lq_grammar::Item;
 use crate::number::closing;
-use lq_grammar::Role;
 use crate::run::run;
-use lq_grammar::scan::{expect, past, place};
 use lq_ast::Filter;
+use lq_grammar::scan::{expect, past, place};
+use lq_grammar::{Item, Role, Stop};
 use std::alloc::Global;
 use time_text::{DurationFault, Span, read_bound, read_duration};
 

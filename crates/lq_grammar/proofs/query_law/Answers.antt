@@ -1,5 +1,5 @@
 use Rattle.lq_grammar.proofs.Moments.{duration_says, bound_says}
-use Rattle.lq_grammar.proofs.Outcomes.{one_outcome}
+use Rattle.lq_grammar.proofs.Outcomes.{one_outcome, flaw_named}
 use Rattle.lq_grammar.proofs.query_law.Goals as goal
 
 pub returns-clause-durations : goal.returns-clause-durations
@@ -10,3 +10,6 @@ returns-clause-bounds c = bound_says
 
 pub returns-clause-one : goal.returns-clause-one
 returns-clause-one c = one_outcome
+
+pub returns-clause-flawed : goal.returns-clause-flawed
+returns-clause-flawed c = flaw_named

@@ -4,4 +4,5 @@ use Rattle.lq_grammar.proofs.item.items.Goals as goal
 
 pub loop-i-preserved : goal.loop-i-preserved
 loop-i-preserved c =
-    one_more c.args.tokens.now c.loop-i.i (seen c.at-token.result) c.loop-i.list.items _ c.in_ok-item.item c.at-token.ensures c.loop-i.invariant c.in_ok-item.ensures c.in_ok-push.ensures.items
+    one_more c.args.tokens.now c.loop-i.i (seen c.at-token.result) c.loop-i.list.items _ c.in_ok-item.item
+    c.at-token.ensures c.loop-i.invariant c.in_ok-item.ensures c.in_ok-push.ensures.items

@@ -4,7 +4,11 @@ use Rattle.lq_parse.proofs.Firsts.{texts_some, texts_none}
 use Rattle.lq_parse.proofs.args.texts.Goals as goal
 
 pub returns-then-at_arg : goal.returns-then-at_arg
-returns-then-at_arg c depth = rw (texts_some depth c.args.tokens.now (sym c.at_arg.ensures ∙ c.if-at_arg.true)) (c.args-then-at_arg.ensures depth)
+returns-then-at_arg c depth =
+    rw (texts_some depth c.args.tokens.now (sym c.at_arg.ensures ∙ c.if-at_arg.true))
+    (c.args-then-at_arg.ensures depth)
 
 pub returns : goal.returns
-returns c depth = texts_none depth c.args.tokens.now (sym c.at_arg.ensures ∙ c.if-at_arg.false) ∙ ap (λ (l : List Bytes). Ok (l, c.args.tokens.now)) (sym c.new.ensures.items)
+returns c depth =
+    texts_none depth c.args.tokens.now (sym c.at_arg.ensures ∙ c.if-at_arg.false)
+    ∙ ap (λ (l : List Bytes). Ok (l, c.args.tokens.now)) (sym c.new.ensures.items)

@@ -16,49 +16,79 @@ use Rattle.lq_parse.proofs.Turning.{fold_step, fold_shorter, name_read, deny_ok,
 use Rattle.lq_parse.proofs.filter.+filter.Goals as goal
 
 pub and-others-smaller : goal.and-others-smaller
-and-others-smaller t c = fold_shorter c.args.depth next_unary (option_copied c.args.field) c.others.rest.now (condition c.in_ok-another.another) c.in_ok-another.behind.now next_some c.in_ok-another.ensures
+and-others-smaller t c =
+    fold_shorter c.args.depth next_unary (option_copied c.args.field) c.others.rest.now
+    (condition c.in_ok-another.another) c.in_ok-another.behind.now next_some c.in_ok-another.ensures
 
 pub and-others-preserved : goal.and-others-preserved
 and-others-preserved t c = (
   omega arith,
-  fold_step c.args.depth next_unary all_of (option_copied c.args.field) (map condition c.others.filters.items) _ c.others.rest.now (condition c.in_ok-another.another) c.in_ok-another.behind.now _ next_some (sym c.at_unary.ensures ∙ c.others-test.true) c.in_ok-another.ensures
-      (ap (map condition) c.in_ok-push-2.ensures.items ∙ map-append condition c.others.filters.items _) c.others.invariant.1,
+  fold_step c.args.depth next_unary all_of (option_copied c.args.field)
+      (map condition c.others.filters.items) _ c.others.rest.now
+      (condition c.in_ok-another.another) c.in_ok-another.behind.now _ next_some
+      (sym c.at_unary.ensures ∙ c.others-test.true) c.in_ok-another.ensures
+      (ap (map condition) c.in_ok-push-2.ensures.items ∙ map-append condition c.others.filters.items _)
+      c.others.invariant.1,
 )
 
 pub or-others-smaller : goal.or-others-smaller
 or-others-smaller t c =
-    fold_shorter c.args.depth (behind (any (Or ∷ [])) and) (option_copied c.args.field) c.others.rest.now (condition c.in_ok-another.another) c.in_ok-another.behind.now refl
-    (ap (mapped (λ made. made (option_copied c.args.field))) (behind_read c.args.depth (any (Or ∷ [])) and c.others.rest.now c.in-Some.next.now c.in-Some.ensures) ∙ c.in_ok-another.ensures)
+    fold_shorter c.args.depth (behind (any (Or ∷ [])) and) (option_copied c.args.field) c.others.rest.now
+    (condition c.in_ok-another.another) c.in_ok-another.behind.now refl
+    (ap (mapped (λ made. made (option_copied c.args.field)))
+    (behind_read c.args.depth (any (Or ∷ [])) and c.others.rest.now c.in-Some.next.now c.in-Some.ensures)
+    ∙ c.in_ok-another.ensures)
 
 pub or-others-preserved : goal.or-others-preserved
 or-others-preserved t c = (
   omega arith,
-  fold_step c.args.depth (behind (any (Or ∷ [])) and) any_of (option_copied c.args.field) (map condition c.others.filters.items) _ c.others.rest.now (condition c.in_ok-another.another) c.in_ok-another.behind.now _ refl
+  fold_step c.args.depth (behind (any (Or ∷ [])) and) any_of (option_copied c.args.field)
+      (map condition c.others.filters.items) _ c.others.rest.now
+      (condition c.in_ok-another.another) c.in_ok-another.behind.now _ refl
       (next_read (any (Or ∷ [])) c.others.rest.now c.in-Some.next.now c.in-Some.ensures)
-      (ap (mapped (λ made. made (option_copied c.args.field))) (behind_read c.args.depth (any (Or ∷ [])) and c.others.rest.now c.in-Some.next.now c.in-Some.ensures) ∙ c.in_ok-another.ensures)
-      (ap (map condition) c.in_ok-push-2.ensures.items ∙ map-append condition c.others.filters.items _) c.others.invariant.1,
+      (ap (mapped (λ made. made (option_copied c.args.field)))
+      (behind_read c.args.depth (any (Or ∷ [])) and c.others.rest.now c.in-Some.next.now c.in-Some.ensures)
+      ∙ c.in_ok-another.ensures)
+      (ap (map condition) c.in_ok-push-2.ensures.items ∙ map-append condition c.others.filters.items _)
+      c.others.invariant.1,
 )
 
 pub negation-returns : goal.negation-returns
 negation-returns t c =
-    ap (mapped (λ made. denied made (option_copied c.args.field))) (name_read c.args.depth negation c.args.tokens.now c.in_ok-rest.rest.now (omega arith) c.in_ok-rest.ensures)
-    ∙ deny_ok (option_copied c.args.field) (at (c.args.depth - 1) unary c.in_ok-rest.rest.now) (condition c.in_ok-filter.filter) c.in_ok-filter.rest.now c.in_ok-filter.ensures
+    ap (mapped (λ made. denied made (option_copied c.args.field)))
+    (name_read c.args.depth negation c.args.tokens.now c.in_ok-rest.rest.now (omega arith) c.in_ok-rest.ensures)
+    ∙ deny_ok (option_copied c.args.field) (at (c.args.depth - 1) unary c.in_ok-rest.rest.now)
+    (condition c.in_ok-filter.filter) c.in_ok-filter.rest.now c.in_ok-filter.ensures
     ∙ not_read c.in_ok-new.field-0 c.in_ok-filter.filter c.in_ok-filter.rest.now c.in_ok-new.ensures.ok
 
 pub negation-returns-in_err-filter : goal.negation-returns-in_err-filter
 negation-returns-in_err-filter t c =
     let p = err_from_is_err_and c.from_residual-in_err-filter.result c.from_residual-in_err-filter.ensures.1 in
-    rw (p.1, p.2, name_read c.args.depth negation c.args.tokens.now c.in_ok-rest.rest.now (omega arith) c.in_ok-rest.ensures)
-    (fails_so _ (option_copied c.args.field) (at (c.args.depth - 1) unary c.in_ok-rest.rest.now) c.in_err-filter.ensures)
+    rw (
+      p.1,
+      p.2,
+      name_read c.args.depth negation c.args.tokens.now c.in_ok-rest.rest.now
+          (omega arith) c.in_ok-rest.ensures,
+    )
+    (fails_so _ (option_copied c.args.field) (at (c.args.depth - 1) unary c.in_ok-rest.rest.now)
+    c.in_err-filter.ensures)
 
 pub inner_negation-returns : goal.inner_negation-returns
 inner_negation-returns t c =
-    ap (mapped (λ made. denied made (option_copied c.args.field))) (name_read c.args.depth inner_negation c.args.tokens.now c.in_ok-rest.rest.now (omega arith) c.in_ok-rest.ensures)
-    ∙ deny_ok (option_copied c.args.field) (at (c.args.depth - 1) inner c.in_ok-rest.rest.now) (condition c.in_ok-filter.filter) c.in_ok-filter.rest.now c.in_ok-filter.ensures
+    ap (mapped (λ made. denied made (option_copied c.args.field)))
+    (name_read c.args.depth inner_negation c.args.tokens.now c.in_ok-rest.rest.now (omega arith) c.in_ok-rest.ensures)
+    ∙ deny_ok (option_copied c.args.field) (at (c.args.depth - 1) inner c.in_ok-rest.rest.now)
+    (condition c.in_ok-filter.filter) c.in_ok-filter.rest.now c.in_ok-filter.ensures
     ∙ not_read c.in_ok-new.field-0 c.in_ok-filter.filter c.in_ok-filter.rest.now c.in_ok-new.ensures.ok
 
 pub inner_negation-returns-in_err-filter : goal.inner_negation-returns-in_err-filter
 inner_negation-returns-in_err-filter t c =
     let p = err_from_is_err_and c.from_residual-in_err-filter.result c.from_residual-in_err-filter.ensures.1 in
-    rw (p.1, p.2, name_read c.args.depth inner_negation c.args.tokens.now c.in_ok-rest.rest.now (omega arith) c.in_ok-rest.ensures)
-    (fails_so _ (option_copied c.args.field) (at (c.args.depth - 1) inner c.in_ok-rest.rest.now) c.in_err-filter.ensures)
+    rw (
+      p.1,
+      p.2,
+      name_read c.args.depth inner_negation c.args.tokens.now c.in_ok-rest.rest.now
+          (omega arith) c.in_ok-rest.ensures,
+    )
+    (fails_so _ (option_copied c.args.field) (at (c.args.depth - 1) inner c.in_ok-rest.rest.now)
+    c.in_err-filter.ensures)

@@ -13,7 +13,8 @@ use Rattle.lq_parse.proofs.filter.+filter.Given as goal
 abbrev pub invariant-and-others : goal.invariant-and-others
 invariant-and-others l =
     (0 < vec_len l.filters)
-    × (gathered all_of (option_copied l.field) (map condition l.filters.items) (all_at l.depth next_unary l.rest) ≡ mapped (λ made. made (option_copied l.field)) (at l.depth and l.fn.tokens))
+    × (gathered all_of (option_copied l.field) (map condition l.filters.items) (all_at l.depth next_unary l.rest)
+    ≡ mapped (λ made. made (option_copied l.field)) (at l.depth and l.fn.tokens))
 
 abbrev pub decreases-and-others : goal.decreases-and-others
 decreases-and-others l = length l.rest
@@ -21,7 +22,9 @@ decreases-and-others l = length l.rest
 abbrev pub invariant-or-others : goal.invariant-or-others
 invariant-or-others l =
     (0 < vec_len l.filters)
-    × (gathered any_of (option_copied l.field) (map condition l.filters.items) (all_at l.depth (behind (any (Or ∷ [])) and) l.rest) ≡ mapped (λ made. made (option_copied l.field)) (at l.depth or l.fn.tokens))
+    × (gathered any_of (option_copied l.field) (map condition l.filters.items)
+    (all_at l.depth (behind (any (Or ∷ [])) and) l.rest)
+    ≡ mapped (λ made. made (option_copied l.field)) (at l.depth or l.fn.tokens))
 
 abbrev pub decreases-or-others : goal.decreases-or-others
 decreases-or-others l = length l.rest

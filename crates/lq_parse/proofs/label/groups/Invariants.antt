@@ -8,7 +8,9 @@ use Rattle.lq_grammar.specs.Clauses.{at, all_at}
 use Rattle.lq_parse.proofs.label.groups.Given as goal
 
 abbrev pub invariant-others : goal.invariant-others
-invariant-others l = (depth : ℕ) → mapped (λ xs. map tests_of l.groups.items ++ xs) (all_at depth (behind (any (Or ∷ [])) labels) l.rest) ≡ at depth groups l.fn.tokens
+invariant-others l =
+    (depth : ℕ) → mapped (λ xs. map tests_of l.groups.items ++ xs)
+    (all_at depth (behind (any (Or ∷ [])) labels) l.rest) ≡ at depth groups l.fn.tokens
 
 abbrev pub decreases-others : goal.decreases-others
 decreases-others l = length l.rest

@@ -5,7 +5,10 @@ use Rattle.lq_parse.proofs.Firsts.{groups_some, groups_none}
 use Rattle.lq_parse.proofs.label.optional_groups.Goals as goal
 
 pub returns-then-at : goal.returns-then-at
-returns-then-at c depth = rw (groups_some depth c.args.tokens.now (sym c.at.ensures ∙ c.if-at.true)) (c.groups.ensures depth)
+returns-then-at c depth =
+    rw (groups_some depth c.args.tokens.now (sym c.at.ensures ∙ c.if-at.true)) (c.groups.ensures depth)
 
 pub returns : goal.returns
-returns c depth = groups_none depth c.args.tokens.now (sym c.at.ensures ∙ c.if-at.false) ∙ ap (λ (l : List Tests). Ok (l, c.args.tokens.now)) (sym (ap (map tests_of) c.new-groups.ensures.items))
+returns c depth =
+    groups_none depth c.args.tokens.now (sym c.at.ensures ∙ c.if-at.false)
+    ∙ ap (λ (l : List Tests). Ok (l, c.args.tokens.now)) (sym (ap (map tests_of) c.new-groups.ensures.items))

@@ -1,6 +1,6 @@
 use Rattle.std.proofs.Common.{Err}
 use Rattle.grammar.specs.Spelling.{too_deep, refused}
-use Rattle.grammar.specs.Reading.{stuck, flawed}
+use Rattle.grammar.specs.Reading.{flawed}
 use Rattle.lq_grammar.specs.Values.{bad_number, bad_time, bad_duration}
 use Rattle.lq_grammar.specs.declared.fault.Stop.TheVariants.{Stuck, TooDeep, BadNumber, BadTime, BadDuration}
 use Rattle.lq_parse.proofs.Stops.{outcome_when, few_left, syntax_at, fails_so}

@@ -1,4 +1,4 @@
-use Rattle.std.proofs.Common.{sym, ◌∙◌}
+use Rattle.std.proofs.Common.{sym}
 use Rattle.lq_ast.specs.View.{condition}
 use Rattle.lq_parse.proofs.Stops.{bar_found, read_found, stop_found, no_bar}
 use Rattle.lq_parse.proofs.query.query_of.Goals as goal

@@ -7,7 +7,8 @@ use Rattle.lq_parse.proofs.run.run_rest.Given as goal
 
 abbrev pub invariant-parts : goal.invariant-parts
 invariant-parts l =
-    (depth : ℕ) → mapped (λ parts. l.run ++ flat_map (λ part. part) parts) (all_at depth (text (glued run_parts)) l.rest)
+    (depth : ℕ) → mapped (λ parts. l.run ++ flat_map (λ part. part) parts)
+    (all_at depth (text (glued run_parts)) l.rest)
     ≡ mapped (λ parts. l.fn.bare ++ flat_map (λ part. part) parts) (all_at depth (text (glued run_parts)) l.fn.tokens)
 
 abbrev pub decreases-parts : goal.decreases-parts
