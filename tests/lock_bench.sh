@@ -1,6 +1,6 @@
 #!/usr/bin/env bash
 # Measures turns a second at the ticket lock: one thread alone, and four threads that contend. A turn enters, reads the count
-# and leaves. The program that takes the turns is built in a copy of the lock's crates.
+# and the mark, and leaves. The program that takes the turns is built in a copy of the lock's crates.
 # usage: tests/lock_bench.sh [TURNS] [LOOKS..]     (4000000 turns; LOOKS: how often a thread looks before it sleeps, each
 #                                                   measured in place of the lock's own number)
 set -u
@@ -30,14 +30,14 @@ use std::sync::Wait;
 use std::thread::{Threads, join};
 use std::time::Instant;
 use turn_lock::{Pass, TurnLock};
-use turn_lock_tests::{Log, count, fresh};
+use turn_lock_tests::{Log, fresh, status};
 
 fn take<R: Wait>(rt: &R, lock: &TurnLock<Log>, mut pass: Pass<Log>, turns: u64) -> Pass<Log>
     requires { IsPassOf lock.now pass }
     ensures { IsPassOf lock.now result }
 {
     for turn in 0..turns {
-        let _ = count(rt, lock, &mut pass);
+        let _ = status(rt, lock, &mut pass);
     }
     pass
 }
@@ -84,11 +84,11 @@ fn four_take<R: Threads + Wait + Sync>(rt: &R, lock: &TurnLock<Log>, mut pass: P
 
 fn main(rt: HostRuntime) -> io::Result<()> {
     let turns = TURNS;
-    let (lock, pass) = fresh(rt.alloc(), 4)?;
+    let (lock, pass) = fresh(&rt, rt.alloc(), 4)?;
     let start = Instant::now(&rt)?;
     take(&rt, &lock, pass, turns);
     let alone = start.elapsed(&rt)?.as_micros();
-    let (lock, pass) = fresh(rt.alloc(), 4)?;
+    let (lock, pass) = fresh(&rt, rt.alloc(), 4)?;
     let start = Instant::now(&rt)?;
     four_take(&rt, &lock, pass, turns / 4);
     let four = start.elapsed(&rt)?.as_micros();

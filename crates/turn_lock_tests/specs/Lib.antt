@@ -1,2 +1,4 @@
+pub mod Room
 pub mod Log
-pub mod Added
+pub mod Refusal
+pub mod OneTurn

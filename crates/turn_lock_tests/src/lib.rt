@@ -5,6 +5,8 @@ mod callers;
 mod log;
 #[cfg(test)]
 mod tests;
+mod turns;
 
-pub use callers::{both_add, fresh, settled};
-pub use log::{Log, add, count, settle_all};
+pub use callers::{both_insert, fault_of_one, fresh};
+pub use log::{Log, PushFault};
+pub use turns::{insert, settle_all, status};

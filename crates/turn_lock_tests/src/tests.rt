@@ -1,9 +1,10 @@
 // Tests with threads, and that each call does what it says.
-ghost use Rattle.std.specs.Prelude.{◌≡◌, IfSome};
+ghost use Rattle.std.specs.Prelude.{◌≡◌, ◌<◌, IfSome};
 ghost use Rattle.turn_lock.specs.Passes.{IsPassOf};
 
-use crate::callers::{both_add, fresh, settled};
-use crate::log::{Log, add, count, settle_all};
+use crate::callers::{both_insert, fault_of_one, fresh};
+use crate::log::{Log, PushFault};
+use crate::turns::{insert, settle_all, status};
 use std::sync::Wait;
 use std::test::Fail;
 use std::thread::{Threads, join};
@@ -15,12 +16,12 @@ const TURNS: u64 = 2_000;
 /// Where the numbers of the next maker begin.
 const NEXT_MAKER: u64 = 10_000;
 
-fn add_many<R: Wait>(rt: &R, lock: &TurnLock<Log>, mut pass: Pass<Log>, maker: u64) -> Pass<Log>
+fn insert_many<R: Wait>(rt: &R, lock: &TurnLock<Log>, mut pass: Pass<Log>, maker: u64) -> Pass<Log>
     requires { IsPassOf lock.now pass }
     ensures { IsPassOf lock.now result }
 {
     for turn in 0..TURNS {
-        let _ = add(
+        let _ = insert(
             rt,
             lock,
             &mut pass,
@@ -55,6 +56,7 @@ fn all_in_order(log: &Log) -> bool {
 
 fn found_in_order<R: Wait>(rt: &R, lock: &TurnLock<Log>, pass: &mut Pass<Log>) -> bool
     requires { IsPassOf lock.now pass.old }
+    ensures { IsPassOf lock.now pass.new }
 {
     let mut turn = lock.enter(rt, pass);
     let found = all_in_order(turn.value());
@@ -62,8 +64,18 @@ fn found_in_order<R: Wait>(rt: &R, lock: &TurnLock<Log>, pass: &mut Pass<Log>) -
     found
 }
 
-// Two threads add, each with a pass of its own. The pass has then both.
-fn two_add<R: Threads + Wait + Sync>(
+// The log has no room for a number more.
+fn is_full<R: Wait>(rt: &R, lock: &TurnLock<Log>, pass: &mut Pass<Log>) -> bool
+    requires { IsPassOf lock.now pass.old }
+{
+    matches!(
+        insert(rt, lock, pass, 0),
+        Err(PushFault::Full { held: 8_000 })
+    )
+}
+
+// Two threads insert, each with a pass of its own. The pass has then both.
+fn two_insert<R: Threads + Wait + Sync>(
     rt: &R,
     lock: &TurnLock<Log>,
     mut pass: Pass<Log>,
@@ -79,18 +91,18 @@ fn two_add<R: Threads + Wait + Sync>(
         || -> Pass<Log>
             requires { IsPassOf lock.now pass }
             ensures { IsPassOf lock.entry.now result }
-        { add_many(rt, lock, pass, maker) },
+        { insert_many(rt, lock, pass, maker) },
         || -> Pass<Log>
             requires { IsPassOf lock.now other }
             ensures { IsPassOf lock.entry.now result }
-        { add_many(rt, lock, other, next) },
+        { insert_many(rt, lock, other, next) },
     );
     lock.join(&mut pass, other);
     Some(pass)
 }
 
-// Twice two threads add. Whether each maker's numbers are all there at the end, in order.
-fn four_add<R: Threads + Wait + Sync>(
+// Twice two threads insert. Whether each maker's numbers are all there at the end, in order, and the log is full.
+fn four_insert<R: Threads + Wait + Sync>(
     rt: &R,
     lock: &TurnLock<Log>,
     mut pass: Pass<Log>,
@@ -103,49 +115,58 @@ fn four_add<R: Threads + Wait + Sync>(
         || -> Option<Pass<Log>>
             requires { IsPassOf lock.now pass }
             ensures { IfSome result (λ p. IsPassOf lock.entry.now p) }
-        { two_add(rt, lock, pass, 0) },
+        { two_insert(rt, lock, pass, 0) },
         || -> Option<Pass<Log>>
             requires { IsPassOf lock.now other }
             ensures { IfSome result (λ p. IsPassOf lock.entry.now p) }
-        { two_add(rt, lock, other, 2) },
+        { two_insert(rt, lock, other, 2) },
     );
     let (mut pass, other) = (pass?, other?);
     lock.join(&mut pass, other);
-    Some(found_in_order(rt, lock, &mut pass))
+    Some(found_in_order(rt, lock, &mut pass) && is_full(rt, lock, &mut pass))
 }
 
 #[test]
 fn four_threads_take_2000_turns_each(rt: HostRuntime) -> Result<(), Fail> {
-    let (lock, pass) = fresh(rt.alloc(), 4)?;
-    assert!(rt; four_add(&rt, &lock, pass) == Some(true));
+    let (lock, pass) = fresh(&rt, rt.alloc(), 4)?;
+    assert!(rt; four_insert(&rt, &lock, pass) == Some(true));
     Ok(())
 }
 
 #[test]
 fn spent_split(rt: HostRuntime) -> Result<(), Fail> {
-    let (lock, mut pass) = fresh(rt.alloc(), 1)?;
-    assert!(rt; matches!(lock.split(&mut pass), Err(SplitFault::Spent { made: 1 })));
+    let fault = fault_of_one(&rt, rt.alloc())?;
+    assert!(rt; matches!(fault, SplitFault::Spent { made: 1 }));
     Ok(())
 }
 
 #[test]
 fn a_pass_is_split_and_joined(rt: HostRuntime) -> Result<(), Fail> {
-    let (lock, mut pass) = fresh(rt.alloc(), 2)?;
-    assert!(rt; both_add(&rt, &lock, &mut pass) == Some((1, 2)));
-    assert!(rt; count(&rt, &lock, &mut pass) == 2);
+    let (lock, mut pass) = fresh(&rt, rt.alloc(), 2)?;
+    assert!(rt; both_insert(&rt, &lock, &mut pass) == Some((1, 2)));
+    assert!(rt; status(&rt, &lock, &mut pass) == (2, 0));
     // Both numbers of the lock were drawn.
-    assert!(rt; both_add(&rt, &lock, &mut pass) == None);
+    assert!(rt; both_insert(&rt, &lock, &mut pass) == None);
     Ok(())
+}
+
+fn places_and_status<R: Wait>(
+    rt: &R,
+    lock: &TurnLock<Log>,
+    pass: &mut Pass<Log>,
+) -> Result<(u64, (u64, u64)), PushFault>
+    requires { IsPassOf lock.now pass.old × (0 < pass.old.may_settle) }
+{
+    insert(rt, lock, pass, 7)?;
+    insert(rt, lock, pass, 8)?;
+    settle_all(rt, lock, pass);
+    let place = insert(rt, lock, pass, 9)?;
+    Ok((place, status(rt, lock, pass)))
 }
 
 #[test]
 fn the_first_pass_settles(rt: HostRuntime) -> Result<(), Fail> {
-    let (lock, mut pass) = fresh(rt.alloc(), 1)?;
-    add(&rt, &lock, &mut pass, 7)?;
-    add(&rt, &lock, &mut pass, 8)?;
-    settle_all(&rt, &lock, &mut pass);
-    add(&rt, &lock, &mut pass, 9)?;
-    assert!(rt; settled(&rt, &lock, &mut pass) == 2);
-    assert!(rt; count(&rt, &lock, &mut pass) == 3);
+    let (lock, mut pass) = fresh(&rt, rt.alloc(), 1)?;
+    assert!(rt; matches!(places_and_status(&rt, &lock, &mut pass), Ok((3, (3, 2)))));
     Ok(())
 }
