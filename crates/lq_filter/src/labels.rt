@@ -73,7 +73,7 @@ impl Selector {
             (IsRefusal nth.old (flat_map (flat_map patterns_of_test) (groups_of select.now))) }
     {
         let mut groups = Vec::new(alloc);
-        for group in &select.groups {
+        for group in select.groups.as_slice() {
             let prepared = PreparedGroup::new(alloc, group, nth)?;
             groups.push(prepared)?;
         }
@@ -84,11 +84,12 @@ impl Selector {
     pub(crate) fn is_of(&self, select: &Select) -> bool
         ensures { IsTrue result → prepared_groups self.now ≡ groups_of select.now }
     {
-        if self.groups.len() != select.groups.len() {
+        let groups = select.groups.as_slice();
+        if self.groups.len() != groups.len() {
             return false;
         }
         for place in 0..self.groups.len() {
-            if !self.groups[place].is_of(&select.groups[place]) {
+            if !self.groups[place].is_of(&groups[place]) {
                 return false;
             }
         }
@@ -124,7 +125,7 @@ impl PreparedGroup {
         ensures refused { IfErr result (IsRefusal nth.old (flat_map patterns_of_test (tests_of group.now))) }
     {
         let mut tests = Vec::new(alloc);
-        for test in &group.labels {
+        for test in group.labels.as_slice() {
             let prepared = PreparedTest::new(alloc, test, nth)?;
             tests.push(prepared)?;
         }
@@ -134,11 +135,12 @@ impl PreparedGroup {
     fn is_of(&self, group: &Group) -> bool
         ensures { IsTrue result → prepared_tests self.now ≡ tests_of group.now }
     {
-        if self.tests.len() != group.labels.len() {
+        let labels = group.labels.as_slice();
+        if self.tests.len() != labels.len() {
             return false;
         }
         for place in 0..self.tests.len() {
-            if !self.tests[place].is_of(&group.labels[place]) {
+            if !self.tests[place].is_of(&labels[place]) {
                 return false;
             }
         }

@@ -10,7 +10,7 @@ use lq_ast::{Group, How, LabelTest, Select};
 use lq_grammar::scan::{at, expect, expect_glued, past, past_glued, text};
 use lq_grammar::{Item, Role, Stop, WORDS};
 use std::alloc::{AllocError, Global};
-use vl_row::Text;
+use vl_row::{Items, Text};
 
 /// A field's name, which is the message's where it is empty.
 pub(crate) fn field_named(alloc: Global, name: &str) -> Result<Text, AllocError>
@@ -63,6 +63,7 @@ fn labels<'t>(alloc: Global, tokens: &'t [Item]) -> Result<(Group, &'t [Item]), 
         labels.push(another)?;
         rest = behind;
     }
+    let labels = Items::of(labels);
     Ok((Group { labels }, rest))
 }
 
@@ -79,6 +80,7 @@ fn groups<'t>(alloc: Global, tokens: &'t [Item]) -> Result<(Select, &'t [Item]),
         groups.push(another)?;
         rest = behind;
     }
+    let groups = Items::of(groups);
     Ok((Select { groups }, rest))
 }
 
@@ -101,6 +103,6 @@ fn optional_groups<'t>(alloc: Global, tokens: &'t [Item]) -> Result<(Select, &'t
     if at(tokens, WORDS) {
         return groups(alloc, tokens);
     }
-    let groups = Vec::new(alloc);
+    let groups = Items::of(Vec::new(alloc));
     Ok((Select { groups }, tokens))
 }

@@ -5,4 +5,4 @@ use Rattle.lq_filter.proofs.labels.PreparedGroup.is_of.Given as goal
 
 abbrev pub invariant-loop-place : goal.invariant-loop-place
 invariant-loop-place l =
-    map prepared_test (take l.place l.self.tests.items) ≡ map test_of (take l.place l.group.labels.items)
+    map prepared_test (take l.place l.self.tests.items) ≡ map test_of (take l.place l.group.labels)

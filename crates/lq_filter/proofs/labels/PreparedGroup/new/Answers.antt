@@ -8,18 +8,18 @@ use Rattle.lq_filter.proofs.labels.PreparedGroup.new.Goals as goal
 
 pub returns-in_err-prepared-clause-refused : goal.returns-in_err-prepared-clause-refused
 returns-in_err-prepared-clause-refused c =
-    let items = c.deref-test-items.result.now in
+    let items = c.as_slice-test-items.result.now in
     let here = refused_here test_of (λ test. patterns_of_test (test_of test))
     items c.args.nth.now c.loop-test.test-index
     (map prepared_test c.loop-test.tests.items) c.loop-test.nth c.loop-test.invariant c.test-item.result
     c.loop-test-test.true c.test-item.is c.in_err-prepared.field-0.0 c.in_err-prepared.ensures.refused in
     handed_on c.from_residual.result _ _ c.from_residual.ensures.1
-    (refused_mapped patterns_of_test test_of c.args.group.now.labels.items items c.deref-test-items.ensures.value
+    (refused_mapped patterns_of_test test_of c.args.group.now.labels items c.as_slice-test-items.ensures
     c.args.nth.now _ here)
 
 pub loop-test-preserved : goal.loop-test-preserved
 loop-test-preserved c =
-    let items = c.deref-test-items.result.now in
+    let items = c.as_slice-test-items.result.now in
     let made = map prepared_test c.loop-test.tests.items in
     let behind = left_behind test_of (λ test. patterns_of_test (test_of test))
     items c.args.nth.now c.loop-test.test-index made
@@ -31,8 +31,8 @@ loop-test-preserved c =
 
 pub returns-clause-counted : goal.returns-clause-counted
 returns-clause-counted c = λ _.
-    let items = c.deref-test-items.result.now in
-    counted_mapped patterns_of_test test_of c.args.group.now.labels.items items c.deref-test-items.ensures.value
+    let items = c.as_slice-test-items.result.now in
+    counted_mapped patterns_of_test test_of c.args.group.now.labels items c.as_slice-test-items.ensures
     c.args.nth.now c.loop-test.nth
     (all_counted test_of (λ test. patterns_of_test (test_of test)) items c.args.nth.now c.loop-test.test-index
     (map prepared_test c.loop-test.tests.items) c.loop-test.nth c.loop-test.invariant c.loop-test-test.false)

@@ -5,4 +5,4 @@ use Rattle.lq_filter.proofs.labels.Selector.is_of.Given as goal
 
 abbrev pub invariant-loop-place : goal.invariant-loop-place
 invariant-loop-place l =
-    map prepared_tests (take l.place l.self.groups.items) ≡ map tests_of (take l.place l.select.groups.items)
+    map prepared_tests (take l.place l.self.groups.items) ≡ map tests_of (take l.place l.select.groups)

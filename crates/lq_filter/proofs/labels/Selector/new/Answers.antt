@@ -9,18 +9,18 @@ use Rattle.lq_filter.proofs.labels.Selector.new.Goals as goal
 
 pub returns-in_err-prepared-clause-refused : goal.returns-in_err-prepared-clause-refused
 returns-in_err-prepared-clause-refused c =
-    let items = c.deref-group-items.result.now in
+    let items = c.as_slice-group-items.result.now in
     let here = refused_here tests_of (λ group. flat_map patterns_of_test (tests_of group))
     items c.args.nth.now c.loop-group.group-index
     (map prepared_tests c.loop-group.groups.items) c.loop-group.nth c.loop-group.invariant c.group-item.result
     c.loop-group-test.true c.group-item.is c.in_err-prepared.field-0.0 c.in_err-prepared.ensures.refused in
     handed_on c.from_residual.result _ _ c.from_residual.ensures.1
-    (refused_mapped (flat_map patterns_of_test) tests_of c.args.select.now.groups.items items
-    c.deref-group-items.ensures.value c.args.nth.now _ here)
+    (refused_mapped (flat_map patterns_of_test) tests_of c.args.select.now.groups items
+    c.as_slice-group-items.ensures c.args.nth.now _ here)
 
 pub loop-group-preserved : goal.loop-group-preserved
 loop-group-preserved c =
-    let items = c.deref-group-items.result.now in
+    let items = c.as_slice-group-items.result.now in
     let made = map prepared_tests c.loop-group.groups.items in
     let behind = left_behind tests_of (λ group. flat_map patterns_of_test (tests_of group))
     items c.args.nth.now c.loop-group.group-index made
@@ -32,9 +32,9 @@ loop-group-preserved c =
 
 pub returns-clause-counted : goal.returns-clause-counted
 returns-clause-counted c = λ _.
-    let items = c.deref-group-items.result.now in
-    counted_mapped (flat_map patterns_of_test) tests_of c.args.select.now.groups.items items
-    c.deref-group-items.ensures.value c.args.nth.now c.loop-group.nth
+    let items = c.as_slice-group-items.result.now in
+    counted_mapped (flat_map patterns_of_test) tests_of c.args.select.now.groups items
+    c.as_slice-group-items.ensures c.args.nth.now c.loop-group.nth
     (all_counted tests_of (λ group. flat_map patterns_of_test (tests_of group))
     items c.args.nth.now c.loop-group.group-index
     (map prepared_tests c.loop-group.groups.items) c.loop-group.nth c.loop-group.invariant c.loop-group-test.false)
