@@ -1,5 +1,6 @@
--- The grammar of LogsQL's filters ("Query syntax"), a rule for each line of its EBNF, which stands above the rule. Words
--- in capitals are Bare tokens in any case of their letters, and `^` says that a token is glued to the one before it.
+-- The grammar of LogsQL's filters ("Query syntax"), a rule for each line of its EBNF, which stands above the rule.
+-- Words in capitals are Bare tokens in any case of their letters, and `^` says that a token is glued to the one before
+-- it.
 use Rattle.std.specs.Prelude.{ℕ, Bool, true, false, List, [], ◌∷◌, ◌++◌, flat_map, ℤ, None}
 use Rattle.grammar.specs.Rule.{Class, Rule, empty, one, unless, both, either, many, checked, deeper, Grammar}
 use Rattle.lq_ast.specs.declared.select.How.{How}
