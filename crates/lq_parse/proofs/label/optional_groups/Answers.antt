@@ -11,4 +11,4 @@ returns-then-at c depth =
 pub returns : goal.returns
 returns c depth =
     groups_none depth c.args.tokens.now (sym c.at.ensures ∙ c.if-at.false)
-    ∙ ap (λ (l : List Tests). Ok (l, c.args.tokens.now)) (sym (ap (map tests_of) c.new-groups.ensures.items))
+    ∙ ap (λ (l : List Tests). Ok (l, c.args.tokens.now)) (sym (ap (map tests_of) (c.of-groups.ensures ∙ c.new.ensures.items)))
