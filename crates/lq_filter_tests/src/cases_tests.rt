@@ -1,35 +1,34 @@
 // The filter and the row of a line of the table.
 use lq_ast::{Filter, Group, How, LabelTest, Query, Select};
-use lq_filter::prepare;
+use lq_filter::{Prepared, prepare};
 use std::alloc::{AllocError, Global};
 use vl_row::{FieldList, Row, Text};
 
-/// The columns that say a filter.
-#[derive(Drop)]
+/// A line of the table: the columns that say a filter, and the value.
+#[derive(Clone, Copy)]
 struct Case<'l> {
     form: &'l str,
     field: &'l str,
     first: &'l str,
     second: &'l str,
+    value: &'l str,
 }
 
 pub(crate) fn answer(alloc: Global, line: &str) -> Result<String, AllocError> {
-    let mut columns = line.split('\t');
-    let case = Case {
-        form: columns.next().unwrap_or(""),
-        field: columns.next().unwrap_or(""),
-        first: columns.next().unwrap_or(""),
-        second: columns.next().unwrap_or(""),
-    };
-    let value = columns.next().unwrap_or("");
+    let case = Case::new(line);
     let query = Query {
         filter: case.filter(alloc)?,
     };
-    let row = row_of(alloc, value)?;
     match prepare(alloc, &query) {
-        Ok(prepared) => format!(in alloc; "{}", prepared.holds(alloc, 0, &row)?),
+        Ok(prepared) => held(alloc, &prepared, case.value),
         Err(fault) => format!(in alloc; "{fault:?}"),
     }
+}
+
+fn held(alloc: Global, prepared: &Prepared, value: &str) -> Result<String, AllocError> {
+    let row = row_of(alloc, value)?;
+    let holds = prepared.holds(alloc, 0, &row)?;
+    format!(in alloc; "{holds}")
 }
 
 /// A row with this value of `v`, and another field, so that there is a row for an empty value too.
@@ -51,6 +50,17 @@ fn texts(alloc: Global, list: &str) -> Result<Vec<Text>, AllocError> {
 }
 
 impl<'l> Case<'l> {
+    fn new(line: &'l str) -> Case<'l> {
+        let mut columns = line.split('\t');
+        Case {
+            form: columns.next().unwrap_or(""),
+            field: columns.next().unwrap_or(""),
+            first: columns.next().unwrap_or(""),
+            second: columns.next().unwrap_or(""),
+            value: columns.next().unwrap_or(""),
+        }
+    }
+
     /// The filter of a form, of which a name that begins with `not ` is the negation.
     fn filter(&self, alloc: Global) -> Result<Filter, AllocError> {
         match self.form.strip_prefix("not ") {

@@ -1,5 +1,5 @@
 use lq_ast::{Filter, Group, How, LabelTest, Query, Select};
-use lq_filter::{PrepareFault, Prepared, prepare};
+use lq_filter::{PrepareFault, Prepared, Scan, prepare};
 use std::alloc::{AllocError, Global};
 use std::test::Fail;
 use vl_row::{FieldList, Row, Text};
@@ -59,12 +59,17 @@ fn label(alloc: Global, how: How, text: &str) -> Result<LabelTest, AllocError> {
     Ok(LabelTest { name, how, text })
 }
 
+fn group_of(alloc: Global, test: LabelTest) -> Result<Group, AllocError> {
+    let mut labels = Vec::new(alloc);
+    labels.push(test)?;
+    Ok(Group { labels })
+}
+
 /// `{app HOW text}`
 fn selector(alloc: Global, how: How, text: &str) -> Result<Select, AllocError> {
-    let mut labels = Vec::new(alloc);
-    labels.push(label(alloc, how, text)?)?;
+    let group = group_of(alloc, label(alloc, how, text)?)?;
     let mut groups = Vec::new(alloc);
-    groups.push(Group { labels })?;
+    groups.push(group)?;
     Ok(Select { groups })
 }
 
@@ -96,15 +101,17 @@ fn no_group_selects_all(rt: HostRuntime) -> Result<(), Fail> {
     Ok(())
 }
 
-/// `{app!=a, app=~TEXT or app=b}`
+/// `app!=a, app=~TEXT`
+fn group_of_two(alloc: Global, text: &str) -> Result<Group, AllocError> {
+    let mut group = group_of(alloc, label(alloc, How::IsNot, "a")?)?;
+    group.labels.push(label(alloc, How::Matches, text)?)?;
+    Ok(group)
+}
+
+/// `{app=b or app!=a, app=~TEXT}`
 fn two_groups(alloc: Global, text: &str) -> Result<Select, AllocError> {
-    let mut select = selector(alloc, How::IsNot, "a")?;
-    if let Some(group) = select.groups.first_mut() {
-        group.labels.push(label(alloc, How::Matches, text)?)?;
-    }
-    let mut labels = Vec::new(alloc);
-    labels.push(label(alloc, How::Is, "b")?)?;
-    select.groups.push(Group { labels })?;
+    let mut select = selector(alloc, How::Is, "b")?;
+    select.groups.push(group_of_two(alloc, text)?)?;
     Ok(select)
 }
 
@@ -185,12 +192,17 @@ fn holds_for_x(alloc: Global, filter: Filter) -> Result<bool, AllocError> {
     holds(alloc, filter, 0, &row)
 }
 
-/// Whether a row whose label is `ab` holds before and after one without the label does not.
-fn scan_keeps_its_matchers(alloc: Global, prepared: &Prepared) -> Result<bool, AllocError> {
+fn next_holds(alloc: Global, scan: &mut Scan, app: &str) -> Result<bool, AllocError> {
+    let row = row_of(alloc, 0, app)?;
+    scan.holds(&row)
+}
+
+/// Whether a row whose label is `ab` holds after one without the label did not.
+fn scan_goes_on(alloc: Global, prepared: &Prepared) -> Result<bool, AllocError> {
     let mut scan = prepared.scan(alloc, 0);
-    let with_label = row_of(alloc, 0, "ab")?;
-    let without = row_of(alloc, 0, "")?;
-    Ok(scan.holds(&with_label)? && !scan.holds(&without)? && scan.holds(&with_label)?)
+    let without = next_holds(alloc, &mut scan, "")?;
+    let with_label = next_holds(alloc, &mut scan, "ab")?;
+    Ok(with_label && !without)
 }
 
 fn scan_of(alloc: Global, filters: Vec<Filter>) -> Result<bool, AllocError> {
@@ -198,7 +210,7 @@ fn scan_of(alloc: Global, filters: Vec<Filter>) -> Result<bool, AllocError> {
         filter: Filter::All2(filters),
     };
     match prepare(alloc, &query) {
-        Ok(prepared) => scan_keeps_its_matchers(alloc, &prepared),
+        Ok(prepared) => scan_goes_on(alloc, &prepared),
         Err(_) => Err(AllocError),
     }
 }
