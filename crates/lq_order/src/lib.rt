@@ -1,0 +1,2 @@
+//! Records in order: `sort`, `uniq` and `top` (LogsQL, "Pipes").
+#![tactic(auto)]

@@ -1,0 +1,2 @@
+//! Statistics of records by groups: `stats` (LogsQL, "stats pipe").
+#![tactic(auto)]
