@@ -1,2 +1,12 @@
 //! Records in order: `sort`, `uniq` and `top` (LogsQL, "Pipes").
 #![tactic(auto)]
+
+mod group;
+mod ranked;
+mod sort;
+mod top;
+mod uniq;
+
+pub use sort::sort_recs;
+pub use top::top_recs;
+pub use uniq::uniq_recs;
