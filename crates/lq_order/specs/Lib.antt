@@ -1,1 +1,5 @@
+pub mod Column
+pub mod Mirror
+pub mod Placed
+pub mod Ranks
 pub mod Sorting

@@ -1,5 +1,6 @@
 //! Records in groups: those of one tuple of values.
-use crate::ranked::{compare, in_order, Ranked};
+use crate::column::{columns, compare, Column};
+use crate::placed::in_order;
 use lq_ast::SortKey;
 use std::alloc::{AllocError, Global};
 use std::cmp::Ordering;
@@ -19,9 +20,10 @@ pub(crate) fn groups<'a>(
     records: &'a [FieldList],
 ) -> Result<Vec<Group<'a>>, AllocError> {
     let keys = ascending(alloc, names)?;
-    let ranked = in_order(alloc, keys.as_slice(), records)?;
+    let columns = columns(alloc, keys.as_slice(), records)?;
+    let placed = in_order(alloc, columns.as_slice(), records)?;
     let mut groups = Vec::new(alloc);
-    for run in ranked.chunk_by(|a, b| is_tied(keys.as_slice(), a, b)) {
+    for run in placed.chunk_by(|a, b| is_tied(columns.as_slice(), a.at, b.at)) {
         let record = run[0].record;
         if has_value(names, record) {
             let hits = run.len();
@@ -41,8 +43,8 @@ fn ascending(alloc: Global, names: &[Text]) -> Result<Vec<SortKey>, AllocError> 
     Ok(keys)
 }
 
-fn is_tied(keys: &[SortKey], a: &Ranked<'_>, b: &Ranked<'_>) -> bool {
-    compare(keys, a.keys.as_slice(), b.keys.as_slice()) == Ordering::Equal
+fn is_tied(columns: &[Column], a: usize, b: usize) -> bool {
+    compare(columns, a, b) == Ordering::Equal
 }
 
 /// Whether one of these fields is not empty.

@@ -1,8 +1,10 @@
 //! Records in order: `sort`, `uniq` and `top` (LogsQL, "Pipes").
 #![tactic(auto)]
 
+mod column;
 mod group;
-mod ranked;
+mod placed;
+mod ranks;
 mod sort;
 mod top;
 mod uniq;

@@ -1,5 +1,6 @@
 //! The `sort` pipe.
-use crate::ranked::in_order;
+use crate::column::columns;
+use crate::placed::in_order;
 use lq_ast::SortPipe;
 use std::alloc::{AllocError, Global};
 use std::mem;
@@ -15,8 +16,9 @@ pub fn sort_recs(alloc: Global, p: &SortPipe, r: Recs) -> Result<Recs, AllocErro
 
 /// Where the records stand that are kept.
 fn places(alloc: Global, p: &SortPipe, records: &[FieldList]) -> Result<Vec<usize>, AllocError> {
-    let ranked = in_order(alloc, p.keys.as_slice(), records)?;
-    let kept = kept(ranked.as_slice(), p.offset, p.limit);
+    let columns = columns(alloc, p.keys.as_slice(), records)?;
+    let placed = in_order(alloc, columns.as_slice(), records)?;
+    let kept = kept(placed.as_slice(), p.offset, p.limit);
     let mut places = Vec::with_capacity(alloc, kept.len())?;
     for one in kept {
         places.push(one.at)?;
