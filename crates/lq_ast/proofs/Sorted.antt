@@ -1,14 +1,20 @@
 -- What `sorted_by` makes of a list: its items in order, and those that are equal in it as they came. No other list is so.
 use Rattle.std.proofs.Common.{◌≡◌, ℕ, zero, suc, ◌+◌, ◌<◌, ◌≤◌, Bool, true, false, not, ◌&&◌, cond, List, [], ◌∷◌, map}
 use Rattle.std.proofs.Common.{length, get_or, refl, sym, ap, subst, ◌∙◌, arith}
-use Rattle.std.proofs.lemmas.List.Sorted.{sorted_far}
+use Rattle.std.proofs.lemmas.List.Sorted.{IsPermutation-cons, IsPermutation-middle, IsPermutation-refl}
+use Rattle.std.proofs.lemmas.List.Sorted.{IsPermutation-sym, IsPermutation-trans, sorted_far}
+use Rattle.std.proofs.lemmas.Fn.{always_returns_same}
 use Rattle.std.specs.Cmp.{IsStrictWeakOrder, IsTotalOrder, tied_itself, upto}
-use Rattle.std.specs.List.{AllByRecursion, filter}
-use Rattle.std.specs.List.Sorted.{IsSortedBy, IsStableBy, ties}
+use Rattle.std.specs.Fn.{Called, ComparesAs}
+use Rattle.std.specs.List.{AllByRecursion, AllPairs, filter}
+use Rattle.std.specs.List.Sorted.{IsPermutation, IsSortedBy, IsSortedByClosure, IsStableBy}
+use Rattle.std.specs.List.Sorted.{IsStableByClosure, ties}
 use Rattle.std.specs.Ordering.{is_eq, is_gt, is_lt, on, ordering_reverse}
 use Rattle.std.specs.declared.cmp.Ordering.{Ordering}
 use Rattle.std.specs.declared.cmp.Ordering.TheVariants.{Equal, Greater, Less}
 use Rattle.lq_ast.specs.Tuples.{insert_by, sorted_by}
+use denote.Param.Members.{Mut}
+use denote.Ref.{Bor}
 
 -- ---- lists
 
@@ -22,6 +28,25 @@ pub all_from_places : {A : Type 0} (P : A → Type 0) (xs : List A)
 all_from_places P [] h = tt
 all_from_places P (x ∷ xs) h =
     (h 0 x (omega arith), all_from_places P xs (λ k d within. h (suc k) d (omega arith)))
+
+all_at : {A : Type 0} (P : A → Type 0) (xs : List A) → AllByRecursion P xs → (k : ℕ) (d : A) → k < length xs
+    → P (get_or xs k d)
+all_at P [] h k d within = absurd (omega arith)
+all_at P (x ∷ xs) h zero d within = h.0
+all_at P (x ∷ xs) h (suc k) d within = all_at P xs h.1 k d (omega arith)
+
+-- R holds of each item and each later one
+abbrev pub Pairwise : {A : Type 0} → (A → A → Type 0) → List A → Type 0
+Pairwise R [] = Unit {0}
+Pairwise R (x ∷ xs) = AllByRecursion (R x) xs × Pairwise R xs
+
+pub pairs_from_pairwise : {A : Type 0} (R : A → A → Type 0) (xs : List A) → Pairwise R xs → AllPairs R xs
+pairs_from_pairwise R [] h i j d up within = absurd (omega arith)
+pairs_from_pairwise R (x ∷ xs) h zero zero d up within = absurd (omega arith)
+pairs_from_pairwise R (x ∷ xs) h zero (suc j) d up within = all_at (R x) xs h.0 j d (omega arith)
+pairs_from_pairwise R (x ∷ xs) h (suc i) zero d up within = absurd (omega arith)
+pairs_from_pairwise R (x ∷ xs) h (suc i) (suc j) d up within =
+    pairs_from_pairwise R xs h.1 i j d (omega arith) (omega arith)
 
 -- what a filter begins with is one of the items
 filter_first : {A : Type 0} (Q : A → Type 0) (test : A → Bool) (xs : List A) (y : A) (ys : List A)
@@ -84,6 +109,39 @@ module _ {A : Type 0} (order : A → A → Ordering) where
   unfolding sorted_by
   all_sorted P [] all = tt
   all_sorted P (x ∷ xs) all = all_inserted P x (sorted_by order xs) all.0 (all_sorted P xs all.1)
+
+  pairwise_inserted : (R : A → A → Type 0) → ((x y : A) → R x y → R y x) → (x : A) (ys : List A)
+      → AllByRecursion (R x) ys → Pairwise R ys → Pairwise R (insert_by order x ys)
+  pairwise_inserted R turned x [] one all = (tt, tt)
+  pairwise_inserted R turned x (y ∷ ys) one all =
+      elim (is_gt (order x y)) as (λ t. Pairwise R (cond t (y ∷ insert_by order x ys) (x ∷ (y ∷ ys)))) [
+        | true ↦ (all_inserted (R y) x ys (turned x y one.0) all.0, pairwise_inserted R turned x ys one.1 all.1)
+        | false ↦ (one, all)
+      ]
+
+  pub pairwise_sorted : (R : A → A → Type 0) → ((x y : A) → R x y → R y x) → (xs : List A) → Pairwise R xs
+      → Pairwise R (sorted_by order xs)
+  unfolding sorted_by
+  pairwise_sorted R turned [] all = tt
+  pairwise_sorted R turned (x ∷ xs) all =
+      pairwise_inserted R turned x (sorted_by order xs) (all_sorted (R x) xs all.0) (pairwise_sorted R turned xs all.1)
+
+  permutation_inserted : (x : A) (ys : List A) → IsPermutation (x ∷ ys) (insert_by order x ys)
+  permutation_inserted x [] = IsPermutation-refl (x ∷ [])
+  permutation_inserted x (y ∷ ys) =
+      let turned = IsPermutation-sym (y ∷ (x ∷ ys)) (x ∷ (y ∷ ys)) (IsPermutation-middle (y ∷ []) x ys) in
+      let passed = IsPermutation-trans _ _ _ turned
+          (IsPermutation-cons y (x ∷ ys) (insert_by order x ys) (permutation_inserted x ys)) in
+      elim (is_gt (order x y)) as (λ t. IsPermutation (x ∷ (y ∷ ys)) (cond t (y ∷ insert_by order x ys) (x ∷ (y ∷ ys)))) [
+        | true ↦ passed
+        | false ↦ IsPermutation-refl (x ∷ (y ∷ ys))
+      ]
+
+  pub permutation_sorted : (xs : List A) → IsPermutation xs (sorted_by order xs)
+  unfolding sorted_by
+  permutation_sorted [] = IsPermutation-refl []
+  permutation_sorted (x ∷ xs) = IsPermutation-trans _ _ _
+      (IsPermutation-cons x xs (sorted_by order xs) (permutation_sorted xs)) (permutation_inserted x (sorted_by order xs))
 
 module _ {A : Type 0} (order : A → A → Ordering) (total : IsTotalOrder order) where
   pub is_gt_turned : (x y : A) → is_gt (order x y) ≡ is_lt (order y x)
@@ -214,6 +272,16 @@ module _ {A : Type 0} (order : A → A → Ordering) (total : IsTotalOrder order
     rises_from_places xs (λ i j d up within. h (suc i) (suc j) d (omega arith) (omega arith)),
   )
 
+  pub rises_at : (xs : List A) → Rises xs → (i j : ℕ) (d : A) → i ≤ j → j < length xs
+      → is_gt (order (get_or xs i d) (get_or xs j d)) ≡ false
+  unfolding Rises
+  rises_at [] h i j d up within = absurd (omega arith)
+  rises_at (x ∷ xs) h zero zero d up within = not_before_itself x
+  rises_at (x ∷ xs) h zero (suc j) d up within =
+      all_at (λ y. is_gt (order x y) ≡ false) xs h.0 j d (omega arith)
+  rises_at (x ∷ xs) h (suc i) zero d up within = absurd (omega arith)
+  rises_at (x ∷ xs) h (suc i) (suc j) d up within = rises_at xs h.1 i j d (omega arith) (omega arith)
+
   pub ties_is_eq : (x y : A) → ties (λ a b. is_lt (order a b)) x y ≡ is_eq (order x y)
   ties_is_eq x y =
       ap (λ t. not (is_lt (order x y)) && not t) (sym (is_gt_turned x y)) ∙ level_is_eq (order x y)
@@ -226,6 +294,18 @@ module _ {A : Type 0} (order : A → A → Ordering) (total : IsTotalOrder order
       (rises_from_places ys (λ i j d l within. is_gt_turned (get_or ys i d) (get_or ys j d) ∙ far i j d l within))
       (rises_sorted xs)
       (λ x. (λ i. filter (λ w. sym (ties_is_eq x w) i) ys) ∙ stable x ∙ (λ i. filter (λ w. ties_is_eq x w i) xs) ∙ sym (filter_sorted x xs))
+
+  -- the same of a closure that compares by the order
+  pub sorted_by_closure : {F : Type 0} {g : Mut F (Bor A × (Bor A × Unit {0})) Ordering} {f : F} (xs ys : List A)
+      → IsSortedByClosure g f ys → IsStableByClosure g f xs ys
+      → ((a : Bor A × (Bor A × Unit {0})) (o : Ordering) (f' : F) → Called g f a o f'
+      → (o ≡ order a.0.now a.1.0.now) × (f' ≡ f))
+      → ys ≡ sorted_by order xs
+  sorted_by_closure {g = g} {f = f} xs ys up stable answers =
+      let lt = λ (a b : A). is_lt (order a b) in
+      let compares : ComparesAs g lt f = always_returns_same g (λ a o. is_lt o ≡ lt a.0.now a.1.0.now) f
+          (λ a o f' called. (ap is_lt (answers a o f' called).0, (answers a o f' called).1)) in
+      sorted_by_is xs ys (up lt weak_order compares) (stable lt weak_order compares)
 
 -- ---- through a key, and by orders that agree
 
