@@ -5,7 +5,7 @@ ghost use Rattle.std.specs.Ordering.{nat_cmp, on};
 ghost use Rattle.log_model.specs.Order.{key_cmp, key_of, value_cmp};
 ghost use Rattle.lq_ast.specs.Tuples.{sorted_by};
 ghost use Rattle.lq_order.specs.Mirror.{Mirrors};
-ghost use Rattle.lq_order.specs.Ranks.{keyed_of};
+ghost use Rattle.lq_order.specs.Ranks.{keyed_of, next_rank};
 
 use std::alloc::{AllocError, Global};
 use vl_row::ValueKey;
@@ -23,21 +23,20 @@ pub(crate) fn ranks(alloc: Global, texts: &[&str]) -> Result<Vec<usize>, AllocEr
         Mirrors (on (slice_index ranks.items) nat_cmp) value_cmp (map (λ text. text.now) texts.now)) }
 {
     let keyed = in_order(alloc, texts)?;
-    numbered(alloc, keyed.as_slice())
-}
-
-fn numbered(alloc: Global, keyed: &[Keyed<'_>]) -> Result<Vec<usize>, AllocError> {
     let mut ranks = vec![in alloc; 0; keyed.len()]?;
     let mut rank = 0;
     for (i, one) in keyed.iter().enumerate() {
-        rank = next_rank(keyed, i, rank);
+        rank = next_rank(keyed.as_slice(), i, rank);
         ranks[one.at] = rank;
     }
     Ok(ranks)
 }
 
-/// The rank at a place, where the one before it has this rank.
-fn next_rank(keyed: &[Keyed<'_>], i: usize, rank: usize) -> usize {
+/// The rank of the text at a place, where the one before it has this rank.
+fn next_rank(keyed: &[Keyed<'_>], i: usize, rank: usize) -> usize
+    requires { i < length keyed.now }
+    ensures { result ≡ next_rank (map keyed_of keyed.entry.now) i rank }
+{
     if i > 0 && keyed[i - 1].key != keyed[i].key {
         i
     } else {
