@@ -29,7 +29,7 @@ all_from_places P [] h = tt
 all_from_places P (x ∷ xs) h =
     (h 0 x (omega arith), all_from_places P xs (λ k d within. h (suc k) d (omega arith)))
 
-all_at : {A : Type 0} (P : A → Type 0) (xs : List A) → AllByRecursion P xs → (k : ℕ) (d : A) → k < length xs
+pub all_at : {A : Type 0} (P : A → Type 0) (xs : List A) → AllByRecursion P xs → (k : ℕ) (d : A) → k < length xs
     → P (get_or xs k d)
 all_at P [] h k d within = absurd (omega arith)
 all_at P (x ∷ xs) h zero d within = h.0

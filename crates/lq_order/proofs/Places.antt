@@ -58,12 +58,21 @@ above : {X : Type 0} (n m : ℕ) (xs : List X) → n < m → AllByRecursion (λ 
 above n m [] h = tt
 above n m (x ∷ xs) h = (h, above n (m + 1) xs (omega arith))
 
-enumerate_apart : {X : Type 0} (n : ℕ) (xs : List X) → Pairwise (λ (p q : ℕ × X). p.0 ≢ q.0) (enumerate_from n xs)
+pub enumerate_apart : {X : Type 0} (n : ℕ) (xs : List X) → Pairwise (λ (p q : ℕ × X). p.0 ≢ q.0) (enumerate_from n xs)
 enumerate_apart n [] = tt
 enumerate_apart {X} n (x ∷ xs) = (
   all_weaker (λ (p : ℕ × X). n < p.0) (λ p. n ≢ p.0) (λ p below same. omega arith) (enumerate_from (n + 1) xs) (above n (n + 1) xs (omega arith)),
   enumerate_apart (n + 1) xs,
 )
+
+pub enumerate_each : {X : Type 0} (xs : List X) (k : ℕ) (d : ℕ × X) → k < length (enumerate_from 0 xs)
+    → ((get_or (enumerate_from 0 xs) k d).0 < length xs)
+    × ((e : X) → get_or xs (get_or (enumerate_from 0 xs) k d).0 e ≡ (get_or (enumerate_from 0 xs) k d).1)
+enumerate_each xs k d inside =
+    let within : k < length xs = omega (arith, length-enumerate_from 0 xs) in
+    let is : get_or (enumerate_from 0 xs) k d ≡ (0 + k, get_or xs k d.1) = get_or-enumerate_from 0 xs k d within in
+    let same : 0 + k ≡ k = omega arith in
+    rw is (omega arith, λ e. ap (λ i. get_or xs i e) same ∙ get_or_default xs k e d.1 within)
 
 module _ {X : Type 0} (order : ℕ × X → ℕ × X → Ordering) (xs : List X) where
   abbrev placed : List (ℕ × X)
@@ -79,15 +88,7 @@ module _ {X : Type 0} (order : ℕ × X → ℕ × X → Ordering) (xs : List X)
   pub placed_each : (k : ℕ) (d : ℕ × X) → k < length placed
       → ((get_or placed k d).0 < length xs) × ((e : X) → get_or xs (get_or placed k d).0 e ≡ (get_or placed k d).1)
   placed_each = All-permutation (λ p. (p.0 < length xs) × ((e : X) → get_or xs p.0 e ≡ p.1))
-      (enumerate_from 0 xs) placed moved (λ k d within. at k d (omega (arith, length-enumerate_from 0 xs)))
-    where
-      at : (k : ℕ) (d : ℕ × X) → k < length xs
-          → ((get_or (enumerate_from 0 xs) k d).0 < length xs)
-          × ((e : X) → get_or xs (get_or (enumerate_from 0 xs) k d).0 e ≡ (get_or (enumerate_from 0 xs) k d).1)
-      at k d within =
-          let is : get_or (enumerate_from 0 xs) k d ≡ (0 + k, get_or xs k d.1) = get_or-enumerate_from 0 xs k d within in
-          let same : 0 + k ≡ k = omega arith in
-          rw is (omega arith, λ e. ap (λ i. get_or xs i e) same ∙ get_or_default xs k e d.1 within)
+      (enumerate_from 0 xs) placed moved (enumerate_each xs)
 
   pub placed_apart : AllPairs (λ p q. p.0 ≢ q.0) placed
   placed_apart = pairs_from_pairwise (λ p q. p.0 ≢ q.0) placed
