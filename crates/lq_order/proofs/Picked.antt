@@ -1,7 +1,7 @@
 -- The records of places that stand in the order of the records.
 use Rattle.std.proofs.Common.{◌≡◌, ◌≢◌, ℕ, zero, suc, ◌+◌, ◌<◌, ◌≤◌, List, [], ◌∷◌, ◌++◌, map, length, get_or, take, drop}
 use Rattle.std.proofs.Common.{Option, Some, None, Bor, refl, sym, ap, subst, ◌∙◌, arith}
-use Rattle.std.proofs.lemmas.List.{get_or-set_other, take_more}
+use Rattle.std.proofs.lemmas.List.{get_or-set_other, get_or_default, map_more}
 use Rattle.std.proofs.Math.ListN.{length-set, set}
 use Rattle.std.proofs.lemmas.List.FromFn.{get_or-enumerate_from, length-enumerate_from}
 use Rattle.std.specs.List.{AllByRecursion, enumerate_from}
@@ -12,7 +12,8 @@ use Rattle.lq_ast.proofs.Sorted.{all_sorted, all_weaker, sorted_alike}
 use Rattle.lq_ast.specs.Records.{Record}
 use Rattle.lq_ast.specs.Tuples.{sorted_by}
 use Rattle.lq_order.specs.Mirror.{Mirrors}
-use Rattle.lq_order.specs.Placed.{ArePlaces}
+use Rattle.lq_order.specs.Placed.{ArePlaces, placed_of}
+use Rattle.lq_order.specs.declared.placed.Placed.{Placed}
 use Rattle.lq_order.specs.Sorting.{at_most}
 use Rattle.lq_order.proofs.Places.{enumerate_apart, enumerate_each, enumerate_items}
 
@@ -123,3 +124,49 @@ module _ {A : Type 0} (items : List A) where
         map_alike (λ p. p.0) (λ place. get_or items place d) (λ p. p.1) chosen (all_weaker Stands (λ p. get_or items p.0 d ≡ p.1) (λ p h. h.1 d) chosen stand_chosen)
         ∙ map_at_most (λ p. p.1) limit _
         ∙ ap (at_most limit) (map_dropped (λ p. p.1) offset _ ∙ ap (drop offset) (map_sorted (λ p. p.1) order (enumerate_from 0 items) ∙ ap (sorted_by order) (enumerate_items 0 items)))
+
+all_every : {A : Type 0} (P : A → Type 0) → ((x : A) → P x) → (xs : List A) → AllByRecursion P xs
+all_every P h [] = tt
+all_every P h (x ∷ xs) = (h x, all_every P h xs)
+
+-- the places of what is kept
+pub places_kept : (kept placed : List Placed) (offset : ℕ) (limit : Option ℕ) (entries : List (ℕ × Record))
+    → kept ≡ at_most limit (drop offset placed) → map placed_of placed ≡ entries
+    → map (λ one. one.at) kept ≡ map (λ p. p.0) (at_most limit (drop offset entries))
+places_kept kept placed offset limit entries is all =
+    ap (map (λ one. one.at)) is
+    ∙ sym (map_alike placed_of (λ p. p.0) (λ one. one.at) (at_most limit (drop offset placed)) (all_every _ (λ p. refl) _))
+    ∙ ap (map (λ p. p.0)) (map_at_most placed_of limit (drop offset placed)
+    ∙ ap (at_most limit) (map_dropped placed_of offset placed ∙ ap (drop offset) all))
+
+-- ---- records that are taken out one after another
+
+-- Those of the first so many places are out, and the others still stand.
+pub record AreTaken (records now : List Record) (places : List ℕ) (out : List Record) (i : ℕ) : Type 0 where
+  pub long : length now ≡ length records
+  pub first : out ≡ map (λ place. get_or records place []) (take i places)
+  pub left : (k : ℕ) → i ≤ k → k < length places → get_or now (get_or places k 0) [] ≡ get_or records (get_or places k 0) []
+
+pub taken_none : (records : List Record) (places : List ℕ) (out : List Record) → out ≡ []
+    → AreTaken records records places out 0
+taken_none records places out none = record { long = refl; first = none; left = λ k from within. refl }
+
+pub taken_more : (records now next : List Record) (places : List ℕ) (out more : List Record) (i place : ℕ) (one : Record)
+    → ArePlaces (length records) places → AreTaken records now places out i → i < length places
+    → place ≡ get_or places i 0 → one ≡ get_or now place one → more ≡ out ++ one ∷ [] → next ≡ set now place []
+    → AreTaken records next places more (i + 1)
+taken_more records now next places out more i place one are taken within at is pushed written =
+    let inside : place < length records = rw at (are.inside i 0 within) in
+    let here : get_or now place [] ≡ get_or records place [] = rw at (taken.left i (omega arith) within) in
+    let value : one ≡ get_or records place [] = is ∙ get_or_default now place one [] (omega (arith, taken.long)) ∙ here in
+    record {
+      long = ap length written ∙ length-set now place [] ∙ taken.long;
+      first = pushed
+          ∙ ap (λ l. l ++ one ∷ []) taken.first
+          ∙ ap (λ r. map (λ p. get_or records p []) (take i places) ++ r ∷ []) (value ∙ ap (λ p. get_or records p []) at)
+          ∙ sym (map_more (λ p. get_or records p []) places i 0 within);
+      left = λ k from below.
+        ap (λ rs. get_or rs (get_or places k 0) []) written
+        ∙ get_or-set_other now place (get_or places k 0) [] [] (λ same. are.apart i k 0 (omega arith) below (sym at ∙ sym same))
+        ∙ taken.left k (omega arith) below;
+    }
