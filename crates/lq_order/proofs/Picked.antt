@@ -82,10 +82,10 @@ pairwise_mapped f R (x ∷ xs) h = (all_mapped f (R (f x)) xs h.0, pairwise_mapp
 
 module _ {A : Type 0} (items : List A) where
   -- a place below the length, with its item
-  Stands : ℕ × A → Type 0
+  unfoldable pub Stands : ℕ × A → Type 0
   Stands p = (p.0 < length items) × ((d : A) → get_or items p.0 d ≡ p.1)
 
-  stand_each : AllByRecursion Stands (enumerate_from 0 items)
+  pub stand_each : AllByRecursion Stands (enumerate_from 0 items)
   unfolding Stands
   stand_each = all_from_places Stands (enumerate_from 0 items) (enumerate_each items)
 

@@ -1,8 +1,9 @@
 -- Runs of equal items in a list that is in order are the groups of its items.
 use Rattle.std.proofs.Common.{◌≡◌, ℕ, zero, suc, ◌+◌, ◌-◌, ◌<◌, ◌≤◌, Bool, true, false, not, cond, List, [], ◌∷◌, ◌++◌}
-use Rattle.std.proofs.Common.{map, length, drop, position, unwrap_or, refl, sym, ap, subst, ◌∙◌, arith}
+use Rattle.std.proofs.Common.{map, length, drop, refl, sym, ap, subst, ◌∙◌, arith}
+use Rattle.std.proofs.lemmas.List.{length-take-le}
 use Rattle.std.specs.Cmp.{IsTotalOrder, alike_right, tied_back, tied_itself}
-use Rattle.std.specs.List.{AllByRecursion, dedup, dedup_from, filter}
+use Rattle.std.specs.List.{AllByRecursion, prefix_len, take_while, dedup, dedup_from, filter}
 use Rattle.std.specs.Ordering.{is_eq, is_gt, ordering_reverse}
 use Rattle.std.specs.declared.cmp.Ordering.{Ordering}
 use Rattle.std.specs.declared.cmp.Ordering.TheVariants.{Equal, Greater, Less}
@@ -11,20 +12,38 @@ use Rattle.lq_order.specs.Groups.{runs, runs_from}
 
 -- ---- the first run of a list
 
+split_bool : (b : Bool) (G : Bool → Type 0) → (b ≡ true → G true) → (b ≡ false → G false) → G b
+split_bool true G f g = f refl
+split_bool false G f g = g refl
+
+prefix_le : {A : Type 0} (test : A → Bool) (xs : List A) → prefix_len test xs ≤ length xs
+prefix_le test [] = omega arith
+prefix_le test (x ∷ xs) =
+    let rest = prefix_le test xs in
+    elim (test x) as (λ t. cond t (1 + prefix_len test xs) 0 ≤ suc (length xs)) [ true ↦ omega arith | false ↦ omega arith ]
+
+pub length_while : {A : Type 0} (test : A → Bool) (xs : List A) → length (take_while test xs) ≡ prefix_len test xs
+length_while test xs = length-take-le (prefix_len test xs) xs (prefix_le test xs)
+
 module _ {A : Type 0} (same : A → A → Bool) where
-  tied : A → List A → ℕ
-  tied x xs = unwrap_or (position (λ y. not (same x y)) xs) (length xs)
-
-  run_ends : (first : A) (n m : ℕ) (xs : List A) → m ≡ n + tied first xs
-      → runs_from same first n xs ≡ (first, m) ∷ runs same (drop (tied first xs) xs)
-  unfolding tied
+  run_ends : (first : A) (n m : ℕ) (xs : List A) → m ≡ n + prefix_len (same first) xs
+      → runs_from same first n xs ≡ (first, m) ∷ runs same (drop (prefix_len (same first) xs) xs)
   run_ends first n m [] e = let is : n ≡ m = omega arith in ap (λ k. (first, k) ∷ []) is
-  run_ends first n m (y ∷ ys) e = ?
+  run_ends first n m (y ∷ ys) e =
+      split_bool (same first y)
+      (λ t. m ≡ n + cond t (1 + prefix_len (same first) ys) 0 → cond t (runs_from same first (n + 1) ys) ((first, n) ∷ runs_from same y 1 ys)
+        ≡ (first, m) ∷ runs same (drop (cond t (1 + prefix_len (same first) ys) 0) (y ∷ ys)))
+      (λ t is.
+        let more : suc (prefix_len (same first) ys) ≡ 1 + prefix_len (same first) ys = omega arith in
+        run_ends first (n + 1) m ys (omega (arith, is)) ∙ ap (λ k. (first, m) ∷ runs same (drop k (y ∷ ys))) more)
+      (λ t is. let end : n ≡ m = omega (arith, is) in ap (λ k. (first, k) ∷ runs_from same y 1 ys) end) e
 
-  pub runs_more : (x : A) (xs : List A) (k : ℕ) → k ≡ unwrap_or (position (λ y. not (same x y)) xs) (length xs)
+  -- the first run, and the others
+  pub runs_more : (x : A) (xs : List A) (k : ℕ) → k ≡ length (take_while (same x) xs)
       → runs same (x ∷ xs) ≡ (x, 1 + k) ∷ runs same (drop k xs)
-  unfolding tied
-  runs_more x xs k e = run_ends x 1 (1 + k) xs (ap (λ j. 1 + j) e) ∙ ap (λ j. (x, 1 + k) ∷ runs same (drop j xs)) (sym e)
+  runs_more x xs k e =
+      let is : k ≡ prefix_len (same x) xs = e ∙ length_while (same x) xs in
+      run_ends x 1 (1 + k) xs (ap (λ j. 1 + j) is) ∙ ap (λ j. (x, 1 + k) ∷ runs same (drop j xs)) (sym is)
 
 -- ---- runs by a key
 
@@ -55,10 +74,6 @@ less_from : (o : Ordering) → is_gt o ≡ false → is_eq o ≡ false → o ≡
 less_from Less g e = refl
 less_from Equal g e = absurd cc
 less_from Greater g e = absurd cc
-
-split_bool : (b : Bool) (G : Bool → Type 0) → (b ≡ true → G true) → (b ≡ false → G false) → G b
-split_bool true G f g = f refl
-split_bool false G f g = g refl
 
 filter_none : {A : Type 0} (test : A → Bool) (xs : List A) → AllByRecursion (λ x. test x ≡ false) xs → filter test xs ≡ []
 filter_none test [] all = refl

@@ -1,7 +1,7 @@
 //! Records in groups: those of one tuple of values.
-ghost use Rattle.std.specs.Prelude.{◌≡◌, [], false, length, map, not, position, unwrap_or, IfOk, OnOk};
+ghost use Rattle.std.specs.Prelude.{◌≡◌, [], false, length, map, IfOk, OnOk};
 ghost use Rattle.std.specs.Ordering.{is_eq};
-ghost use Rattle.std.specs.List.{list_all};
+ghost use Rattle.std.specs.List.{list_all, take_while};
 ghost use Rattle.log_model.specs.Field.{field_value, is_empty, set_field};
 ghost use Rattle.lq_ast.specs.PipeView.{sort_by};
 ghost use Rattle.lq_ast.specs.Tuples.{tuple_of};
@@ -52,12 +52,11 @@ pub(crate) fn groups<'a>(
 
 /// How many of the next records are equal to the one at a place.
 fn tied_with(columns: &[Column], place: usize, next: &[Placed<'_>]) -> usize
-    ensures { result ≡ unwrap_or (position (λ one. not (is_eq (columns_cmp columns.now place one.at))) next.entry.now)
-        (length next.entry.now) }
+    ensures { result ≡ length (take_while (λ one. is_eq (columns_cmp columns.now place one.at)) next.entry.now) }
 {
     next.iter()
-        .position(|one| !is_tied(columns, place, one.at))
-        .unwrap_or(next.len())
+        .take_while(|one| is_tied(columns, place, one.at))
+        .count()
 }
 
 /// These names as keys, from the least value up.
