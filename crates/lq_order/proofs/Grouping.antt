@@ -1,6 +1,7 @@
 -- The groups of records, as runs in tuple order.
-use Rattle.std.proofs.Common.{◌≡◌, ℕ, ◌+◌, ◌<◌, Bool, true, false, not, ◌&&◌, cond, List, [], ◌∷◌, ◌++◌, map, length, get_or, drop}
-use Rattle.std.proofs.Common.{zip, refl, sym, ap, subst, ◌∙◌, arith}
+use Rattle.std.proofs.Common.{◌≡◌, ℕ, ◌+◌, ◌<◌, Bool, true, false, not, ◌&&◌, cond, List, [], ◌∷◌, ◌++◌, map, length, get_or, take, drop}
+use Rattle.std.proofs.Common.{◌-◌, ◌≤◌, append_assoc, append-nil, zip, refl, sym, ap, subst, ◌∙◌, arith}
+use Rattle.std.proofs.lemmas.List.{map_push}
 use Rattle.std.specs.Cmp.{IsTotalOrder}
 use Rattle.std.specs.Cmp.Lexicographic.{lists_total}
 use Rattle.std.specs.List.{AllByRecursion, dedup, enumerate_from, filter, list_all, take_while}
@@ -14,12 +15,14 @@ use Rattle.lq_ast.proofs.Sorted.{all_sorted, filter_sorted, map_sorted, rises_so
 use Rattle.lq_ast.specs.Records.{Record}
 use Rattle.lq_ast.specs.Tuples.{Tuple, is_wholly_empty, sorted_by, tuple_cmp, tuple_of}
 use Rattle.lq_order.specs.Column.{columns_cmp}
-use Rattle.lq_order.specs.Groups.{runs}
+use Rattle.lq_order.specs.Groups.{group_of, runs}
+use Rattle.lq_order.specs.declared.group.Group.{Group}
 use Rattle.lq_order.specs.Mirror.{Mirrors}
 use Rattle.lq_order.specs.Placed.{placed_of}
 use Rattle.lq_order.specs.Sorting.{hits, record_cmp, tuples}
 use Rattle.lq_order.specs.declared.column.Column.{Column}
 use Rattle.lq_order.specs.declared.placed.Placed.{Placed}
+use Rattle.lq_order.proofs.Columns.{take_whole}
 use Rattle.lq_order.proofs.Picked.{Stands, sorted_as_items, stand_each}
 use Rattle.lq_order.proofs.Places.{enumerate_items}
 use Rattle.lq_order.proofs.Runs.{count, runs_counted, runs_keys, runs_more}
@@ -109,6 +112,44 @@ groups_more names columns first later k empty is test =
     ap (λ rs. filter (λ group. not (is_wholly_empty group.0)) (map (run_group names) rs)) (runs_more (are_tied columns) first later k is)
     ∙ ap (λ t. cond (not t) ((tuple_of names first.record.now, 1 + k) ∷ groups_in names columns (drop k later)) (groups_in names columns (drop k later)))
       (list_all_made (field_value first.record.now) is_empty names ∙ sym test)
+
+-- the same by the slices that the code has
+pub groups_left : (names : List (List ℕ)) (columns : List Column) (left next : List Placed) (first : Placed) (k : ℕ) (empty : Bool)
+    → 1 ≤ length left → first ≡ get_or left 0 first
+    → k ≡ length (take_while (are_tied columns first) (take (length left - 1) (drop 1 left)))
+    → empty ≡ list_all (λ name. is_empty (field_value first.record.now name)) names
+    → next ≡ drop k (take (length left - 1) (drop 1 left))
+    → groups_in names columns left
+    ≡ cond (not empty) ((tuple_of names first.record.now, 1 + k) ∷ groups_in names columns next) (groups_in names columns next)
+groups_left names columns [] next first k empty some at is test rest = absurd (omega arith)
+groups_left names columns (p ∷ ps) next first k empty some at is test rest =
+    let whole : take (length (p ∷ ps) - 1) ps ≡ ps = take_whole ps (length (p ∷ ps) - 1) (omega arith) in
+    ap (λ q. groups_in names columns (q ∷ ps)) (sym at)
+    ∙ groups_more names columns first ps k empty (is ∙ ap (λ l. length (take_while (are_tied columns first) l)) whole) test
+    ∙ ap (λ l. cond (not empty) ((tuple_of names first.record.now, 1 + k) ∷ groups_in names columns l) (groups_in names columns l)) (sym (rest ∙ ap (drop k) whole))
+
+pub groups_pushed : (names : List (List ℕ)) (groups more : List Group) (one : Group) (whole left rest : List (Tuple × ℕ)) (empty : Bool)
+    → whole ≡ map (group_of names) groups ++ left → left ≡ cond (not empty) (group_of names one ∷ rest) rest
+    → empty ≡ false → more ≡ groups ++ one ∷ [] → whole ≡ map (group_of names) more ++ rest
+groups_pushed names groups more one whole left rest empty so_far is test pushed =
+    so_far
+    ∙ ap (λ l. map (group_of names) groups ++ l) (is ∙ ap (λ t. cond (not t) (group_of names one ∷ rest) rest) test)
+    ∙ sym (append_assoc (map (group_of names) groups) (group_of names one ∷ []) rest)
+    ∙ ap (λ l. l ++ rest) (sym (ap (map (group_of names)) pushed ∙ map_push (group_of names) groups one))
+
+pub groups_passed : (names : List (List ℕ)) (groups more : List Group) (first : Tuple × ℕ) (whole left rest : List (Tuple × ℕ)) (empty : Bool)
+    → whole ≡ map (group_of names) groups ++ left → left ≡ cond (not empty) (first ∷ rest) rest
+    → empty ≡ true → more ≡ groups → whole ≡ map (group_of names) more ++ rest
+groups_passed names groups more first whole left rest empty so_far is test same =
+    so_far
+    ∙ ap (λ l. map (group_of names) groups ++ l) (is ∙ ap (λ t. cond (not t) (first ∷ rest) rest) test)
+    ∙ ap (λ gs. map (group_of names) gs ++ rest) (sym same)
+
+pub groups_ended : (names : List (List ℕ)) (columns : List Column) (left : List Placed) (whole done : List (Tuple × ℕ))
+    → length left < 1 → whole ≡ done ++ groups_in names columns left → done ≡ whole
+unfolding groups_in
+groups_ended names columns [] whole done none so_far = sym (so_far ∙ append-nil done)
+groups_ended names columns (p ∷ ps) whole done none so_far = absurd (omega arith)
 
 module _ (names : List (List ℕ)) (columns : List Column) (records : List Record) (mirrors : Mirrors (columns_cmp columns) (record_cmp (map (λ name. (name, false)) names)) records) where
   agree : (p q : Placed) → Stands records (placed_of p) → Stands records (placed_of q)

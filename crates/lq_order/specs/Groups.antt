@@ -17,7 +17,7 @@ runs same (x ∷ xs) = runs_from same x 1 xs
 
 -- the tuple of a group, and how many records have it
 abbrev pub group_of : List (List ℕ) → Group → Tuple × ℕ
-group_of names group = (tuple_of names group.record.now, group.hits)
+group_of names group = (tuple_of names group.record.now, 1 + group.others)
 
 -- the record of a tuple, with its number where that is wanted
 abbrev pub group_record : List (List ℕ) → Bool → Tuple × ℕ → Record

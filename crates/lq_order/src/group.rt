@@ -1,5 +1,5 @@
 //! Records in groups: those of one tuple of values.
-ghost use Rattle.std.specs.Prelude.{◌≡◌, [], false, length, map, IfOk, OnOk};
+ghost use Rattle.std.specs.Prelude.{◌≡◌, ◌+◌, [], false, length, map, IfOk, OnOk};
 ghost use Rattle.std.specs.Ordering.{is_eq};
 ghost use Rattle.std.specs.List.{list_all, take_while};
 ghost use Rattle.log_model.specs.Field.{field_value, is_empty, set_field};
@@ -11,16 +11,17 @@ ghost use Rattle.lq_order.specs.Sorting.{hits, tuple_record, tuples};
 
 use crate::column::{columns, compare, Column};
 use crate::placed::{in_order, Placed};
+use crate::sort::kept;
 use lq_ast::SortKey;
 use std::alloc::{AllocError, Global};
 use std::cmp::Ordering;
 use vl_row::{FieldList, Recs, Text};
 
-/// A record of a group, and how many the group has.
+/// A record of a group, and how many others the group has.
 #[derive(Clone, Copy)]
 pub(crate) struct Group<'a> {
     pub(crate) record: &'a FieldList,
-    pub(crate) hits: usize,
+    pub(crate) others: usize,
 }
 
 /// The groups of the records in tuple order, without the one whose tuple is wholly empty.
@@ -42,15 +43,15 @@ pub(crate) fn groups<'a>(
         if !is_wholly_empty(names, first.record) {
             groups.push(Group {
                 record: first.record,
-                hits: 1 + others,
+                others,
             })?;
         }
-        left = &later[others..];
+        left = kept(later, others as u64, None);
     }
     Ok(groups)
 }
 
-/// How many of the next records are equal to the one at a place.
+/// How many of the next records are equal to the one at a place, up to the first that is not.
 fn tied_with(columns: &[Column], place: usize, next: &[Placed<'_>]) -> usize
     ensures { result ≡ length (take_while (λ one. is_eq (columns_cmp columns.now place one.at)) next.entry.now) }
 {
@@ -117,7 +118,7 @@ fn record_of(
 {
     let mut record = tuple_record(alloc, names, group.record)?;
     if counted {
-        let hits = format!(in alloc; "{}", group.hits)?;
+        let hits = format!(in alloc; "{}", group.others as u128 + 1)?;
         record.set(alloc, "hits", hits.as_str())?;
     }
     Ok(record)

@@ -11,6 +11,6 @@ pub fn top_recs(alloc: Global, p: &TopPipe, r: Recs) -> Result<Recs, AllocError>
     let records = r.into_vec();
     let names = p.names.as_slice();
     let mut groups = groups(alloc, names, records.as_slice())?;
-    groups.sort_by(|a, b| b.hits.cmp(&a.hits))?;
+    groups.sort_by(|a, b| b.others.cmp(&a.others))?;
     records_of(alloc, names, true, kept(groups.as_slice(), 0, Some(p.n)))
 }
