@@ -1,3 +1,4 @@
+pub mod Answering
 pub mod Columns
 pub mod Grouping
 pub mod Orders
