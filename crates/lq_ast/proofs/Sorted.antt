@@ -131,7 +131,7 @@ module _ {A : Type 0} (order : A → A → Ordering) where
   permutation_inserted x (y ∷ ys) =
       let turned = IsPermutation-sym (y ∷ (x ∷ ys)) (x ∷ (y ∷ ys)) (IsPermutation-middle (y ∷ []) x ys) in
       let passed = IsPermutation-trans _ _ _ turned
-          (IsPermutation-cons y (x ∷ ys) (insert_by order x ys) (permutation_inserted x ys)) in
+      (IsPermutation-cons y (x ∷ ys) (insert_by order x ys) (permutation_inserted x ys)) in
       elim (is_gt (order x y)) as (λ t. IsPermutation (x ∷ (y ∷ ys)) (cond t (y ∷ insert_by order x ys) (x ∷ (y ∷ ys)))) [
         | true ↦ passed
         | false ↦ IsPermutation-refl (x ∷ (y ∷ ys))
@@ -258,7 +258,7 @@ module _ {A : Type 0} (order : A → A → Ordering) (total : IsTotalOrder order
       let passes = ap (λ o. cond (is_eq o) (z ∷ filter (λ w. is_eq (order y w)) zs) (filter (λ w. is_eq (order y w)) zs)) tied in
       let same : y ≡ z = heads y z _ _ (sym (first_passes y ys) ∙ e y ∙ passes) in
       let rest : ys ≡ zs = rises_same ys zs g.1 h.1 (λ x. tails (is_eq (order x y)) y _ _
-          (e x ∙ ap (λ w. cond (is_eq (order x w)) (w ∷ filter (λ v. is_eq (order x v)) zs) (filter (λ v. is_eq (order x v)) zs)) (sym same))) in
+      (e x ∙ ap (λ w. cond (is_eq (order x w)) (w ∷ filter (λ v. is_eq (order x v)) zs) (filter (λ v. is_eq (order x v)) zs)) (sym same))) in
       ap (λ w. w ∷ ys) same ∙ ap (λ l. z ∷ l) rest
 
   -- ---- what a sort of std ensures
@@ -304,7 +304,7 @@ module _ {A : Type 0} (order : A → A → Ordering) (total : IsTotalOrder order
   sorted_by_closure {g = g} {f = f} xs ys up stable answers =
       let lt = λ (a b : A). is_lt (order a b) in
       let compares : ComparesAs g lt f = always_returns_same g (λ a o. is_lt o ≡ lt a.0.now a.1.0.now) f
-          (λ a o f' called. (ap is_lt (answers a o f' called).0, (answers a o f' called).1)) in
+      (λ a o f' called. (ap is_lt (answers a o f' called).0, (answers a o f' called).1)) in
       sorted_by_is xs ys (up lt weak_order compares) (stable lt weak_order compares)
 
 -- ---- through a key, and by orders that agree
@@ -315,7 +315,7 @@ module _ {A B : Type 0} (key : A → B) (order : B → B → Ordering) where
   map_inserted x [] = refl
   map_inserted x (y ∷ ys) =
       elim (is_gt (order (key x) (key y))) as (λ t. map key (cond t (y ∷ insert_by (on key order) x ys) (x ∷ (y ∷ ys)))
-          ≡ cond t (key y ∷ insert_by order (key x) (map key ys)) (key x ∷ (key y ∷ map key ys))) [
+      ≡ cond t (key y ∷ insert_by order (key x) (map key ys)) (key x ∷ (key y ∷ map key ys))) [
         | true ↦ ap (λ l. key y ∷ l) (map_inserted x ys)
         | false ↦ refl
       ]

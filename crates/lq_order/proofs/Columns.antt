@@ -20,13 +20,14 @@ use Rattle.lq_order.specs.declared.column.Column.{Column}
 pub mirrors_field : (column : Column) (key : SortBy) (records : List Record) → column.desc ≡ key.1
     → Mirrors (on (slice_index column.ranks.items) nat_cmp) value_cmp (map (λ r. field_value r key.0) records)
     → Mirrors (column_cmp column) (field_cmp key) records
-mirrors_field column key records way m = record { same = λ i j d at_i at_j.
-  let value = λ (r : Record). field_value r key.0 in
-  let is = m.same i j [] (omega (arith, length-map records value)) (omega (arith, length-map records value)) in
-  let order = rw (get_or-map value records i d [] at_i, get_or-map value records j d [] at_j) at is in
-  ap (λ o. cond column.desc (ordering_reverse o) o) order
-  ∙ ap (λ t. cond t (ordering_reverse (value_cmp (value (get_or records i d)) (value (get_or records j d))))
-      (value_cmp (value (get_or records i d)) (value (get_or records j d)))) way
+mirrors_field column key records way m = record {
+  same = λ i j d at_i at_j.
+      let value = λ (r : Record). field_value r key.0 in
+      let is = m.same i j [] (omega (arith, length-map records value)) (omega (arith, length-map records value)) in
+      let order = rw (get_or-map value records i d [] at_i, get_or-map value records j d [] at_j) at is in
+      ap (λ o. cond column.desc (ordering_reverse o) o) order
+      ∙ ap (λ t. cond t (ordering_reverse (value_cmp (value (get_or records i d)) (value (get_or records j d))))
+      (value_cmp (value (get_or records i d)) (value (get_or records j d)))) way;
 }
 
 then_assoc : (o p q : Ordering) → ordering_then (ordering_then o p) q ≡ ordering_then o (ordering_then p q)
@@ -59,11 +60,12 @@ mirrors_none records = record { same = λ i j d at_i at_j. refl }
 mirrors_push : (columns : List Column) (column : Column) (keys : List SortBy) (key : SortBy) (records : List Record)
     → Mirrors (columns_cmp columns) (record_cmp keys) records → Mirrors (column_cmp column) (field_cmp key) records
     → Mirrors (columns_cmp (columns ++ column ∷ [])) (record_cmp (keys ++ key ∷ [])) records
-mirrors_push columns column keys key records all one = record { same = λ i j d at_i at_j.
-  columns_push columns column i j
-  ∙ ap (λ o. ordering_then o (column_cmp column i j)) (all.same i j d at_i at_j)
-  ∙ ap (ordering_then (record_cmp keys (get_or records i d) (get_or records j d))) (one.same i j d at_i at_j)
-  ∙ sym (keys_push keys key (get_or records i d) (get_or records j d))
+mirrors_push columns column keys key records all one = record {
+  same = λ i j d at_i at_j.
+      columns_push columns column i j
+      ∙ ap (λ o. ordering_then o (column_cmp column i j)) (all.same i j d at_i at_j)
+      ∙ ap (ordering_then (record_cmp keys (get_or records i d) (get_or records j d))) (one.same i j d at_i at_j)
+      ∙ sym (keys_push keys key (get_or records i d) (get_or records j d));
 }
 
 -- one more column, for one more key

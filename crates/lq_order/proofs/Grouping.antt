@@ -51,7 +51,7 @@ count_made f test [] = refl
 count_made f test (x ∷ xs) =
     let more = count_made f test xs in
     elim (test (f x)) as (λ t. length (cond t (f x ∷ filter test (map f xs)) (filter test (map f xs)))
-        ≡ length (cond t (x ∷ filter (λ x. test (f x)) xs) (filter (λ x. test (f x)) xs))) [
+    ≡ length (cond t (x ∷ filter (λ x. test (f x)) xs) (filter (λ x. test (f x)) xs))) [
       | true ↦ ap Prim.Native.Nat.suc more
       | false ↦ more
     ]
@@ -62,7 +62,7 @@ filter_paired g test [] = refl
 filter_paired {A} {B} g test (x ∷ xs) =
     let more = filter_paired g test xs in
     elim (test x) as (λ t. cond t ((x, g x) ∷ filter (λ (p : A × B). test p.0) (map (λ x. (x, g x)) xs)) (filter (λ (p : A × B). test p.0) (map (λ x. (x, g x)) xs))
-        ≡ map (λ x. (x, g x)) (cond t (x ∷ filter test xs) (filter test xs))) [
+    ≡ map (λ x. (x, g x)) (cond t (x ∷ filter test xs) (filter test xs))) [
       | true ↦ ap (λ l. (x, g x) ∷ l) more
       | false ↦ more
     ]
@@ -106,12 +106,12 @@ pub groups_more : (names : List (List ℕ)) (columns : List Column) (first : Pla
     → empty ≡ list_all (λ name. is_empty (field_value first.record.now name)) names
     → groups_in names columns (first ∷ later)
     ≡ cond (not empty) ((tuple_of names first.record.now, 1 + k) ∷ groups_in names columns (drop k later))
-      (groups_in names columns (drop k later))
+    (groups_in names columns (drop k later))
 unfolding groups_in
 groups_more names columns first later k empty is test =
     ap (λ rs. filter (λ group. not (is_wholly_empty group.0)) (map (run_group names) rs)) (runs_more (are_tied columns) first later k is)
     ∙ ap (λ t. cond (not t) ((tuple_of names first.record.now, 1 + k) ∷ groups_in names columns (drop k later)) (groups_in names columns (drop k later)))
-      (list_all_made (field_value first.record.now) is_empty names ∙ sym test)
+    (list_all_made (field_value first.record.now) is_empty names ∙ sym test)
 
 -- the same by the slices that the code has
 pub groups_left : (names : List (List ℕ)) (columns : List Column) (left next : List Placed) (first : Placed) (k : ℕ) (empty : Bool)
@@ -183,7 +183,7 @@ module _ (names : List (List ℕ)) (columns : List Column) (records : List Recor
   unfolding groups_in
   groups_all placed is =
       let stand = all_unmapped placed_of (Stands records) placed
-          (subst (AllByRecursion (Stands records)) (sym is) (all_sorted (on (λ p. p.0) (columns_cmp columns)) (Stands records) (enumerate_from 0 records) (stand_each records))) in
+      (subst (AllByRecursion (Stands records)) (sym is) (all_sorted (on (λ p. p.0) (columns_cmp columns)) (Stands records) (enumerate_from 0 records) (stand_each records))) in
       let in_order = sorted_by tuple_cmp (map (tuple_of names) records) in
       ap (filter (λ group. not (is_wholly_empty group.0)))
       (runs_keys (λ p. tuple_of names p.record.now) (are_tied columns) (λ a b. is_eq (tuple_cmp a b)) (λ p. Stands records (placed_of p)) agree placed stand

@@ -166,7 +166,7 @@ taken_more records now next places out more i place one are taken within at is p
           ∙ ap (λ r. map (λ p. get_or records p []) (take i places) ++ r ∷ []) (value ∙ ap (λ p. get_or records p []) at)
           ∙ sym (map_more (λ p. get_or records p []) places i 0 within);
       left = λ k from below.
-        ap (λ rs. get_or rs (get_or places k 0) []) written
-        ∙ get_or-set_other now place (get_or places k 0) [] [] (λ same. are.apart i k 0 (omega arith) below (sym at ∙ sym same))
-        ∙ taken.left k (omega arith) below;
+          ap (λ rs. get_or rs (get_or places k 0) []) written
+          ∙ get_or-set_other now place (get_or places k 0) [] [] (λ same. are.apart i k 0 (omega arith) below (sym at ∙ sym same))
+          ∙ taken.left k (omega arith) below;
     }

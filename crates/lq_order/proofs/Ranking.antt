@@ -84,9 +84,9 @@ module _ (entries : List (ℕ × Key)) (ranks : List ℕ) (i rank : ℕ) (placin
     omega arith,
     omega (arith, ranked.low),
     λ j h.
-      ap (nat_cmp (get_or ranks (entry entries j).0 0)) (sym (ranked.last some))
-      ∙ ranked.alike j (i - 1) (omega arith) (omega arith)
-      ∙ alike_right key_cmp_total (entry entries (i - 1)).1 (entry entries i).1 (entry entries j).1 (equal_from _ tied),
+        ap (nat_cmp (get_or ranks (entry entries j).0 0)) (sym (ranked.last some))
+        ∙ ranked.alike j (i - 1) (omega arith) (omega arith)
+        ∙ alike_right key_cmp_total (entry entries (i - 1)).1 (entry entries i).1 (entry entries j).1 (equal_from _ tied),
   )
 
   fits_apart : 0 < i → is_eq (key_cmp (entry entries (i - 1)).1 (entry entries i).1) ≡ false → Fits i
@@ -95,10 +95,10 @@ module _ (entries : List (ℕ × Key)) (ranks : List ℕ) (i rank : ℕ) (placin
     omega (arith, ranked.low),
     omega arith,
     λ j h.
-      nat_less _ i (omega (arith, ranked.low, ranked.most j h))
-      ∙ sym (before (entry entries j).1 (entry entries (i - 1)).1 (entry entries i).1 _ refl
-      (placing.up j (i - 1) (omega arith) (omega arith))
-      (less_from _ (placing.up (i - 1) i (omega arith) within) apart)),
+        nat_less _ i (omega (arith, ranked.low, ranked.most j h))
+        ∙ sym (before (entry entries j).1 (entry entries (i - 1)).1 (entry entries i).1 _ refl
+        (placing.up j (i - 1) (omega arith) (omega arith))
+        (less_from _ (placing.up (i - 1) i (omega arith) within) apart)),
   )
 
   fits : Fits (next_rank entries i rank)
@@ -178,41 +178,43 @@ module _ (keys : List Key) where
   module _ (ranks : List ℕ) (n rank : ℕ) (whole : n ≡ length (sorted_by (on (λ p. p.1) key_cmp) (enumerate_from 0 keys))) (ranked : AreRanked (sorted_by (on (λ p. p.1) key_cmp) (enumerate_from 0 keys)) ranks n rank) where
     either : (i j : ℕ) → i < n → j < n
         → nat_cmp (get_or ranks (entry (sorted_by (on (λ p. p.1) key_cmp) (enumerate_from 0 keys)) i).0 0)
-          (get_or ranks (entry (sorted_by (on (λ p. p.1) key_cmp) (enumerate_from 0 keys)) j).0 0)
+        (get_or ranks (entry (sorted_by (on (λ p. p.1) key_cmp) (enumerate_from 0 keys)) j).0 0)
         ≡ key_cmp (entry (sorted_by (on (λ p. p.1) key_cmp) (enumerate_from 0 keys)) i).1
-          (entry (sorted_by (on (λ p. p.1) key_cmp) (enumerate_from 0 keys)) j).1
+        (entry (sorted_by (on (λ p. p.1) key_cmp) (enumerate_from 0 keys)) j).1
     either i j inside_i inside_j = elim (cases_lt j i) [
       | inl below ↦ turned
-        (get_or ranks (entry (sorted_by (on (λ p. p.1) key_cmp) (enumerate_from 0 keys)) i).0 0)
-        (get_or ranks (entry (sorted_by (on (λ p. p.1) key_cmp) (enumerate_from 0 keys)) j).0 0)
-        (entry (sorted_by (on (λ p. p.1) key_cmp) (enumerate_from 0 keys)) i).1
-        (entry (sorted_by (on (λ p. p.1) key_cmp) (enumerate_from 0 keys)) j).1
-        (ranked.alike j i (omega arith) inside_i)
+          (get_or ranks (entry (sorted_by (on (λ p. p.1) key_cmp) (enumerate_from 0 keys)) i).0 0)
+          (get_or ranks (entry (sorted_by (on (λ p. p.1) key_cmp) (enumerate_from 0 keys)) j).0 0)
+          (entry (sorted_by (on (λ p. p.1) key_cmp) (enumerate_from 0 keys)) i).1
+          (entry (sorted_by (on (λ p. p.1) key_cmp) (enumerate_from 0 keys)) j).1
+          (ranked.alike j i (omega arith) inside_i)
       | inr above ↦ ranked.alike i j above inside_j
     ]
 
     pub mirrors_keys : Mirrors (on (slice_index ranks) nat_cmp) key_cmp keys
-    mirrors_keys = record { same = λ i j d inside_i inside_j.
-      let by_key = on (λ (p : ℕ × Key). p.1) key_cmp in
-      let at_i = placed_all by_key keys i d inside_i in
-      let at_j = placed_all by_key keys j d inside_j in
-      let entry_i = get_or_default (sorted_by by_key (enumerate_from 0 keys)) at_i.0 (0, other []) (i, get_or keys i d) at_i.1 ∙ at_i.2 in
-      let entry_j = get_or_default (sorted_by by_key (enumerate_from 0 keys)) at_j.0 (0, other []) (j, get_or keys j d) at_j.1 ∙ at_j.2 in
-      let is = either at_i.0 at_j.0 (omega (arith, whole, at_i.1)) (omega (arith, whole, at_j.1)) in
-      rw (entry_i, entry_j) at is
+    mirrors_keys = record {
+      same = λ i j d inside_i inside_j.
+          let by_key = on (λ (p : ℕ × Key). p.1) key_cmp in
+          let at_i = placed_all by_key keys i d inside_i in
+          let at_j = placed_all by_key keys j d inside_j in
+          let entry_i = get_or_default (sorted_by by_key (enumerate_from 0 keys)) at_i.0 (0, other []) (i, get_or keys i d) at_i.1 ∙ at_i.2 in
+          let entry_j = get_or_default (sorted_by by_key (enumerate_from 0 keys)) at_j.0 (0, other []) (j, get_or keys j d) at_j.1 ∙ at_j.2 in
+          let is = either at_i.0 at_j.0 (omega (arith, whole, at_i.1)) (omega (arith, whole, at_j.1)) in
+          rw (entry_i, entry_j) at is;
     }
 
 pub mirrors_texts : (order : ℕ → ℕ → Ordering) (texts : List (Bor (List ℕ)))
     → Mirrors order key_cmp (map (λ text. key_of text.now) texts) → Mirrors order value_cmp (map (λ text. text.now) texts)
 unfolding value_cmp
-mirrors_texts order texts m = record { same = λ i j d inside_i inside_j.
-  let none : Bor (List ℕ) = record { ref_ptr = (0, 0); now = d } in
-  let key = λ (text : Bor (List ℕ)). key_of text.now in
-  let at_i : i < length texts = omega (arith, length-map texts (λ (text : Bor (List ℕ)). text.now)) in
-  let at_j : j < length texts = omega (arith, length-map texts (λ (text : Bor (List ℕ)). text.now)) in
-  let is = m.same i j (other []) (omega (arith, length-map texts key)) (omega (arith, length-map texts key)) in
-  rw (get_or-map (λ (text : Bor (List ℕ)). text.now) texts i none d at_i, get_or-map (λ (text : Bor (List ℕ)). text.now) texts j none d at_j)
-  (rw (get_or-map key texts i none (other []) at_i, get_or-map key texts j none (other []) at_j) at is)
+mirrors_texts order texts m = record {
+  same = λ i j d inside_i inside_j.
+      let none : Bor (List ℕ) = record { ref_ptr = (0, 0); now = d } in
+      let key = λ (text : Bor (List ℕ)). key_of text.now in
+      let at_i : i < length texts = omega (arith, length-map texts (λ (text : Bor (List ℕ)). text.now)) in
+      let at_j : j < length texts = omega (arith, length-map texts (λ (text : Bor (List ℕ)). text.now)) in
+      let is = m.same i j (other []) (omega (arith, length-map texts key)) (omega (arith, length-map texts key)) in
+      rw (get_or-map (λ (text : Bor (List ℕ)). text.now) texts i none d at_i, get_or-map (λ (text : Bor (List ℕ)). text.now) texts j none d at_j)
+      (rw (get_or-map key texts i none (other []) at_i, get_or-map key texts j none (other []) at_j) at is);
 }
 
 pub placing_of : (entries : List (ℕ × Key)) (keys : List Key)

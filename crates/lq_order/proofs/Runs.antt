@@ -32,10 +32,10 @@ module _ {A : Type 0} (same : A → A → Bool) where
   run_ends first n m (y ∷ ys) e =
       split_bool (same first y)
       (λ t. m ≡ n + cond t (1 + prefix_len (same first) ys) 0 → cond t (runs_from same first (n + 1) ys) ((first, n) ∷ runs_from same y 1 ys)
-        ≡ (first, m) ∷ runs same (drop (cond t (1 + prefix_len (same first) ys) 0) (y ∷ ys)))
+      ≡ (first, m) ∷ runs same (drop (cond t (1 + prefix_len (same first) ys) 0) (y ∷ ys)))
       (λ t is.
-        let more : suc (prefix_len (same first) ys) ≡ 1 + prefix_len (same first) ys = omega arith in
-        run_ends first (n + 1) m ys (omega (arith, is)) ∙ ap (λ k. (first, m) ∷ runs same (drop k (y ∷ ys))) more)
+      let more : suc (prefix_len (same first) ys) ≡ 1 + prefix_len (same first) ys = omega arith in
+      run_ends first (n + 1) m ys (omega (arith, is)) ∙ ap (λ k. (first, m) ∷ runs same (drop k (y ∷ ys))) more)
       (λ t is. let end : n ≡ m = omega (arith, is) in ap (λ k. (first, k) ∷ runs_from same y 1 ys) end) e
 
   -- the first run, and the others
@@ -54,7 +54,7 @@ module _ {A B : Type 0} (key : A → B) (same : A → A → Bool) (alike : B →
   runs_from_keys first n (y ∷ ys) one all =
       ap (λ t. map (λ r. (key r.0, r.1)) (cond t (runs_from same first (n + 1) ys) ((first, n) ∷ runs_from same y 1 ys))) (agree first y one all.0)
       ∙ elim (alike (key first) (key y)) as (λ t. map (λ r. (key r.0, r.1)) (cond t (runs_from same first (n + 1) ys) ((first, n) ∷ runs_from same y 1 ys))
-          ≡ cond t (runs_from alike (key first) (n + 1) (map key ys)) ((key first, n) ∷ runs_from alike (key y) 1 (map key ys))) [
+      ≡ cond t (runs_from alike (key first) (n + 1) (map key ys)) ((key first, n) ∷ runs_from alike (key y) 1 (map key ys))) [
         | true ↦ runs_from_keys first (n + 1) ys one all.1
         | false ↦ ap (λ l. (key first, n) ∷ l) (runs_from_keys y 1 ys all.0 all.1)
       ]
@@ -119,26 +119,26 @@ module _ {A : Type 0} (order : A → A → Ordering) (total : IsTotalOrder order
     counted_from first n (y ∷ ys) up here later =
         split_bool (is_eq (order first y))
         (λ t. cond t (runs_from (λ a b. is_eq (order a b)) first (n + 1) ys) ((first, n) ∷ runs_from (λ a b. is_eq (order a b)) y 1 ys)
-          ≡ map (λ t. (t, counts t)) (cond (is_eq (order y first)) (dedup_from (λ a b. is_eq (order a b)) first ys) (first ∷ dedup_from (λ a b. is_eq (order a b)) y ys)))
+        ≡ map (λ t. (t, counts t)) (cond (is_eq (order y first)) (dedup_from (λ a b. is_eq (order a b)) first ys) (first ∷ dedup_from (λ a b. is_eq (order a b)) y ys)))
         (λ e.
-          let same : order first y ≡ Equal = equal_from (order first y) e in
-          let more = count_tied first y ys same in
-          counted_from first (n + 1) ys (up.0.1, up.1.1) (omega (arith, here, more))
-          (λ t l. later t l ∙ count_apart t y ys (sym (total.congr first y t same) ∙ l))
-          ∙ ap (λ o. map (λ t. (t, counts t)) (cond (is_eq o) (dedup_from (λ a b. is_eq (order a b)) first ys) (first ∷ dedup_from (λ a b. is_eq (order a b)) y ys)))
-            (sym (tied_back total first y same)))
+        let same : order first y ≡ Equal = equal_from (order first y) e in
+        let more = count_tied first y ys same in
+        counted_from first (n + 1) ys (up.0.1, up.1.1) (omega (arith, here, more))
+        (λ t l. later t l ∙ count_apart t y ys (sym (total.congr first y t same) ∙ l))
+        ∙ ap (λ o. map (λ t. (t, counts t)) (cond (is_eq o) (dedup_from (λ a b. is_eq (order a b)) first ys) (first ∷ dedup_from (λ a b. is_eq (order a b)) y ys)))
+        (sym (tied_back total first y same)))
         (λ e.
-          let apart : order first y ≡ Less = less_from (order first y) up.0.0 e in
-          let turned : order y first ≡ Greater = total.antisymm y first ∙ ap ordering_reverse apart in
-          let none = count_none first (y ∷ ys) (apart, all_weaker (λ z. is_gt (order y z) ≡ false) (λ z. order first z ≡ Less) (λ z g. below first y z apart g) ys up.1.0) in
-          let is : n ≡ counts first = omega (arith, here, none) in
-          let one = count_tied y y ys (tied_itself total y) in
-          let ahead = later y apart in
-          ap (λ k. (first, k) ∷ runs_from (λ a b. is_eq (order a b)) y 1 ys) is
-          ∙ ap (λ l. (first, counts first) ∷ l) (counted_from y 1 ys up.1 (omega (arith, ahead, one))
-            (λ t l. later t (total.trans first y t apart l) ∙ count_apart t y ys l))
-          ∙ ap (λ o. map (λ t. (t, counts t)) (cond (is_eq o) (dedup_from (λ a b. is_eq (order a b)) first ys) (first ∷ dedup_from (λ a b. is_eq (order a b)) y ys)))
-            (sym turned))
+        let apart : order first y ≡ Less = less_from (order first y) up.0.0 e in
+        let turned : order y first ≡ Greater = total.antisymm y first ∙ ap ordering_reverse apart in
+        let none = count_none first (y ∷ ys) (apart, all_weaker (λ z. is_gt (order y z) ≡ false) (λ z. order first z ≡ Less) (λ z g. below first y z apart g) ys up.1.0) in
+        let is : n ≡ counts first = omega (arith, here, none) in
+        let one = count_tied y y ys (tied_itself total y) in
+        let ahead = later y apart in
+        ap (λ k. (first, k) ∷ runs_from (λ a b. is_eq (order a b)) y 1 ys) is
+        ∙ ap (λ l. (first, counts first) ∷ l) (counted_from y 1 ys up.1 (omega (arith, ahead, one))
+        (λ t l. later t (total.trans first y t apart l) ∙ count_apart t y ys l))
+        ∙ ap (λ o. map (λ t. (t, counts t)) (cond (is_eq o) (dedup_from (λ a b. is_eq (order a b)) first ys) (first ∷ dedup_from (λ a b. is_eq (order a b)) y ys)))
+        (sym turned))
 
   -- each item once, with its number
   pub runs_counted : (xs : List A) → Rises order total xs

@@ -9,8 +9,8 @@ ghost use Rattle.lq_order.specs.Column.{columns_cmp};
 ghost use Rattle.lq_order.specs.Groups.{group_of, group_record};
 ghost use Rattle.lq_order.specs.Sorting.{hits, tuple_record, tuples};
 
-use crate::column::{columns, compare, Column};
-use crate::placed::{in_order, Placed};
+use crate::column::{Column, columns, compare};
+use crate::placed::{Placed, in_order};
 use crate::sort::kept;
 use lq_ast::SortKey;
 use std::alloc::{AllocError, Global};
@@ -125,11 +125,7 @@ fn record_of(
 }
 
 /// A record of these fields of another one.
-fn tuple_record(
-    alloc: Global,
-    names: &[Text],
-    source: &FieldList,
-) -> Result<FieldList, AllocError>
+fn tuple_record(alloc: Global, names: &[Text], source: &FieldList) -> Result<FieldList, AllocError>
     ensures { IfOk result (λ made. made ≡ tuple_record names.now (tuple_of names.now source.now)) }
 {
     let mut made = FieldList::with_room(alloc, names.len())?;

@@ -6,7 +6,7 @@ ghost use Rattle.lq_ast.specs.Tuples.{sorted_by};
 ghost use Rattle.lq_order.specs.Column.{columns_cmp};
 ghost use Rattle.lq_order.specs.Placed.{placed_of};
 
-use crate::column::{compare, Column};
+use crate::column::{Column, compare};
 use std::alloc::{AllocError, Global};
 use vl_row::FieldList;
 
@@ -31,10 +31,7 @@ pub(crate) fn in_order<'a>(
     Ok(placed)
 }
 
-fn all_placed<'a>(
-    alloc: Global,
-    records: &'a [FieldList],
-) -> Result<Vec<Placed<'a>>, AllocError>
+fn all_placed<'a>(alloc: Global, records: &'a [FieldList]) -> Result<Vec<Placed<'a>>, AllocError>
     ensures { IfOk result (λ placed. map placed_of placed.items ≡ enumerate_from 0 records.entry.now) }
 {
     let mut placed = Vec::with_capacity(alloc, records.len())?;

@@ -51,11 +51,7 @@ pub(crate) fn kept<T>(items: &[T], offset: u64, limit: Option<u64>) -> &[T]
 }
 
 /// The records of these places.
-fn moved(
-    alloc: Global,
-    mut records: Vec<FieldList>,
-    places: &[usize],
-) -> Result<Recs, AllocError>
+fn moved(alloc: Global, mut records: Vec<FieldList>, places: &[usize]) -> Result<Recs, AllocError>
     requires { ArePlaces (length records.items) places.now }
     ensures { IfOk result (λ moved. moved ≡ map (λ place. slice_index_or records.items place []) places.now) }
 {

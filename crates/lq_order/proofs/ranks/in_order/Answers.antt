@@ -13,6 +13,6 @@ returns c =
     let by_key = on (λ p. p.1) key_cmp in
     let total = on_total keyed_of (on_total (λ p. p.1) key_cmp_total) in
     let sorted = sorted_by_closure (on keyed_of by_key) total c.in_ok-keyed.keyed.items c.sort_by.new.self.items
-        c.in_ok-sort_by.ensures.sorted c.sort_by.ensures.stable (λ a o f called. search rules) in
+    c.in_ok-sort_by.ensures.sorted c.sort_by.ensures.stable (λ a o f called. search rules) in
     ap (map keyed_of) sorted ∙ map_sorted keyed_of by_key c.in_ok-keyed.keyed.items
     ∙ ap (sorted_by by_key) c.in_ok-keyed.ensures

@@ -21,8 +21,8 @@ returns c =
     let records = c.as_slice.result.now in
     let is = c.as_slice-2.ensures.value ∙ c.in_ok-places.ensures in
     let sorted = ap (λ items. map (λ place. get_or items place []) c.as_slice-2.result.now) (sym c.as_slice.ensures.value)
-        ∙ ap (map (λ place. get_or records place [])) is
-        ∙ items_chosen records (record_cmp (map sort_by p.keys)) p.offset p.limit []
-        ∙ ap (λ items. at_most p.limit (drop p.offset (sorted_by (record_cmp (map sort_by p.keys)) items)))
-          (c.as_slice.ensures.value ∙ c.into_vec-records.ensures) in
+    ∙ ap (map (λ place. get_or records place [])) is
+    ∙ items_chosen records (record_cmp (map sort_by p.keys)) p.offset p.limit []
+    ∙ ap (λ items. at_most p.limit (drop p.offset (sorted_by (record_cmp (map sort_by p.keys)) items)))
+    (c.as_slice.ensures.value ∙ c.into_vec-records.ensures) in
     IfOk-weaker c.moved.result _ _ (λ m e. e ∙ sorted) c.moved.ensures
