@@ -1,5 +1,6 @@
 pub mod Answering
 pub mod Columns
+pub mod Dictionaries
 pub mod Grouping
 pub mod Orders
 pub mod Picked

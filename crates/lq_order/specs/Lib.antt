@@ -1,4 +1,5 @@
 pub mod Column
+pub mod Dictionary
 pub mod Groups
 pub mod Mirror
 pub mod Placed

@@ -2,6 +2,7 @@
 #![tactic(auto)]
 
 mod column;
+mod dictionary;
 mod group;
 mod placed;
 mod ranks;

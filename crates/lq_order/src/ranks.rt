@@ -7,6 +7,7 @@ ghost use Rattle.lq_ast.specs.Tuples.{sorted_by};
 ghost use Rattle.lq_order.specs.Mirror.{Mirrors};
 ghost use Rattle.lq_order.specs.Ranks.{keyed_of, next_rank};
 
+use crate::dictionary::Dictionary;
 use std::alloc::{AllocError, Global};
 use vl_row::ValueKey;
 
@@ -19,6 +20,27 @@ struct Keyed<'a> {
 
 /// A number for each text, so that the numbers are in the order of the texts.
 pub(crate) fn ranks(alloc: Global, texts: &[&str]) -> Result<Vec<usize>, AllocError>
+    ensures { IfOk result (λ ranks.
+        Mirrors (on (slice_index ranks.items) nat_cmp) value_cmp (map (λ text. text.now) texts.now)) }
+{
+    let dictionary = Dictionary::of(alloc, texts)?;
+    let word_ranks = word_ranks(alloc, dictionary.words.as_slice())?;
+    looked_up(alloc, word_ranks.as_slice(), dictionary.ids.as_slice())
+}
+
+/// What stands at these places, and 0 for a place where nothing stands.
+fn looked_up(alloc: Global, numbers: &[usize], places: &[usize]) -> Result<Vec<usize>, AllocError>
+    ensures { IfOk result (λ found. found.items ≡ map (slice_index numbers.now) places.now) }
+{
+    let mut found = Vec::with_capacity(alloc, places.len())?;
+    for place in places {
+        found.push(numbers.get(*place).copied().unwrap_or(0))?;
+    }
+    Ok(found)
+}
+
+/// The same, each text by itself.
+fn word_ranks(alloc: Global, texts: &[&str]) -> Result<Vec<usize>, AllocError>
     ensures { IfOk result (λ ranks.
         Mirrors (on (slice_index ranks.items) nat_cmp) value_cmp (map (λ text. text.now) texts.now)) }
 {
