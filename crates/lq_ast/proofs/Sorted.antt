@@ -1,5 +1,7 @@
--- What `sorted_by` makes of a list: its items in order, and those that are equal in it as they came. No other list is so.
-use Rattle.std.proofs.Common.{◌≡◌, ℕ, zero, suc, ◌+◌, ◌<◌, ◌≤◌, Bool, true, false, not, ◌&&◌, cond, List, [], ◌∷◌, map}
+-- What `sorted_by` makes of a list: its items in order, and those that are equal in it as they came. No other list is
+-- so.
+use Rattle.std.proofs.Common.{◌≡◌, ℕ, zero, suc, ◌<◌, ◌≤◌, Bool, true, false, not, ◌&&◌, cond, List, [], ◌∷◌}
+use Rattle.std.proofs.Common.{map}
 use Rattle.std.proofs.Common.{length, get_or, refl, sym, ap, subst, ◌∙◌, arith}
 use Rattle.std.proofs.lemmas.List.Sorted.{IsPermutation-cons, IsPermutation-middle, IsPermutation-refl}
 use Rattle.std.proofs.lemmas.List.Sorted.{IsPermutation-sym, IsPermutation-trans, sorted_far}
@@ -124,7 +126,8 @@ module _ {A : Type 0} (order : A → A → Ordering) where
   unfolding sorted_by
   pairwise_sorted R turned [] all = tt
   pairwise_sorted R turned (x ∷ xs) all =
-      pairwise_inserted R turned x (sorted_by order xs) (all_sorted (R x) xs all.0) (pairwise_sorted R turned xs all.1)
+      pairwise_inserted R turned x (sorted_by order xs) (all_sorted (R x) xs all.0)
+      (pairwise_sorted R turned xs all.1)
 
   permutation_inserted : (x : A) (ys : List A) → IsPermutation (x ∷ ys) (insert_by order x ys)
   permutation_inserted x [] = IsPermutation-refl (x ∷ [])
@@ -132,7 +135,8 @@ module _ {A : Type 0} (order : A → A → Ordering) where
       let turned = IsPermutation-sym (y ∷ (x ∷ ys)) (x ∷ (y ∷ ys)) (IsPermutation-middle (y ∷ []) x ys) in
       let passed = IsPermutation-trans _ _ _ turned
       (IsPermutation-cons y (x ∷ ys) (insert_by order x ys) (permutation_inserted x ys)) in
-      elim (is_gt (order x y)) as (λ t. IsPermutation (x ∷ (y ∷ ys)) (cond t (y ∷ insert_by order x ys) (x ∷ (y ∷ ys)))) [
+      elim (is_gt (order x y)) as
+      (λ t. IsPermutation (x ∷ (y ∷ ys)) (cond t (y ∷ insert_by order x ys) (x ∷ (y ∷ ys)))) [
         | true ↦ passed
         | false ↦ IsPermutation-refl (x ∷ (y ∷ ys))
       ]
@@ -141,7 +145,8 @@ module _ {A : Type 0} (order : A → A → Ordering) where
   unfolding sorted_by
   permutation_sorted [] = IsPermutation-refl []
   permutation_sorted (x ∷ xs) = IsPermutation-trans _ _ _
-      (IsPermutation-cons x xs (sorted_by order xs) (permutation_sorted xs)) (permutation_inserted x (sorted_by order xs))
+      (IsPermutation-cons x xs (sorted_by order xs) (permutation_sorted xs))
+      (permutation_inserted x (sorted_by order xs))
 
 module _ {A : Type 0} (order : A → A → Ordering) (total : IsTotalOrder order) where
   pub is_gt_turned : (x y : A) → is_gt (order x y) ≡ is_lt (order y x)
@@ -170,7 +175,8 @@ module _ {A : Type 0} (order : A → A → Ordering) (total : IsTotalOrder order
           let below : is_gt (order y x) ≡ false = is_gt_turned y x ∙ greater_not_less (order x y) e in
           (all_inserted order (λ z. is_gt (order y z) ≡ false) x ys below h.0, rest)
       at false rest e =
-          let below = all_weaker (λ z. is_gt (order y z) ≡ false) (λ z. is_gt (order x z) ≡ false) (λ z k. upto total x y z e k) ys h.0 in
+          let below = all_weaker (λ z. is_gt (order y z) ≡ false) (λ z. is_gt (order x z)
+          ≡ false) (λ z k. upto total x y z e k) ys h.0 in
           ((e, below), h)
 
   pub rises_sorted : (xs : List A) → Rises (sorted_by order xs)
@@ -206,7 +212,8 @@ module _ {A : Type 0} (order : A → A → Ordering) (total : IsTotalOrder order
       at true rest e =
           let keep = λ (ws : List A). cond (is_eq (order x z)) (z ∷ ws) ws in
           ap keep rest
-          ∙ passed_alike (is_eq (order x y)) (is_eq (order x z)) y z (filter (λ w. is_eq (order x w)) zs) (apart x y z e)
+          ∙ passed_alike (is_eq (order x y)) (is_eq (order x z)) y z (filter (λ w. is_eq (order x w)) zs)
+          (apart x y z e)
       at false rest e = refl
 
   -- the items that are equal to one stand as they came
@@ -225,17 +232,20 @@ module _ {A : Type 0} (order : A → A → Ordering) (total : IsTotalOrder order
 
   first_passes : (x : A) (xs : List A)
       → filter (λ w. is_eq (order x w)) (x ∷ xs) ≡ x ∷ filter (λ w. is_eq (order x w)) xs
-  first_passes x xs = ap (λ t. cond t (x ∷ filter (λ w. is_eq (order x w)) xs) (filter (λ w. is_eq (order x w)) xs)) (itself x)
+  first_passes x xs = ap
+      (λ t. cond t (x ∷ filter (λ w. is_eq (order x w)) xs) (filter (λ w. is_eq (order x w)) xs)) (itself x)
 
   not_before_itself : (x : A) → is_gt (order x x) ≡ false
   not_before_itself x = ap is_gt (tied_itself total x)
 
   -- the first of a list that has the items of another is not greater than the first of that
   leads : (y z : A) (ys zs : List A) → Rises (z ∷ zs)
-      → filter (λ w. is_eq (order y w)) (y ∷ ys) ≡ filter (λ w. is_eq (order y w)) (z ∷ zs) → is_gt (order z y) ≡ false
+      → filter (λ w. is_eq (order y w)) (y ∷ ys) ≡ filter (λ w. is_eq (order y w)) (z ∷ zs) → is_gt (order z y)
+      ≡ false
   unfolding Rises
   leads y z ys zs h e =
-      filter_first (λ w. is_gt (order z w) ≡ false) (λ w. is_eq (order y w)) (z ∷ zs) y (filter (λ w. is_eq (order y w)) ys)
+      filter_first (λ w. is_gt (order z w) ≡ false) (λ w. is_eq (order y w)) (z ∷ zs) y
+      (filter (λ w. is_eq (order y w)) ys)
       (sym e ∙ first_passes y ys) (not_before_itself z, h.0)
 
   tails : (t : Bool) (y : A) (us vs : List A) → cond t (y ∷ us) us ≡ cond t (y ∷ vs) vs → us ≡ vs
@@ -255,10 +265,12 @@ module _ {A : Type 0} (order : A → A → Ordering) (total : IsTotalOrder order
       let up = leads y z ys zs h (e y) in
       let down = leads z y zs ys g (sym (e z)) in
       let tied : order y z ≡ Equal = level (order y z) down (sym (is_gt_turned z y) ∙ up) in
-      let passes = ap (λ o. cond (is_eq o) (z ∷ filter (λ w. is_eq (order y w)) zs) (filter (λ w. is_eq (order y w)) zs)) tied in
+      let passes = ap (λ o. cond (is_eq o) (z ∷ filter (λ w. is_eq (order y w)) zs)
+      (filter (λ w. is_eq (order y w)) zs)) tied in
       let same : y ≡ z = heads y z _ _ (sym (first_passes y ys) ∙ e y ∙ passes) in
       let rest : ys ≡ zs = rises_same ys zs g.1 h.1 (λ x. tails (is_eq (order x y)) y _ _
-      (e x ∙ ap (λ w. cond (is_eq (order x w)) (w ∷ filter (λ v. is_eq (order x v)) zs) (filter (λ v. is_eq (order x v)) zs)) (sym same))) in
+      (e x ∙ ap (λ w. cond (is_eq (order x w)) (w ∷ filter (λ v. is_eq (order x v)) zs)
+      (filter (λ v. is_eq (order x v)) zs)) (sym same))) in
       ap (λ w. w ∷ ys) same ∙ ap (λ l. z ∷ l) rest
 
   -- ---- what a sort of std ensures
@@ -293,7 +305,8 @@ module _ {A : Type 0} (order : A → A → Ordering) (total : IsTotalOrder order
       rises_same ys (sorted_by order xs)
       (rises_from_places ys (λ i j d l within. is_gt_turned (get_or ys i d) (get_or ys j d) ∙ far i j d l within))
       (rises_sorted xs)
-      (λ x. (λ i. filter (λ w. sym (ties_is_eq x w) i) ys) ∙ stable x ∙ (λ i. filter (λ w. ties_is_eq x w i) xs) ∙ sym (filter_sorted x xs))
+      (λ x. (λ i. filter (λ w. sym (ties_is_eq x w) i) ys) ∙ stable x ∙ (λ i. filter (λ w. ties_is_eq x w i) xs)
+      ∙ sym (filter_sorted x xs))
 
   -- the same of a closure that compares by the order
   pub sorted_by_closure : {F : Type 0} {g : Mut F (Bor A × (Bor A × Unit {0})) Ordering} {f : F} (xs ys : List A)
@@ -314,7 +327,8 @@ module _ {A B : Type 0} (key : A → B) (order : B → B → Ordering) where
       → map key (insert_by (on key order) x ys) ≡ insert_by order (key x) (map key ys)
   map_inserted x [] = refl
   map_inserted x (y ∷ ys) =
-      elim (is_gt (order (key x) (key y))) as (λ t. map key (cond t (y ∷ insert_by (on key order) x ys) (x ∷ (y ∷ ys)))
+      elim (is_gt (order (key x) (key y))) as
+      (λ t. map key (cond t (y ∷ insert_by (on key order) x ys) (x ∷ (y ∷ ys)))
       ≡ cond t (key y ∷ insert_by order (key x) (map key ys)) (key x ∷ (key y ∷ map key ys))) [
         | true ↦ ap (λ l. key y ∷ l) (map_inserted x ys)
         | false ↦ refl
@@ -327,7 +341,8 @@ module _ {A B : Type 0} (key : A → B) (order : B → B → Ordering) where
   map_sorted (x ∷ xs) =
       map_inserted x (sorted_by (on key order) xs) ∙ ap (insert_by order (key x)) (map_sorted xs)
 
-module _ {A : Type 0} (first second : A → A → Ordering) (P : A → Type 0) (same : (x y : A) → P x → P y → first x y ≡ second x y) where
+module _ {A : Type 0} (first second : A → A → Ordering) (P : A → Type 0) (same : (x y : A) → P x → P y → first x y
+    ≡ second x y) where
   inserted_alike : (x : A) (ys : List A) → P x → AllByRecursion P ys → insert_by first x ys ≡ insert_by second x ys
   inserted_alike x [] one all = refl
   inserted_alike x (y ∷ ys) one all =

@@ -1,7 +1,7 @@
 -- Records: the fields of a row, or what pipes made of them (LogsQL, "Pipes").
-use Rattle.std.specs.Prelude.{ℕ, Bool, not, List, [], ◌∷◌, map, filter, fold, bytes_eq, if◌then◌else◌}
-use Rattle.std.specs.List.{list_all, list_any}
-use Rattle.log_model.specs.Field.{Field, field_value, is_empty, set_field, without}
+use Rattle.std.specs.Prelude.{ℕ, Bool, not, List, filter, fold, bytes_eq, if◌then◌else◌}
+use Rattle.std.specs.List.{list_any}
+use Rattle.log_model.specs.Field.{Field, field_value, set_field, without}
 use Rattle.lq_ast.specs.Stage.{NamePair}
 
 -- fields in byte order of their names

@@ -1,5 +1,6 @@
 -- The records of groups, as `uniq` and `top` keep them.
-use Rattle.std.proofs.Common.{◌≡◌, ℕ, ◌+◌, Bool, true, false, cond, List, map, Option, Some, take, refl, sym, ap, ◌∙◌, arith}
+use Rattle.std.proofs.Common.{◌≡◌, ℕ, ◌+◌, Bool, true, false, cond, List, map, Option, Some, take, refl, sym, ap, ◌∙◌}
+use Rattle.std.proofs.Common.{arith}
 use Rattle.std.proofs.lemmas.Bool.Decides.{nat_tests}
 use Rattle.std.specs.Cmp.{IsTotalOrder, back_total, nat_cmp_total, on_total}
 use Rattle.std.specs.Ordering.{nat_cmp, on}
@@ -23,8 +24,10 @@ made : (names : List (List ℕ)) (with_hits : Bool) (records : List Record) (ts 
 made names true records ts = map_twice (counted names records) (group_record names true) ts
 made names false records ts = map_twice (counted names records) (group_record names false) ts
 
-pub kept_records : (names : List (List ℕ)) (with_hits : Bool) (limit : Option ℕ) (records : List Record) (groups kept : List Group)
-    (ts : List Tuple) → kept ≡ at_most limit groups → map (group_of names) groups ≡ map (λ t. (t, hits names records t)) ts
+pub kept_records : (names : List (List ℕ)) (with_hits : Bool) (limit : Option ℕ) (records : List Record)
+    (groups kept : List Group)
+    (ts : List Tuple) → kept ≡ at_most limit groups → map (group_of names) groups
+    ≡ map (λ t. (t, hits names records t)) ts
     → map (group_record names with_hits) (map (group_of names) kept)
     ≡ at_most limit (map (cond with_hits (counted_record names records) (tuple_record names)) ts)
 kept_records names with_hits limit records groups kept ts is all =
@@ -47,7 +50,8 @@ one_more a b = grind (arith, nat_tests)
 pub ordered_groups : (names : List (List ℕ)) (records : List Record) (groups : List Group) (ts : List Tuple)
     → map (group_of names) groups ≡ map (λ t. (t, hits names records t)) ts
     → map (group_of names) (sorted_by most_first groups)
-    ≡ map (λ t. (t, hits names records t)) (sorted_by (λ a b. nat_cmp (hits names records b) (hits names records a)) ts)
+    ≡ map (λ t. (t, hits names records t))
+    (sorted_by (λ a b. nat_cmp (hits names records b) (hits names records a)) ts)
 ordered_groups names records groups ts all =
     let by_hits = λ (p q : Tuple × ℕ). nat_cmp q.1 p.1 in
     (λ i. map (group_of names) (sorted_by (λ a b. one_more b.others a.others i) groups))

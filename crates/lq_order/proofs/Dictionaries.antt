@@ -1,6 +1,8 @@
 -- Words are entered one after another, and texts are compared by the ranks of their words.
-use Rattle.std.proofs.Common.{◌≡◌, ℕ, zero, suc, ◌+◌, ◌<◌, ◌≤◌, Bool, true, false, cond, List, [], ◌∷◌, ◌++◌, map, length}
-use Rattle.std.proofs.Common.{get_or, bytes_eq, Bor, Option, Some, None, IfSome, refl, sym, ap, subst, ◌∙◌, inl, inr, arith}
+use Rattle.std.proofs.Common.{◌≡◌, ℕ, zero, suc, ◌+◌, ◌<◌, ◌≤◌, Bool, true, false, cond, List, [], ◌∷◌, ◌++◌, map}
+use Rattle.std.proofs.Common.{length}
+use Rattle.std.proofs.Common.{get_or, bytes_eq, Bor, Option, Some, None, IfSome, refl, sym, ap, subst, ◌∙◌, inl, inr}
+use Rattle.std.proofs.Common.{arith}
 use Rattle.std.proofs.Common.{length-append}
 use Rattle.std.proofs.lemmas.Bool.{cases_lt}
 use Rattle.std.proofs.lemmas.List.{get_or-map, get_or_default}
@@ -41,12 +43,15 @@ known_pushed old new words text written known q =
     let Stands = λ (place : ℕ). (place < length (words ++ text ∷ [])) × (get_or (words ++ text ∷ []) place [] ≡ q) in
     let long = length-append words (text ∷ []) in
     subst (λ o. IfSome o Stands) (sym (written q))
-    (split_bool (bytes_eq text q) (λ t. IfSome (cond t (Some (length words)) (get_by (λ key. bytes_eq q key.now) old)) Stands)
+    (split_bool (bytes_eq text q)
+    (λ t. IfSome (cond t (Some (length words)) (get_by (λ key. bytes_eq q key.now) old)) Stands)
     (λ e. (omega (arith, long), get_last words text (length words) [] refl ∙ (bytes_eq-Decides text q).0 e))
     (λ e. some_weaker (λ place. (place < length words) × (get_or words place [] ≡ q)) Stands
-    (λ place h. (omega (arith, long, h.0), get_front words (text ∷ []) place [] h.0 ∙ h.1)) (get_by (λ key. bytes_eq q key.now) old) (known q)))
+    (λ place h. (omega (arith, long, h.0), get_front words (text ∷ []) place [] h.0 ∙ h.1))
+    (get_by (λ key. bytes_eq q key.now) old) (known q)))
 
-pub entered_pushed : (words : List (List ℕ)) (text : List ℕ) → IsEntered words (words ++ text ∷ []) text (length words)
+pub entered_pushed : (words : List (List ℕ)) (text : List ℕ)
+    → IsEntered words (words ++ text ∷ []) text (length words)
 entered_pushed words text =
     let long = length-append words (text ∷ []) in
     record {
@@ -56,7 +61,8 @@ entered_pushed words text =
       stay = λ k h. get_front words (text ∷ []) k [] h;
     }
 
-pub entered_known : (words : List (List ℕ)) (text : List ℕ) (place : ℕ) → (place < length words) × (get_or words place [] ≡ text)
+pub entered_known : (words : List (List ℕ)) (text : List ℕ) (place : ℕ) → (place < length words)
+    × (get_or words place [] ≡ text)
     → IsEntered words words text place
 entered_known words text place h = record { inside = h.0; is = h.1; grows = omega arith; stay = λ k l. refl }
 
@@ -104,7 +110,8 @@ pub mirrors_looked_up : (texts words : List (List ℕ)) (ids ranks found : List 
     → Mirrors (on (slice_index found) nat_cmp) value_cmp texts
 mirrors_looked_up texts words ids ranks found all m is = record {
   same = λ i j d at_i at_j.
-      ap (λ a. nat_cmp a (get_or found j 0)) (read i at_i) ∙ ap (nat_cmp (get_or ranks (get_or ids i 0) 0)) (read j at_j)
+      ap (λ a. nat_cmp a (get_or found j 0)) (read i at_i)
+      ∙ ap (nat_cmp (get_or ranks (get_or ids i 0) 0)) (read j at_j)
       ∙ m.same (get_or ids i 0) (get_or ids j 0) [] (all.inside i at_i) (all.inside j at_j)
       ∙ ap (λ t. value_cmp t (get_or words (get_or ids j 0) [])) (all.is i at_i ∙ get_or_default texts i [] d at_i)
       ∙ ap (value_cmp (get_or texts i d)) (all.is j at_j ∙ get_or_default texts j [] d at_j);

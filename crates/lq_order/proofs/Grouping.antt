@@ -1,5 +1,6 @@
 -- The groups of records, as runs in tuple order.
-use Rattle.std.proofs.Common.{◌≡◌, ℕ, ◌+◌, ◌<◌, Bool, true, false, not, ◌&&◌, cond, List, [], ◌∷◌, ◌++◌, map, length, get_or, take, drop}
+use Rattle.std.proofs.Common.{◌≡◌, ℕ, ◌+◌, ◌<◌, Bool, true, false, not, ◌&&◌, cond, List, [], ◌∷◌, ◌++◌, map, length}
+use Rattle.std.proofs.Common.{get_or, take, drop}
 use Rattle.std.proofs.Common.{◌-◌, ◌≤◌, append_assoc, append-nil, zip, refl, sym, ap, subst, ◌∙◌, arith}
 use Rattle.std.proofs.lemmas.List.{map_push}
 use Rattle.std.specs.Cmp.{IsTotalOrder}
@@ -61,7 +62,8 @@ filter_paired : {A B : Type 0} (g : A → B) (test : A → Bool) (xs : List A)
 filter_paired g test [] = refl
 filter_paired {A} {B} g test (x ∷ xs) =
     let more = filter_paired g test xs in
-    elim (test x) as (λ t. cond t ((x, g x) ∷ filter (λ (p : A × B). test p.0) (map (λ x. (x, g x)) xs)) (filter (λ (p : A × B). test p.0) (map (λ x. (x, g x)) xs))
+    elim (test x) as (λ t. cond t ((x, g x) ∷ filter (λ (p : A × B). test p.0) (map (λ x. (x, g x)) xs))
+    (filter (λ (p : A × B). test p.0) (map (λ x. (x, g x)) xs))
     ≡ map (λ x. (x, g x)) (cond t (x ∷ filter test xs) (filter test xs))) [
       | true ↦ ap (λ l. (x, g x) ∷ l) more
       | false ↦ more
@@ -101,7 +103,8 @@ unfoldable pub groups_in : List (List ℕ) → List Column → List Placed → L
 groups_in names columns placed =
     filter (λ group. not (is_wholly_empty group.0)) (map (run_group names) (runs (are_tied columns) placed))
 
-pub groups_more : (names : List (List ℕ)) (columns : List Column) (first : Placed) (later : List Placed) (k : ℕ) (empty : Bool)
+pub groups_more : (names : List (List ℕ)) (columns : List Column) (first : Placed) (later : List Placed) (k : ℕ)
+    (empty : Bool)
     → k ≡ length (take_while (are_tied columns first) later)
     → empty ≡ list_all (λ name. is_empty (field_value first.record.now name)) names
     → groups_in names columns (first ∷ later)
@@ -109,26 +112,33 @@ pub groups_more : (names : List (List ℕ)) (columns : List Column) (first : Pla
     (groups_in names columns (drop k later))
 unfolding groups_in
 groups_more names columns first later k empty is test =
-    ap (λ rs. filter (λ group. not (is_wholly_empty group.0)) (map (run_group names) rs)) (runs_more (are_tied columns) first later k is)
-    ∙ ap (λ t. cond (not t) ((tuple_of names first.record.now, 1 + k) ∷ groups_in names columns (drop k later)) (groups_in names columns (drop k later)))
+    ap (λ rs. filter (λ group. not (is_wholly_empty group.0)) (map (run_group names) rs))
+    (runs_more (are_tied columns) first later k is)
+    ∙ ap (λ t. cond (not t) ((tuple_of names first.record.now, 1 + k) ∷ groups_in names columns (drop k later))
+    (groups_in names columns (drop k later)))
     (list_all_made (field_value first.record.now) is_empty names ∙ sym test)
 
 -- the same by the slices that the code has
-pub groups_left : (names : List (List ℕ)) (columns : List Column) (left next : List Placed) (first : Placed) (k : ℕ) (empty : Bool)
+pub groups_left : (names : List (List ℕ)) (columns : List Column) (left next : List Placed) (first : Placed)
+    (k : ℕ) (empty : Bool)
     → 1 ≤ length left → first ≡ get_or left 0 first
     → k ≡ length (take_while (are_tied columns first) (take (length left - 1) (drop 1 left)))
     → empty ≡ list_all (λ name. is_empty (field_value first.record.now name)) names
     → next ≡ drop k (take (length left - 1) (drop 1 left))
     → groups_in names columns left
-    ≡ cond (not empty) ((tuple_of names first.record.now, 1 + k) ∷ groups_in names columns next) (groups_in names columns next)
+    ≡ cond (not empty) ((tuple_of names first.record.now, 1 + k) ∷ groups_in names columns next)
+    (groups_in names columns next)
 groups_left names columns [] next first k empty some at is test rest = absurd (omega arith)
 groups_left names columns (p ∷ ps) next first k empty some at is test rest =
     let whole : take (length (p ∷ ps) - 1) ps ≡ ps = take_whole ps (length (p ∷ ps) - 1) (omega arith) in
     ap (λ q. groups_in names columns (q ∷ ps)) (sym at)
-    ∙ groups_more names columns first ps k empty (is ∙ ap (λ l. length (take_while (are_tied columns first) l)) whole) test
-    ∙ ap (λ l. cond (not empty) ((tuple_of names first.record.now, 1 + k) ∷ groups_in names columns l) (groups_in names columns l)) (sym (rest ∙ ap (drop k) whole))
+    ∙ groups_more names columns first ps k empty (is
+    ∙ ap (λ l. length (take_while (are_tied columns first) l)) whole) test
+    ∙ ap (λ l. cond (not empty) ((tuple_of names first.record.now, 1 + k) ∷ groups_in names columns l)
+    (groups_in names columns l)) (sym (rest ∙ ap (drop k) whole))
 
-pub groups_pushed : (names : List (List ℕ)) (groups more : List Group) (one : Group) (whole left rest : List (Tuple × ℕ)) (empty : Bool)
+pub groups_pushed : (names : List (List ℕ)) (groups more : List Group) (one : Group)
+    (whole left rest : List (Tuple × ℕ)) (empty : Bool)
     → whole ≡ map (group_of names) groups ++ left → left ≡ cond (not empty) (group_of names one ∷ rest) rest
     → empty ≡ false → more ≡ groups ++ one ∷ [] → whole ≡ map (group_of names) more ++ rest
 groups_pushed names groups more one whole left rest empty so_far is test pushed =
@@ -137,7 +147,8 @@ groups_pushed names groups more one whole left rest empty so_far is test pushed 
     ∙ sym (append_assoc (map (group_of names) groups) (group_of names one ∷ []) rest)
     ∙ ap (λ l. l ++ rest) (sym (ap (map (group_of names)) pushed ∙ map_push (group_of names) groups one))
 
-pub groups_passed : (names : List (List ℕ)) (groups more : List Group) (first : Tuple × ℕ) (whole left rest : List (Tuple × ℕ)) (empty : Bool)
+pub groups_passed : (names : List (List ℕ)) (groups more : List Group) (first : Tuple
+    × ℕ) (whole left rest : List (Tuple × ℕ)) (empty : Bool)
     → whole ≡ map (group_of names) groups ++ left → left ≡ cond (not empty) (first ∷ rest) rest
     → empty ≡ true → more ≡ groups → whole ≡ map (group_of names) more ++ rest
 groups_passed names groups more first whole left rest empty so_far is test same =
@@ -145,13 +156,15 @@ groups_passed names groups more first whole left rest empty so_far is test same 
     ∙ ap (λ l. map (group_of names) groups ++ l) (is ∙ ap (λ t. cond (not t) (first ∷ rest) rest) test)
     ∙ ap (λ gs. map (group_of names) gs ++ rest) (sym same)
 
-pub groups_ended : (names : List (List ℕ)) (columns : List Column) (left : List Placed) (whole done : List (Tuple × ℕ))
+pub groups_ended : (names : List (List ℕ)) (columns : List Column) (left : List Placed) (whole done : List (Tuple
+    × ℕ))
     → length left < 1 → whole ≡ done ++ groups_in names columns left → done ≡ whole
 unfolding groups_in
 groups_ended names columns [] whole done none so_far = sym (so_far ∙ append-nil done)
 groups_ended names columns (p ∷ ps) whole done none so_far = absurd (omega arith)
 
-module _ (names : List (List ℕ)) (columns : List Column) (records : List Record) (mirrors : Mirrors (columns_cmp columns) (record_cmp (map (λ name. (name, false)) names)) records) where
+module _ (names : List (List ℕ)) (columns : List Column) (records : List Record)
+    (mirrors : Mirrors (columns_cmp columns) (record_cmp (map (λ name. (name, false)) names)) records) where
   agree : (p q : Placed) → Stands records (placed_of p) → Stands records (placed_of q)
       → are_tied columns p q ≡ is_eq (tuple_cmp (tuple_of names p.record.now) (tuple_of names q.record.now))
   unfolding Stands
@@ -161,33 +174,44 @@ module _ (names : List (List ℕ)) (columns : List Column) (records : List Recor
       ∙ ap (record_cmp (map (λ name. (name, false)) names) p.record.now) (at_q.1 [])
       ∙ record_tuple names p.record.now q.record.now)
 
-  tuples_in_order : (placed : List Placed) → map placed_of placed ≡ sorted_by (on (λ p. p.0) (columns_cmp columns)) (enumerate_from 0 records)
+  tuples_in_order : (placed : List Placed) → map placed_of placed
+      ≡ sorted_by (on (λ p. p.0) (columns_cmp columns)) (enumerate_from 0 records)
       → map (λ p. tuple_of names p.record.now) placed ≡ sorted_by tuple_cmp (map (tuple_of names) records)
   tuples_in_order placed is =
       let tuple = λ (p : ℕ × Record). tuple_of names p.1 in
       sym (map_twice placed_of tuple placed)
-      ∙ ap (map tuple) (is ∙ sorted_as_items records (columns_cmp columns) (record_cmp (map (λ name. (name, false)) names)) mirrors)
+      ∙ ap (map tuple) (is
+      ∙ sorted_as_items records (columns_cmp columns) (record_cmp (map (λ name. (name, false)) names)) mirrors)
       ∙ (λ i. map tuple (sorted_by (λ a b. record_tuple names a.1 b.1 i) (enumerate_from 0 records)))
       ∙ map_sorted tuple tuple_cmp (enumerate_from 0 records)
-      ∙ ap (sorted_by tuple_cmp) (sym (map_twice (λ p. p.1) (tuple_of names) (enumerate_from 0 records)) ∙ ap (map (tuple_of names)) (enumerate_items 0 records))
+      ∙ ap (sorted_by tuple_cmp) (sym (map_twice (λ p. p.1) (tuple_of names) (enumerate_from 0 records))
+      ∙ ap (map (tuple_of names)) (enumerate_items 0 records))
 
-  hits_counted : (t : Tuple) → count tuple_cmp tuple_cmp_total t (sorted_by tuple_cmp (map (tuple_of names) records)) ≡ hits names records t
+  hits_counted : (t : Tuple)
+      → count tuple_cmp tuple_cmp_total t (sorted_by tuple_cmp (map (tuple_of names) records))
+      ≡ hits names records t
   unfolding count
   hits_counted t =
       ap length (filter_sorted tuple_cmp tuple_cmp_total t (map (tuple_of names) records))
       ∙ count_made (tuple_of names) (λ x. is_eq (tuple_cmp t x)) records
       ∙ (λ i. length (filter (λ r. is_eq_turned t (tuple_of names r) i) records))
 
-  pub groups_all : (placed : List Placed) → map placed_of placed ≡ sorted_by (on (λ p. p.0) (columns_cmp columns)) (enumerate_from 0 records)
+  pub groups_all : (placed : List Placed) → map placed_of placed
+      ≡ sorted_by (on (λ p. p.0) (columns_cmp columns)) (enumerate_from 0 records)
       → groups_in names columns placed ≡ map (λ tuple. (tuple, hits names records tuple)) (tuples names records)
   unfolding groups_in
   groups_all placed is =
       let stand = all_unmapped placed_of (Stands records) placed
-      (subst (AllByRecursion (Stands records)) (sym is) (all_sorted (on (λ p. p.0) (columns_cmp columns)) (Stands records) (enumerate_from 0 records) (stand_each records))) in
+      (subst (AllByRecursion (Stands records)) (sym is)
+      (all_sorted (on (λ p. p.0) (columns_cmp columns)) (Stands records) (enumerate_from 0 records)
+      (stand_each records))) in
       let in_order = sorted_by tuple_cmp (map (tuple_of names) records) in
       ap (filter (λ group. not (is_wholly_empty group.0)))
-      (runs_keys (λ p. tuple_of names p.record.now) (are_tied columns) (λ a b. is_eq (tuple_cmp a b)) (λ p. Stands records (placed_of p)) agree placed stand
+      (runs_keys (λ p. tuple_of names p.record.now) (are_tied columns) (λ a b. is_eq (tuple_cmp a b))
+      (λ p. Stands records (placed_of p)) agree placed stand
       ∙ ap (runs (λ a b. is_eq (tuple_cmp a b))) (tuples_in_order placed is)
-      ∙ runs_counted tuple_cmp tuple_cmp_total in_order (rises_sorted tuple_cmp tuple_cmp_total (map (tuple_of names) records))
+      ∙ runs_counted tuple_cmp tuple_cmp_total in_order
+      (rises_sorted tuple_cmp tuple_cmp_total (map (tuple_of names) records))
       ∙ (λ i. map (λ t. (t, hits_counted t i)) (dedup (λ a b. is_eq (tuple_cmp a b)) in_order)))
-      ∙ filter_paired (hits names records) (λ t. not (is_wholly_empty t)) (dedup (λ a b. is_eq (tuple_cmp a b)) in_order)
+      ∙ filter_paired (hits names records) (λ t. not (is_wholly_empty t))
+      (dedup (λ a b. is_eq (tuple_cmp a b)) in_order)

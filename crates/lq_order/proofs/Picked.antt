@@ -1,5 +1,6 @@
 -- The records of places that stand in the order of the records.
-use Rattle.std.proofs.Common.{◌≡◌, ◌≢◌, ℕ, zero, suc, ◌+◌, ◌<◌, ◌≤◌, List, [], ◌∷◌, ◌++◌, map, length, get_or, take, drop}
+use Rattle.std.proofs.Common.{◌≡◌, ◌≢◌, ℕ, zero, suc, ◌+◌, ◌<◌, ◌≤◌, List, [], ◌∷◌, ◌++◌, map, length, get_or, take}
+use Rattle.std.proofs.Common.{drop}
 use Rattle.std.proofs.Common.{Option, Some, None, Bor, refl, sym, ap, subst, ◌∙◌, arith}
 use Rattle.std.proofs.lemmas.List.{get_or-set_other, get_or_default, map_more}
 use Rattle.std.proofs.Math.ListN.{length-set, set}
@@ -59,7 +60,8 @@ map_taken f zero xs = refl
 map_taken f (suc n) [] = refl
 map_taken f (suc n) (x ∷ xs) = ap (λ l. f x ∷ l) (map_taken f n xs)
 
-pub map_at_most : {A B : Type 0} (f : A → B) (n : Option ℕ) (xs : List A) → map f (at_most n xs) ≡ at_most n (map f xs)
+pub map_at_most : {A B : Type 0} (f : A → B) (n : Option ℕ) (xs : List A) → map f (at_most n xs)
+    ≡ at_most n (map f xs)
 map_at_most f None xs = refl
 map_at_most f (Some n) xs = map_taken f n xs
 
@@ -91,11 +93,13 @@ module _ {A : Type 0} (items : List A) where
 
   -- places that are in the order of the items are sorted as these
   pub sorted_as_items : (places : ℕ → ℕ → Ordering) (order : A → A → Ordering) → Mirrors places order items
-      → sorted_by (on (λ p. p.0) places) (enumerate_from 0 items) ≡ sorted_by (on (λ p. p.1) order) (enumerate_from 0 items)
+      → sorted_by (on (λ p. p.0) places) (enumerate_from 0 items)
+      ≡ sorted_by (on (λ p. p.1) order) (enumerate_from 0 items)
   unfolding Stands
   sorted_as_items places order m =
       sorted_alike (on (λ p. p.0) places) (on (λ p. p.1) order) Stands
-      (λ p q at_p at_q. m.same p.0 q.0 p.1 at_p.0 at_q.0 ∙ ap (λ x. order x (get_or items q.0 p.1)) (at_p.1 p.1) ∙ ap (order p.1) (at_q.1 p.1))
+      (λ p q at_p at_q. m.same p.0 q.0 p.1 at_p.0 at_q.0 ∙ ap (λ x. order x (get_or items q.0 p.1)) (at_p.1 p.1)
+      ∙ ap (order p.1) (at_q.1 p.1))
       (enumerate_from 0 items) stand_each
 
   module _ (order : A → A → Ordering) (offset : ℕ) (limit : Option ℕ) where
@@ -104,26 +108,36 @@ module _ {A : Type 0} (items : List A) where
 
     stand_chosen : AllByRecursion Stands chosen
     unfolding Stands chosen
-    stand_chosen = all_at_most Stands limit _ (all_dropped Stands offset _ (all_sorted (on (λ p. p.1) order) Stands (enumerate_from 0 items) stand_each))
+    stand_chosen = all_at_most Stands limit _
+        (all_dropped Stands offset _ (all_sorted (on (λ p. p.1) order) Stands (enumerate_from 0 items) stand_each))
 
-    pub places_chosen : ArePlaces (length items) (map (λ p. p.0) (at_most limit (drop offset (sorted_by (on (λ p. p.1) order) (enumerate_from 0 items)))))
+    pub places_chosen : ArePlaces (length items)
+        (map (λ p. p.0) (at_most limit (drop offset (sorted_by (on (λ p. p.1) order) (enumerate_from 0 items)))))
     unfolding Stands chosen
     places_chosen =
-        let apart = pairwise_sorted (on (λ p. p.1) order) (λ p q. p.0 ≢ q.0) (λ p q h e. h (sym e)) (enumerate_from 0 items) (enumerate_apart 0 items) in
+        let apart = pairwise_sorted (on (λ p. p.1) order) (λ p q. p.0 ≢ q.0) (λ p q h e. h (sym e))
+        (enumerate_from 0 items) (enumerate_apart 0 items) in
         record {
           inside = all_at (λ place. place < length items) (map (λ p. p.0) chosen)
-              (all_mapped (λ p. p.0) (λ place. place < length items) chosen (all_weaker Stands (λ p. p.0 < length items) (λ p h. h.0) chosen stand_chosen));
+              (all_mapped (λ p. p.0) (λ place. place < length items) chosen
+              (all_weaker Stands (λ p. p.0 < length items) (λ p h. h.0) chosen stand_chosen));
           apart = pairs_from_pairwise ◌≢◌ (map (λ p. p.0) chosen)
-              (pairwise_mapped (λ p. p.0) ◌≢◌ chosen (pairwise_at_most _ limit _ (pairwise_dropped _ offset _ apart)));
+              (pairwise_mapped (λ p. p.0) ◌≢◌ chosen
+              (pairwise_at_most _ limit _ (pairwise_dropped _ offset _ apart)));
         }
 
-    pub items_chosen : (d : A) → map (λ place. get_or items place d) (map (λ p. p.0) (at_most limit (drop offset (sorted_by (on (λ p. p.1) order) (enumerate_from 0 items)))))
+    pub items_chosen : (d : A)
+        → map (λ place. get_or items place d)
+        (map (λ p. p.0) (at_most limit (drop offset (sorted_by (on (λ p. p.1) order) (enumerate_from 0 items)))))
         ≡ at_most limit (drop offset (sorted_by order items))
     unfolding Stands chosen
     items_chosen d =
-        map_alike (λ p. p.0) (λ place. get_or items place d) (λ p. p.1) chosen (all_weaker Stands (λ p. get_or items p.0 d ≡ p.1) (λ p h. h.1 d) chosen stand_chosen)
+        map_alike (λ p. p.0) (λ place. get_or items place d) (λ p. p.1) chosen
+        (all_weaker Stands (λ p. get_or items p.0 d ≡ p.1) (λ p h. h.1 d) chosen stand_chosen)
         ∙ map_at_most (λ p. p.1) limit _
-        ∙ ap (at_most limit) (map_dropped (λ p. p.1) offset _ ∙ ap (drop offset) (map_sorted (λ p. p.1) order (enumerate_from 0 items) ∙ ap (sorted_by order) (enumerate_items 0 items)))
+        ∙ ap (at_most limit) (map_dropped (λ p. p.1) offset _
+        ∙ ap (drop offset) (map_sorted (λ p. p.1) order (enumerate_from 0 items)
+        ∙ ap (sorted_by order) (enumerate_items 0 items)))
 
 all_every : {A : Type 0} (P : A → Type 0) → ((x : A) → P x) → (xs : List A) → AllByRecursion P xs
 all_every P h [] = tt
@@ -135,7 +149,8 @@ pub places_kept : (kept placed : List Placed) (offset : ℕ) (limit : Option ℕ
     → map (λ one. one.at) kept ≡ map (λ p. p.0) (at_most limit (drop offset entries))
 places_kept kept placed offset limit entries is all =
     ap (map (λ one. one.at)) is
-    ∙ sym (map_alike placed_of (λ p. p.0) (λ one. one.at) (at_most limit (drop offset placed)) (all_every _ (λ p. refl) _))
+    ∙ sym (map_alike placed_of (λ p. p.0) (λ one. one.at) (at_most limit (drop offset placed))
+    (all_every _ (λ p. refl) _))
     ∙ ap (map (λ p. p.0)) (map_at_most placed_of limit (drop offset placed)
     ∙ ap (at_most limit) (map_dropped placed_of offset placed ∙ ap (drop offset) all))
 
@@ -145,28 +160,33 @@ places_kept kept placed offset limit entries is all =
 pub record AreTaken (records now : List Record) (places : List ℕ) (out : List Record) (i : ℕ) : Type 0 where
   pub long : length now ≡ length records
   pub first : out ≡ map (λ place. get_or records place []) (take i places)
-  pub left : (k : ℕ) → i ≤ k → k < length places → get_or now (get_or places k 0) [] ≡ get_or records (get_or places k 0) []
+  pub left : (k : ℕ) → i ≤ k → k < length places → get_or now (get_or places k 0) []
+      ≡ get_or records (get_or places k 0) []
 
 pub taken_none : (records : List Record) (places : List ℕ) (out : List Record) → out ≡ []
     → AreTaken records records places out 0
 taken_none records places out none = record { long = refl; first = none; left = λ k from within. refl }
 
-pub taken_more : (records now next : List Record) (places : List ℕ) (out more : List Record) (i place : ℕ) (one : Record)
+pub taken_more : (records now next : List Record) (places : List ℕ) (out more : List Record) (i place : ℕ)
+    (one : Record)
     → ArePlaces (length records) places → AreTaken records now places out i → i < length places
     → place ≡ get_or places i 0 → one ≡ get_or now place one → more ≡ out ++ one ∷ [] → next ≡ set now place []
     → AreTaken records next places more (i + 1)
 taken_more records now next places out more i place one are taken within at is pushed written =
     let inside : place < length records = rw at (are.inside i 0 within) in
     let here : get_or now place [] ≡ get_or records place [] = rw at (taken.left i (omega arith) within) in
-    let value : one ≡ get_or records place [] = is ∙ get_or_default now place one [] (omega (arith, taken.long)) ∙ here in
+    let value : one ≡ get_or records place [] = is ∙ get_or_default now place one [] (omega (arith, taken.long))
+    ∙ here in
     record {
       long = ap length written ∙ length-set now place [] ∙ taken.long;
       first = pushed
           ∙ ap (λ l. l ++ one ∷ []) taken.first
-          ∙ ap (λ r. map (λ p. get_or records p []) (take i places) ++ r ∷ []) (value ∙ ap (λ p. get_or records p []) at)
+          ∙ ap (λ r. map (λ p. get_or records p []) (take i places) ++ r ∷ []) (value
+          ∙ ap (λ p. get_or records p []) at)
           ∙ sym (map_more (λ p. get_or records p []) places i 0 within);
       left = λ k from below.
           ap (λ rs. get_or rs (get_or places k 0) []) written
-          ∙ get_or-set_other now place (get_or places k 0) [] [] (λ same. are.apart i k 0 (omega arith) below (sym at ∙ sym same))
+          ∙ get_or-set_other now place (get_or places k 0) [] []
+          (λ same. are.apart i k 0 (omega arith) below (sym at ∙ sym same))
           ∙ taken.left k (omega arith) below;
     }

@@ -38,7 +38,8 @@ enumerate_more entry xs i done more p x d pushed is at within so_far =
     ∙ ap (enumerate_from 0) (sym (take_more xs i d within))
 
 -- the same for items that are made of others
-pub enumerate_made_more : {P X Y : Type 0} (entry : P → ℕ × Y) (make : X → Y) (xs : List X) (i : ℕ) (done more : List P)
+pub enumerate_made_more : {P X Y : Type 0} (entry : P → ℕ × Y) (make : X
+    → Y) (xs : List X) (i : ℕ) (done more : List P)
     (p : P) (x d : X) → more ≡ done ++ p ∷ [] → entry p ≡ (i, make x) → x ≡ get_or xs i d → i < length xs
     → map entry done ≡ enumerate_from 0 (map make (take i xs))
     → map entry more ≡ enumerate_from 0 (map make (take (i + 1) xs))
@@ -61,7 +62,8 @@ above n m (x ∷ xs) h = (h, above n (m + 1) xs (omega arith))
 pub enumerate_apart : {X : Type 0} (n : ℕ) (xs : List X) → Pairwise (λ (p q : ℕ × X). p.0 ≢ q.0) (enumerate_from n xs)
 enumerate_apart n [] = tt
 enumerate_apart {X} n (x ∷ xs) = (
-  all_weaker (λ (p : ℕ × X). n < p.0) (λ p. n ≢ p.0) (λ p below same. omega arith) (enumerate_from (n + 1) xs) (above n (n + 1) xs (omega arith)),
+  all_weaker (λ (p : ℕ × X). n < p.0) (λ p. n ≢ p.0) (λ p below same. omega arith) (enumerate_from (n + 1) xs)
+      (above n (n + 1) xs (omega arith)),
   enumerate_apart (n + 1) xs,
 )
 
@@ -97,7 +99,8 @@ module _ {X : Type 0} (order : ℕ × X → ℕ × X → Ordering) (xs : List X)
   pub placed_all : (i : ℕ) (d : X) → i < length xs → Contains placed (i, get_or xs i d)
   placed_all i d within =
       let inside : i < length (enumerate_from 0 xs) = omega (arith, length-enumerate_from 0 xs) in
-      let is : get_or (enumerate_from 0 xs) i (i, d) ≡ (0 + i, get_or xs i d) = get_or-enumerate_from 0 xs i (i, d) within in
+      let is : get_or (enumerate_from 0 xs) i (i, d) ≡ (0 + i, get_or xs i d) = get_or-enumerate_from 0 xs i
+      (i, d) within in
       Contains-permutation (enumerate_from 0 xs) placed (i, get_or xs i d) moved
       (subst (Contains (enumerate_from 0 xs)) (is ∙ ap (λ k. (k, get_or xs i d)) (omega arith))
       (Contains-get_or (enumerate_from 0 xs) i (i, d) inside))

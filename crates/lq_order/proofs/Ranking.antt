@@ -1,5 +1,6 @@
 -- Numbers for keys in order that are compared as the keys.
-use Rattle.std.proofs.Common.{◌≡◌, ℕ, zero, suc, ◌+◌, ◌-◌, ◌<◌, ◌≤◌, ◌≢◌, Bool, true, false, ◌&&◌, not, cond, List, []}
+use Rattle.std.proofs.Common.{◌≡◌, ℕ, zero, suc, ◌+◌, ◌-◌, ◌<◌, ◌≤◌, ◌≢◌, Bool, true, false, ◌&&◌, not, cond, List}
+use Rattle.std.proofs.Common.{[]}
 use Rattle.std.proofs.Common.{map, length, get_or, ltb, Bor, refl, sym, ap, subst, ◌∙◌, arith, inl, inr}
 use Rattle.std.proofs.Math.ListN.{length-set, set}
 use Rattle.std.proofs.lemmas.Bool.{cases_lt}
@@ -35,7 +36,8 @@ pub record AreRanked (entries : List (ℕ × Key)) (ranks : List ℕ) (i rank : 
       → nat_cmp (get_or ranks (entry entries j).0 0) (get_or ranks (entry entries k).0 0)
       ≡ key_cmp (entry entries j).1 (entry entries k).1
 
-pub ranked_none : (entries : List (ℕ × Key)) (ranks : List ℕ) → length ranks ≡ length entries → AreRanked entries ranks 0 0
+pub ranked_none : (entries : List (ℕ × Key)) (ranks : List ℕ) → length ranks ≡ length entries
+    → AreRanked entries ranks 0 0
 ranked_none entries ranks long = record {
   long = long;
   low = omega arith;
@@ -62,7 +64,8 @@ before x y z Greater e g l = absurd cc
 nat_less : (a b : ℕ) → a < b → nat_cmp a b ≡ Less
 nat_less a b h = grind (arith, nat_tests)
 
-module _ (entries : List (ℕ × Key)) (ranks : List ℕ) (i rank : ℕ) (placing : IsPlacing entries) (ranked : AreRanked entries ranks i rank) (within : i < length entries) where
+module _ (entries : List (ℕ × Key)) (ranks : List ℕ) (i rank : ℕ) (placing : IsPlacing entries)
+    (ranked : AreRanked entries ranks i rank) (within : i < length entries) where
   place : ℕ → ℕ
   place k = (entry entries k).0
 
@@ -72,7 +75,8 @@ module _ (entries : List (ℕ × Key)) (ranks : List ℕ) (i rank : ℕ) (placin
   -- how the earlier keys stand to the one at i, by a rank for it
   Fits : ℕ → Type 0
   Fits next = (rank ≤ next) × (next ≤ i)
-      × ((j : ℕ) → j < i → nat_cmp (get_or ranks (entry entries j).0 0) next ≡ key_cmp (entry entries j).1 (entry entries i).1)
+      × ((j : ℕ) → j < i → nat_cmp (get_or ranks (entry entries j).0 0) next
+      ≡ key_cmp (entry entries j).1 (entry entries i).1)
 
   fits_first : i ≡ 0 → Fits rank
   unfolding Fits
@@ -86,7 +90,8 @@ module _ (entries : List (ℕ × Key)) (ranks : List ℕ) (i rank : ℕ) (placin
     λ j h.
         ap (nat_cmp (get_or ranks (entry entries j).0 0)) (sym (ranked.last some))
         ∙ ranked.alike j (i - 1) (omega arith) (omega arith)
-        ∙ alike_right key_cmp_total (entry entries (i - 1)).1 (entry entries i).1 (entry entries j).1 (equal_from _ tied),
+        ∙ alike_right key_cmp_total (entry entries (i - 1)).1 (entry entries i).1 (entry entries j).1
+        (equal_from _ tied),
   )
 
   fits_apart : 0 < i → is_eq (key_cmp (entry entries (i - 1)).1 (entry entries i).1) ≡ false → Fits i
@@ -102,20 +107,25 @@ module _ (entries : List (ℕ × Key)) (ranks : List ℕ) (i rank : ℕ) (placin
   )
 
   fits : Fits (next_rank entries i rank)
-  fits = elim (ltb 0 i) as (λ t. ltb 0 i ≡ t → Fits (cond (t && not (is_eq (key_cmp (entry entries (i - 1)).1 (entry entries i).1))) i rank)) [
-    | true ↦ λ some. at (is_eq (key_cmp (entry entries (i - 1)).1 (entry entries i).1)) refl (grind (arith, nat_tests))
-    | false ↦ λ none. fits_first (grind (arith, nat_tests))
-  ] refl
+  fits = elim (ltb 0 i) as (λ t. ltb 0 i ≡ t
+      → Fits (cond (t && not (is_eq (key_cmp (entry entries (i - 1)).1 (entry entries i).1))) i rank)) [
+        | true ↦ λ some. at (is_eq (key_cmp (entry entries (i - 1)).1 (entry entries i).1)) refl
+            (grind (arith, nat_tests))
+        | false ↦ λ none. fits_first (grind (arith, nat_tests))
+      ] refl
     where
-      at : (t : Bool) → is_eq (key_cmp (entry entries (i - 1)).1 (entry entries i).1) ≡ t → 0 < i → Fits (cond (not t) i rank)
+      at : (t : Bool) → is_eq (key_cmp (entry entries (i - 1)).1 (entry entries i).1) ≡ t → 0 < i
+          → Fits (cond (not t) i rank)
       at true tied some = fits_tied some tied
       at false apart some = fits_apart some apart
 
-  kept : (next j : ℕ) → j < i → get_or (set ranks (entry entries i).0 next) (entry entries j).0 0 ≡ get_or ranks (entry entries j).0 0
+  kept : (next j : ℕ) → j < i → get_or (set ranks (entry entries i).0 next) (entry entries j).0 0
+      ≡ get_or ranks (entry entries j).0 0
   kept next j h = get_or-set_other ranks (entry entries i).0 (entry entries j).0 next 0 (placing.apart j i h within)
 
   written : (next : ℕ) → get_or (set ranks (entry entries i).0 next) (entry entries i).0 0 ≡ next
-  written next = get_or-set_same ranks (entry entries i).0 next 0 (omega (arith, placing.inside i within, ranked.long))
+  written next = get_or-set_same ranks (entry entries i).0 next 0
+      (omega (arith, placing.inside i within, ranked.long))
 
   ranked_by : (next : ℕ) → Fits next → AreRanked entries (set ranks (entry entries i).0 next) (i + 1) next
   unfolding Fits
@@ -125,21 +135,36 @@ module _ (entries : List (ℕ × Key)) (ranks : List ℕ) (i rank : ℕ) (placin
     last = λ some. let same : i + 1 - 1 ≡ i = omega arith in rw same (written next);
     most = λ j h. elim (cases_lt j i) [
       | inl below ↦ rw (kept next j below) (omega (arith, fit.0, ranked.most j below))
-      | inr above ↦ let same : i ≡ j = omega arith in subst (λ k. get_or (set ranks (entry entries i).0 next) (entry entries k).0 0 ≤ next) same (rw (written next) (omega arith))
+      | inr above ↦ let same : i ≡ j = omega arith in subst
+          (λ k. get_or (set ranks (entry entries i).0 next) (entry entries k).0 0 ≤ next) same
+          (rw (written next) (omega arith))
     ];
     alike = λ j k up h. elim (cases_lt k i) [
-      | inl below ↦ let earlier : j < i = omega arith in rw (kept next j earlier, kept next k below) (ranked.alike j k up below)
-      | inr above ↦ let same : i ≡ k = omega arith in subst (λ n. nat_cmp (get_or (set ranks (entry entries i).0 next) (entry entries j).0 0) (get_or (set ranks (entry entries i).0 next) (entry entries n).0 0) ≡ key_cmp (entry entries j).1 (entry entries n).1) same (to_last j up same)
+      | inl below ↦ let earlier : j < i = omega arith in rw (kept next j earlier, kept next k below)
+          (ranked.alike j k up below)
+      | inr above ↦ let same : i ≡ k = omega arith in subst
+          (λ n. nat_cmp (get_or (set ranks (entry entries i).0 next) (entry entries j).0 0)
+          (get_or (set ranks (entry entries i).0 next) (entry entries n).0 0)
+          ≡ key_cmp (entry entries j).1 (entry entries n).1) same (to_last j up same)
     ];
   }
     where
-      to_last : (j : ℕ) → {k : ℕ} → j ≤ k → i ≡ k → nat_cmp (get_or (set ranks (entry entries i).0 next) (entry entries j).0 0) (get_or (set ranks (entry entries i).0 next) (entry entries i).0 0) ≡ key_cmp (entry entries j).1 (entry entries i).1
+      to_last : (j : ℕ) → {k : ℕ} → j ≤ k → i ≡ k
+          → nat_cmp (get_or (set ranks (entry entries i).0 next) (entry entries j).0 0)
+          (get_or (set ranks (entry entries i).0 next) (entry entries i).0 0)
+          ≡ key_cmp (entry entries j).1 (entry entries i).1
       to_last j up same = elim (cases_lt j i) [
         | inl below ↦ rw (kept next j below, written next) (fit.2 j below)
-        | inr above ↦ let is : i ≡ j = omega arith in subst (λ n. nat_cmp (get_or (set ranks (entry entries i).0 next) (entry entries n).0 0) (get_or (set ranks (entry entries i).0 next) (entry entries i).0 0) ≡ key_cmp (entry entries n).1 (entry entries i).1) is (tied_itself nat_cmp_total (get_or (set ranks (entry entries i).0 next) (entry entries i).0 0) ∙ sym (tied_itself key_cmp_total (entry entries i).1))
+        | inr above ↦ let is : i ≡ j = omega arith in subst
+            (λ n. nat_cmp (get_or (set ranks (entry entries i).0 next) (entry entries n).0 0)
+            (get_or (set ranks (entry entries i).0 next) (entry entries i).0 0)
+            ≡ key_cmp (entry entries n).1 (entry entries i).1) is
+            (tied_itself nat_cmp_total (get_or (set ranks (entry entries i).0 next) (entry entries i).0 0)
+            ∙ sym (tied_itself key_cmp_total (entry entries i).1))
       ]
 
-  pub ranked_more : AreRanked entries (set ranks (entry entries i).0 (next_rank entries i rank)) (i + 1) (next_rank entries i rank)
+  pub ranked_more : AreRanked entries (set ranks (entry entries i).0 (next_rank entries i rank)) (i + 1)
+      (next_rank entries i rank)
   ranked_more = ranked_by (next_rank entries i rank) fits
 
 -- the same by the entry and by the number that the code has
@@ -175,7 +200,9 @@ module _ (keys : List Key) where
       }
 
   -- numbers for all entries are compared as the keys
-  module _ (ranks : List ℕ) (n rank : ℕ) (whole : n ≡ length (sorted_by (on (λ p. p.1) key_cmp) (enumerate_from 0 keys))) (ranked : AreRanked (sorted_by (on (λ p. p.1) key_cmp) (enumerate_from 0 keys)) ranks n rank) where
+  module _ (ranks : List ℕ) (n rank : ℕ) (whole : n
+      ≡ length (sorted_by (on (λ p. p.1) key_cmp) (enumerate_from 0 keys)))
+      (ranked : AreRanked (sorted_by (on (λ p. p.1) key_cmp) (enumerate_from 0 keys)) ranks n rank) where
     either : (i j : ℕ) → i < n → j < n
         → nat_cmp (get_or ranks (entry (sorted_by (on (λ p. p.1) key_cmp) (enumerate_from 0 keys)) i).0 0)
         (get_or ranks (entry (sorted_by (on (λ p. p.1) key_cmp) (enumerate_from 0 keys)) j).0 0)
@@ -197,14 +224,17 @@ module _ (keys : List Key) where
           let by_key = on (λ (p : ℕ × Key). p.1) key_cmp in
           let at_i = placed_all by_key keys i d inside_i in
           let at_j = placed_all by_key keys j d inside_j in
-          let entry_i = get_or_default (sorted_by by_key (enumerate_from 0 keys)) at_i.0 (0, other []) (i, get_or keys i d) at_i.1 ∙ at_i.2 in
-          let entry_j = get_or_default (sorted_by by_key (enumerate_from 0 keys)) at_j.0 (0, other []) (j, get_or keys j d) at_j.1 ∙ at_j.2 in
+          let entry_i = get_or_default (sorted_by by_key (enumerate_from 0 keys)) at_i.0 (0, other [])
+          (i, get_or keys i d) at_i.1 ∙ at_i.2 in
+          let entry_j = get_or_default (sorted_by by_key (enumerate_from 0 keys)) at_j.0 (0, other [])
+          (j, get_or keys j d) at_j.1 ∙ at_j.2 in
           let is = either at_i.0 at_j.0 (omega (arith, whole, at_i.1)) (omega (arith, whole, at_j.1)) in
           rw (entry_i, entry_j) at is;
     }
 
 pub mirrors_texts : (order : ℕ → ℕ → Ordering) (texts : List (Bor (List ℕ)))
-    → Mirrors order key_cmp (map (λ text. key_of text.now) texts) → Mirrors order value_cmp (map (λ text. text.now) texts)
+    → Mirrors order key_cmp (map (λ text. key_of text.now) texts)
+    → Mirrors order value_cmp (map (λ text. text.now) texts)
 unfolding value_cmp
 mirrors_texts order texts m = record {
   same = λ i j d inside_i inside_j.
@@ -213,7 +243,11 @@ mirrors_texts order texts m = record {
       let at_i : i < length texts = omega (arith, length-map texts (λ (text : Bor (List ℕ)). text.now)) in
       let at_j : j < length texts = omega (arith, length-map texts (λ (text : Bor (List ℕ)). text.now)) in
       let is = m.same i j (other []) (omega (arith, length-map texts key)) (omega (arith, length-map texts key)) in
-      rw (get_or-map (λ (text : Bor (List ℕ)). text.now) texts i none d at_i, get_or-map (λ (text : Bor (List ℕ)). text.now) texts j none d at_j)
+      rw (
+        get_or-map (λ (text : Bor (List ℕ)). text.now) texts i none d at_i,
+        get_or-map
+            (λ (text : Bor (List ℕ)). text.now) texts j none d at_j,
+      )
       (rw (get_or-map key texts i none (other []) at_i, get_or-map key texts j none (other []) at_j) at is);
 }
 

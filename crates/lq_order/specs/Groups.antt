@@ -9,7 +9,8 @@ use Rattle.lq_order.specs.declared.group.Group.{Group}
 -- Each run's first item and how many the run has, where one has begun with the first and has n items so far.
 abbrev pub runs_from : {A : Type 0} → (A → A → Bool) → A → ℕ → List A → List (A × ℕ)
 runs_from same first n [] = (first, n) ∷ []
-runs_from same first n (x ∷ xs) = if same first x then runs_from same first (n + 1) xs else (first, n) ∷ runs_from same x 1 xs
+runs_from same first n (x ∷ xs) = if same first x then runs_from same first (n + 1) xs else (first, n) ∷ runs_from
+    same x 1 xs
 
 abbrev pub runs : {A : Type 0} → (A → A → Bool) → List A → List (A × ℕ)
 runs same [] = []

@@ -1,5 +1,6 @@
 -- What `sort`, `uniq` and `top` make of records (LogsQL, "sort pipe", "uniq pipe", "top pipe").
-use Rattle.std.specs.Prelude.{ℕ, Bool, not, List, [], ◌∷◌, map, filter, length, take, drop, zip, codes, decimal, Option}
+use Rattle.std.specs.Prelude.{ℕ, Bool, not, List, [], ◌∷◌, map, filter, length, take, drop, zip, codes, decimal}
+use Rattle.std.specs.Prelude.{Option}
 use Rattle.std.specs.Prelude.{Some, None, if◌then◌else◌}
 use Rattle.std.specs.Ordering.{is_eq, nat_cmp, on, ordering_reverse, ordering_then}
 use Rattle.std.specs.declared.cmp.Ordering.{Ordering}
@@ -35,7 +36,8 @@ sorted sorting records = at_most sorting.limit (drop sorting.offset (sorted_by (
 
 -- the tuples of the records in tuple order, without one that is wholly empty
 abbrev pub tuples : List (List ℕ) → List Record → List Tuple
-tuples names records = filter (λ tuple. not (is_wholly_empty tuple)) (distinct_by tuple_cmp (map (tuple_of names) records))
+tuples names records = filter (λ tuple. not (is_wholly_empty tuple))
+    (distinct_by tuple_cmp (map (tuple_of names) records))
 
 -- how many records have the tuple
 abbrev pub hits : List (List ℕ) → List Record → Tuple → ℕ
@@ -46,7 +48,8 @@ tuple_record names tuple = set_all [] (zip names tuple)
 
 -- the same, and how many records have it
 abbrev pub counted_record : List (List ℕ) → List Record → Tuple → Record
-counted_record names records tuple = set_field (tuple_record names tuple) (codes "hits") (decimal (hits names records tuple))
+counted_record names records tuple = set_field (tuple_record names tuple) (codes "hits")
+    (decimal (hits names records tuple))
 
 abbrev pub uniq : Distinct → List Record → List Record
 uniq d records =

@@ -69,7 +69,8 @@ pub(crate) fn columns(
     keys: &[SortKey],
     records: &[FieldList],
 ) -> Result<Vec<Column>, AllocError>
-    ensures { IfOk result (λ columns. Mirrors (columns_cmp columns.items) (record_cmp (map sort_by keys.now)) records.now) }
+    ensures { IfOk result (λ columns.
+        Mirrors (columns_cmp columns.items) (record_cmp (map sort_by keys.now)) records.now) }
 {
     let mut columns = Vec::with_capacity(alloc, keys.len())?;
     for key in keys {

@@ -15,7 +15,8 @@ pub(crate) struct Dictionary<'a> {
 impl<'a> Dictionary<'a> {
     /// The dictionary of these texts.
     pub(crate) fn of(alloc: Global, texts: &[&'a str]) -> Result<Dictionary<'a>, AllocError>
-        ensures { IfOk result (λ made. IsDictionary (map (λ text. text.now) texts.now) (map (λ word. word.now) made.words.items) made.ids.items) }
+        ensures { IfOk result (λ made.
+            IsDictionary (map (λ text. text.now) texts.now) (map (λ word. word.now) made.words.items) made.ids.items) }
     {
         let mut places = HashMap::new(alloc);
         let mut words = Vec::new(alloc);
@@ -35,7 +36,8 @@ fn entered<'a>(
 ) -> Result<usize, AllocError>
     requires { AreKnown places.old (map (λ word. word.now) words.old.items) }
     ensures known { OnOk result (AreKnown places.new (map (λ word. word.now) words.new.items)) }
-    ensures entered { IfOk result (IsEntered (map (λ word. word.now) words.old.items) (map (λ word. word.now) words.new.items) text.entry.now) }
+    ensures entered { IfOk result (IsEntered (map (λ word. word.now) words.old.items)
+        (map (λ word. word.now) words.new.items) text.entry.now) }
 {
     if let Some(place) = places.get(text) {
         return Ok(*place);

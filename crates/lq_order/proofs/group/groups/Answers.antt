@@ -18,14 +18,20 @@ loop-left-preserved c =
     let left = c.loop-left.left.now in
     let first = c.first-item.result in
     let is = c.tied_with-others.ensures
-    ∙ ap (λ cs. length (take_while (are_tied cs first) (take (length left - 1) (drop 1 left)))) c.as_slice-in-len1-up.ensures.value in
-    let step = groups_left names columns left c.kept-left.result.now first c.tied_with-others.result c.is_wholly_empty.result
+    ∙ ap (λ cs. length (take_while (are_tied cs first) (take (length left - 1) (drop 1 left))))
+    c.as_slice-in-len1-up.ensures.value in
+    let step = groups_left names columns left c.kept-left.result.now first c.tied_with-others.result
+    c.is_wholly_empty.result
     c.in-len1-up.len_at_least c.first-item.is is c.is_wholly_empty.ensures c.kept-left.ensures in
     elim c.if-not-is_wholly_empty.branch [
-      | then-not-is_wholly_empty+in_ok-push w ↦ groups_pushed names c.loop-left.groups.items c.if-not-is_wholly_empty.groups.items _ _ _ _
-          c.is_wholly_empty.result c.loop-left.invariant step w.if-not-is_wholly_empty.true (ap (λ g. g.items) w.groups-is ∙ w.in_ok-push.ensures.items)
-      | else-not-is_wholly_empty w ↦ groups_passed names c.loop-left.groups.items c.if-not-is_wholly_empty.groups.items _ _ _ _
-          c.is_wholly_empty.result c.loop-left.invariant step w.if-not-is_wholly_empty.false (ap (λ g. g.items) w.groups-is)
+      | then-not-is_wholly_empty+in_ok-push w
+          ↦ groups_pushed names c.loop-left.groups.items c.if-not-is_wholly_empty.groups.items _ _ _ _
+          c.is_wholly_empty.result c.loop-left.invariant step w.if-not-is_wholly_empty.true
+          (ap (λ g. g.items) w.groups-is ∙ w.in_ok-push.ensures.items)
+      | else-not-is_wholly_empty w
+          ↦ groups_passed names c.loop-left.groups.items c.if-not-is_wholly_empty.groups.items _ _ _ _
+          c.is_wholly_empty.result c.loop-left.invariant step w.if-not-is_wholly_empty.false
+          (ap (λ g. g.items) w.groups-is)
     ]
 
 pub returns : goal.returns
@@ -34,6 +40,7 @@ returns c =
     let columns = c.in_ok-columns.columns.items in
     let mirrors = rw (c.as_slice.ensures.value, c.in_ok-keys.ensures) at c.in_ok-columns.ensures in
     let placed = ap (map placed_of) c.as_slice-left.ensures.value ∙ c.in_ok-placed.ensures
-    ∙ ap (λ cs. sorted_by (on (λ p. p.0) (columns_cmp cs)) (enumerate_from 0 c.args.records.now)) c.as_slice-2.ensures.value in
+    ∙ ap (λ cs. sorted_by (on (λ p. p.0) (columns_cmp cs)) (enumerate_from 0 c.args.records.now))
+    c.as_slice-2.ensures.value in
     groups_ended names columns c.loop-left.left.now _ _ c.in_default.len_below c.loop-left.invariant
     ∙ groups_all names columns c.args.records.now mirrors c.as_slice-left.result.now placed

@@ -8,5 +8,6 @@ pub returns : goal.returns
 returns c =
     let names = c.args.names.now in
     c.of.ensures ∙ c.loop-group.invariant
-    ∙ ap (map (λ group. group_record names c.args.counted (group_of names group))) (take_whole c.args.groups.now c.loop-group.group-index (omega arith))
+    ∙ ap (map (λ group. group_record names c.args.counted (group_of names group)))
+    (take_whole c.args.groups.now c.loop-group.group-index (omega arith))
     ∙ sym (map_twice (group_of names) (group_record names c.args.counted) c.args.groups.now)

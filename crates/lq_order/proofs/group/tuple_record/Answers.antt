@@ -8,5 +8,6 @@ pub returns : goal.returns
 returns c =
     let value = field_value c.args.source.now in
     c.loop-name.invariant
-    ∙ ap (λ names. set_all [] (map (λ name. (name, value name)) names)) (take_whole c.args.names.now c.loop-name.name-index (omega arith))
+    ∙ ap (λ names. set_all [] (map (λ name. (name, value name)) names))
+    (take_whole c.args.names.now c.loop-name.name-index (omega arith))
     ∙ ap (set_all []) (sym (zip_made value c.args.names.now))

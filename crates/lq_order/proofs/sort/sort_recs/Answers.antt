@@ -13,14 +13,16 @@ moved-requires c =
     let records = c.as_slice.result.now in
     let is = c.as_slice-2.ensures.value ∙ c.in_ok-places.ensures in
     subst (λ n. ArePlaces n c.as_slice-2.result.now) (ap length c.as_slice.ensures.value)
-    (subst (ArePlaces (length records)) (sym is) (places_chosen records (record_cmp (map sort_by p.keys)) p.offset p.limit))
+    (subst (ArePlaces (length records)) (sym is) (places_chosen records (record_cmp (map sort_by p.keys)) p.offset
+    p.limit))
 
 pub returns : goal.returns
 returns c =
     let p = c.args.p.now in
     let records = c.as_slice.result.now in
     let is = c.as_slice-2.ensures.value ∙ c.in_ok-places.ensures in
-    let sorted = ap (λ items. map (λ place. get_or items place []) c.as_slice-2.result.now) (sym c.as_slice.ensures.value)
+    let sorted = ap (λ items. map (λ place. get_or items place []) c.as_slice-2.result.now)
+    (sym c.as_slice.ensures.value)
     ∙ ap (map (λ place. get_or records place [])) is
     ∙ items_chosen records (record_cmp (map sort_by p.keys)) p.offset p.limit []
     ∙ ap (λ items. at_most p.limit (drop p.offset (sorted_by (record_cmp (map sort_by p.keys)) items)))
