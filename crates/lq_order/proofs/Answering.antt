@@ -1,15 +1,15 @@
 -- The records of groups, as `uniq` and `top` keep them.
-use Rattle.std.proofs.Common.{◌≡◌, ℕ, ◌+◌, Bool, true, false, cond, List, map, Option, Some, take, refl, sym, ap, ◌∙◌}
+use Rattle.std.proofs.Common.{◌≡◌, ℕ, ◌+◌, Bool, true, false, cond, List, map, Option, sym, ap, ◌∙◌}
 use Rattle.std.proofs.Common.{arith}
 use Rattle.std.proofs.lemmas.Bool.Decides.{nat_tests}
 use Rattle.std.specs.Cmp.{IsTotalOrder, back_total, nat_cmp_total, on_total}
-use Rattle.std.specs.Ordering.{nat_cmp, on}
+use Rattle.std.specs.Ordering.{nat_cmp}
 use Rattle.std.specs.declared.cmp.Ordering.{Ordering}
 use Rattle.lq_ast.proofs.Sorted.{map_sorted}
 use Rattle.lq_ast.specs.Records.{Record}
 use Rattle.lq_ast.specs.Tuples.{Tuple, sorted_by}
 use Rattle.lq_order.specs.Groups.{group_of, group_record}
-use Rattle.lq_order.specs.Sorting.{at_most, counted_record, hits, tuple_record, tuples}
+use Rattle.lq_order.specs.Sorting.{at_most, counted_record, hits, tuple_record}
 use Rattle.lq_order.specs.declared.group.Group.{Group}
 use Rattle.lq_order.proofs.Grouping.{map_twice}
 use Rattle.lq_order.proofs.Picked.{map_at_most}

@@ -1,5 +1,5 @@
 -- The orders of columns and of places.
-use Rattle.std.proofs.Common.{◌≡◌, ℕ, Bool, true, false, cond, List, [], ◌∷◌, refl, slice_index, subst}
+use Rattle.std.proofs.Common.{Bool, true, false, cond, List, [], ◌∷◌, refl, slice_index, subst}
 use Rattle.std.specs.Cmp.{IsTotalOrder, back_total, nat_cmp_total, on_total, then_total}
 use Rattle.std.specs.Ordering.{nat_cmp, on, ordering_reverse}
 use Rattle.std.specs.declared.cmp.Ordering.{Ordering}

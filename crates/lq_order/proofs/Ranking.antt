@@ -1,5 +1,5 @@
 -- Numbers for keys in order that are compared as the keys.
-use Rattle.std.proofs.Common.{◌≡◌, ℕ, zero, suc, ◌+◌, ◌-◌, ◌<◌, ◌≤◌, ◌≢◌, Bool, true, false, ◌&&◌, not, cond, List}
+use Rattle.std.proofs.Common.{◌≡◌, ℕ, ◌+◌, ◌-◌, ◌<◌, ◌≤◌, ◌≢◌, Bool, true, false, ◌&&◌, not, cond, List}
 use Rattle.std.proofs.Common.{[]}
 use Rattle.std.proofs.Common.{map, length, get_or, ltb, Bor, refl, sym, ap, subst, ◌∙◌, arith, inl, inr}
 use Rattle.std.proofs.Math.ListN.{length-set, set}

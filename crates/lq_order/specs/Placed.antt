@@ -1,6 +1,6 @@
 -- Records with the places where they stand.
-use Rattle.std.specs.Prelude.{◌≡◌, ◌<◌, ◌≢◌, ℕ, List, [], ◌∷◌}
-use Rattle.std.specs.List.{AllByRecursion, AllPairs, All}
+use Rattle.std.specs.Prelude.{◌<◌, ◌≢◌, ℕ, List}
+use Rattle.std.specs.List.{AllPairs, All}
 use Rattle.lq_ast.specs.Records.{Record}
 use Rattle.lq_order.specs.declared.placed.Placed.{Placed}
 

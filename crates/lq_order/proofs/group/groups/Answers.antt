@@ -1,6 +1,6 @@
-use Rattle.std.proofs.Common.{◌≡◌, ◌∙◌, ◌-◌, take, drop, refl, ap, map, length, sym, true, false, arith}
+use Rattle.std.proofs.Common.{◌∙◌, ◌-◌, take, drop, refl, ap, map, length}
 use Rattle.std.specs.List.{enumerate_from, take_while}
-use Rattle.std.specs.Ordering.{is_eq, on}
+use Rattle.std.specs.Ordering.{on}
 use Rattle.lq_ast.specs.Tuples.{sorted_by}
 use Rattle.lq_order.specs.Column.{columns_cmp}
 use Rattle.lq_order.specs.Placed.{placed_of}

@@ -1,6 +1,5 @@
 use Rattle.std.proofs.Common.{◌∙◌, ap, map, rules}
 use Rattle.std.specs.Cmp.{on_total}
-use Rattle.std.specs.List.{enumerate_from}
 use Rattle.std.specs.Ordering.{on}
 use Rattle.lq_ast.proofs.Sorted.{map_sorted, sorted_by_closure}
 use Rattle.lq_ast.specs.Tuples.{sorted_by}

@@ -1,4 +1,4 @@
-use Rattle.std.proofs.Common.{◌≡◌, get_or, ap, arith, refl, [], Bor, List, ℕ}
+use Rattle.std.proofs.Common.{get_or, ap, arith, refl, [], Bor, List, ℕ}
 use Rattle.log_model.specs.Order.{key_of}
 use Rattle.lq_order.specs.Ranks.{keyed_of}
 use Rattle.lq_order.proofs.Places.{enumerate_made_more}

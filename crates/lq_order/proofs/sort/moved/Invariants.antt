@@ -1,4 +1,3 @@
-use Rattle.std.proofs.Common.{map}
 use Rattle.lq_order.proofs.Picked.{AreTaken}
 use Rattle.lq_order.proofs.sort.moved.Given as goal
 

@@ -1,4 +1,4 @@
-use Rattle.std.proofs.Common.{List, ◌∙◌, ap, cond, map}
+use Rattle.std.proofs.Common.{◌∙◌, ap, cond, map}
 use Rattle.std.proofs.lemmas.Result.{IfOk-weaker}
 use Rattle.lq_order.specs.Sorting.{at_most, counted_record, tuple_record, tuples}
 use Rattle.lq_order.proofs.Answering.{kept_records}
