@@ -1,9 +1,7 @@
 -- The records of places that stand in the order of the records.
-use Rattle.std.proofs.Common.{◌≡◌, ◌≢◌, ℕ, zero, suc, ◌+◌, ◌<◌, ◌≤◌, List, [], ◌∷◌, ◌++◌, map, length, get_or, take}
+use Rattle.std.proofs.Common.{◌≡◌, ◌≢◌, ℕ, zero, suc, ◌<◌, ◌≤◌, List, [], ◌∷◌, map, length, get_or, take}
 use Rattle.std.proofs.Common.{drop}
-use Rattle.std.proofs.Common.{Option, Some, None, refl, sym, ap, ◌∙◌, arith}
-use Rattle.std.proofs.lemmas.List.{get_or-set_other, get_or_default, map_more}
-use Rattle.std.proofs.Math.ListN.{length-set, set}
+use Rattle.std.proofs.Common.{Option, Some, None, refl, sym, ap, ◌∙◌}
 use Rattle.std.specs.List.{AllByRecursion, enumerate_from}
 use Rattle.std.specs.Ordering.{on}
 use Rattle.std.specs.declared.cmp.Ordering.{Ordering}
@@ -161,31 +159,3 @@ pub record AreTaken (records now : List Record) (places : List ℕ) (out : List 
   pub first : out ≡ map (λ place. get_or records place []) (take i places)
   pub left : (k : ℕ) → i ≤ k → k < length places → get_or now (get_or places k 0) []
       ≡ get_or records (get_or places k 0) []
-
-pub taken_none : (records : List Record) (places : List ℕ) (out : List Record) → out ≡ []
-    → AreTaken records records places out 0
-taken_none records places out none = record { long = refl; first = none; left = λ k from within. refl }
-
-pub taken_more : (records now next : List Record) (places : List ℕ) (out more : List Record) (i place : ℕ)
-    (one : Record)
-    → ArePlaces (length records) places → AreTaken records now places out i → i < length places
-    → place ≡ get_or places i 0 → one ≡ get_or now place one → more ≡ out ++ one ∷ [] → next ≡ set now place []
-    → AreTaken records next places more (i + 1)
-taken_more records now next places out more i place one are taken within at is pushed written =
-    let inside : place < length records = rw at (are.inside i 0 within) in
-    let here : get_or now place [] ≡ get_or records place [] = rw at (taken.left i (omega arith) within) in
-    let value : one ≡ get_or records place [] = is ∙ get_or_default now place one [] (omega (arith, taken.long))
-    ∙ here in
-    record {
-      long = ap length written ∙ length-set now place [] ∙ taken.long;
-      first = pushed
-          ∙ ap (λ l. l ++ one ∷ []) taken.first
-          ∙ ap (λ r. map (λ p. get_or records p []) (take i places) ++ r ∷ []) (value
-          ∙ ap (λ p. get_or records p []) at)
-          ∙ sym (map_more (λ p. get_or records p []) places i 0 within);
-      left = λ k from below.
-          ap (λ rs. get_or rs (get_or places k 0) []) written
-          ∙ get_or-set_other now place (get_or places k 0) [] []
-          (λ same. are.apart i k 0 (omega arith) below (sym at ∙ sym same))
-          ∙ taken.left k (omega arith) below;
-    }
