@@ -3,4 +3,8 @@ pub mod Evaluation
 pub mod Holds
 pub mod Patterns
 pub mod Phrases
+pub mod PipeView
+pub mod Records
+pub mod Stage
+pub mod Tuples
 pub mod View

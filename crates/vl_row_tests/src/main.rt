@@ -5,6 +5,8 @@
 #![tactic(auto)]
 
 #[cfg(test)]
+mod recs_tests;
+#[cfg(test)]
 mod row_tests;
 
 use std::cmp::Ordering;

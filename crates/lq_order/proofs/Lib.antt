@@ -1,0 +1,9 @@
+pub mod Answering
+pub mod Columns
+pub mod Dictionaries
+pub mod Grouping
+pub mod Orders
+pub mod Picked
+pub mod Places
+pub mod Ranking
+pub mod Runs

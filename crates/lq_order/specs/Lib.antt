@@ -1,0 +1,7 @@
+pub mod Column
+pub mod Dictionary
+pub mod Groups
+pub mod Mirror
+pub mod Placed
+pub mod Ranks
+pub mod Sorting
