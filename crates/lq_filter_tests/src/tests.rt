@@ -2,7 +2,7 @@ use lq_ast::{Filter, Group, How, LabelTest, Query, Select};
 use lq_filter::{PrepareFault, Prepared, Scan, prepare};
 use std::alloc::{AllocError, Global};
 use std::test::Fail;
-use vl_row::{FieldList, Row, Text};
+use vl_row::{FieldList, Items, Row, Text};
 
 /// A row of this time, whose stream has the label `app` with this value, or no label where it is empty.
 fn row_of(alloc: Global, time: i64, app: &str) -> Result<Row, AllocError> {
@@ -62,7 +62,9 @@ fn label(alloc: Global, how: How, text: &str) -> Result<LabelTest, AllocError> {
 fn group_of(alloc: Global, test: LabelTest) -> Result<Group, AllocError> {
     let mut labels = Vec::new(alloc);
     labels.push(test)?;
-    Ok(Group { labels })
+    Ok(Group {
+        labels: Items::of(labels),
+    })
 }
 
 /// `{app HOW text}`
@@ -70,7 +72,9 @@ fn selector(alloc: Global, how: How, text: &str) -> Result<Select, AllocError> {
     let group = group_of(alloc, label(alloc, how, text)?)?;
     let mut groups = Vec::new(alloc);
     groups.push(group)?;
-    Ok(Select { groups })
+    Ok(Select {
+        groups: Items::of(groups),
+    })
 }
 
 fn selects(alloc: Global, how: How, text: &str, app: &str) -> Result<bool, AllocError> {
@@ -97,7 +101,16 @@ fn a_label_matches_as_a_whole(rt: HostRuntime) -> Result<(), Fail> {
 fn no_group_selects_all(rt: HostRuntime) -> Result<(), Fail> {
     let groups = Vec::new(rt.alloc());
     let row = row_of(rt.alloc(), 0, "")?;
-    assert!(rt; holds(rt.alloc(), Filter::Select(Select { groups }), 0, &row)?);
+    assert!(rt;
+        holds(
+            rt.alloc(),
+            Filter::Select(Select {
+                groups: Items::of(groups)
+            }),
+            0,
+            &row
+        )?
+    );
     Ok(())
 }
 

@@ -21,7 +21,8 @@ const MOST_OPEN: u32 = 64;
 pub fn parse(alloc: Global, s: &str) -> Result<Query, QueryFault>
     // The text spells the query.
     ensures spelled { IfOk result (λ query. IsQueryText s.now (condition query.filter)) }
-    ensures complete { (c : Condition) → IsQueryText s.now c → result ≢ Err QueryFault.Memory → outcome result ≡ Ok c }
+    ensures complete { (c : Condition) → IsQueryText s.now c → result ≢ Err QueryFault.Memory
+        → outcome result ≡ Ok c }
     // Each text is a query or has one first fault, and which is answered, unless memory runs out.
     ensures found { result ≢ Err QueryFault.Memory → QueryOf s.now (outcome result) }
     ensures only { (other : Result Condition QueryFault) → QueryOf s.now other → result ≢ Err QueryFault.Memory

@@ -5,12 +5,12 @@
 //! derivations of the grammar at once, token by token, and finds the faults along them afterwards.
 #![tactic(auto)]
 
-mod shown;
+mod shown_tests;
 #[cfg(test)]
 mod tests;
 
 use lq_parse::parse;
-use shown::push_filter;
+use shown_tests::{push_filter, with_controls};
 use std::alloc::{AllocError, Global};
 use std::io;
 
@@ -35,16 +35,4 @@ fn answer(alloc: Global, query: &str) -> Result<String, AllocError> {
         }
         Err(fault) => format!(in alloc; "{fault}"),
     }
-}
-
-/// The text with control characters in the places of their pictures.
-fn with_controls(alloc: Global, text: &str) -> Result<String, AllocError> {
-    let mut out = String::new(alloc);
-    for c in text.chars() {
-        match c {
-            '␀'..='␟' => out.push((c as u32 - '␀' as u32) as u8 as char)?,
-            _ => out.push(c)?,
-        }
-    }
-    Ok(out)
 }

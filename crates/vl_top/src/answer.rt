@@ -61,7 +61,8 @@ pub fn snapshot_lines(
     now: i64,
     snapshot: &Snapshot<RowList>,
 ) -> Result<Vec<u8>, AnswerFault>
-    ensures lines { IfOk result (λ text. text.items ≡ lines_of (held_in (condition_of query.now) now (parts_of snapshot.now))) }
+    ensures lines { IfOk result (λ text. text.items
+        ≡ lines_of (held_in (condition_of query.now) now (parts_of snapshot.now))) }
     ensures few { OnOk result (length (held_in (condition_of query.now) now (parts_of snapshot.now)) < row_limit) }
     ensures fault { IfErr result (FailsFor 0 (held_in (condition_of query.now) now (parts_of snapshot.now))) }
     ensures order { All AreInOrder (parts_of snapshot.now) }

@@ -135,8 +135,14 @@ const SELECTED: &[(&str, &str)] = &[
     ("{app!=\"x\"} \"b\"", "b,b c"),
     ("{app=\"x\"}", ""),
     ("_time:5ns a", "a,c a"),
-    ("_time:(1970-01-01T00:00:00.000000004Z,1970-01-01T00:00:00.000000005Z]", "a,b,c a,b c"),
-    ("_time:[1970-01-01T00:00:00Z,1970-01-01T00:00:00.000000005Z)", ""),
+    (
+        "_time:(1970-01-01T00:00:00.000000004Z,1970-01-01T00:00:00.000000005Z]",
+        "a,b,c a,b c",
+    ),
+    (
+        "_time:[1970-01-01T00:00:00Z,1970-01-01T00:00:00.000000005Z)",
+        "",
+    ),
     ("~\"^[ab]$\"", "a,b"),
     ("i(C)", "c a,b c"),
     ("** b", "b,b c"),
@@ -147,8 +153,11 @@ fn printed(alloc: Global, messages: &str) -> Result<String, AllocError> {
     let mut text = String::new(alloc);
     for message in messages.split(',') {
         if !message.is_empty() {
-            write!(text, "{{\"_msg\":\"{message}\",\"_stream\":\"{{}}\",\"_stream_id\":\
-                \"44136fa355b3678a1146ad16f7e8649e\",\"_time\":\"1970-01-01T00:00:00.000000005Z\"}}\n")?;
+            write!(
+                text,
+                "{{\"_msg\":\"{message}\",\"_stream\":\"{{}}\",\"_stream_id\":\
+                \"44136fa355b3678a1146ad16f7e8649e\",\"_time\":\"1970-01-01T00:00:00.000000005Z\"}}\n"
+            )?;
         }
     }
     Ok(text)

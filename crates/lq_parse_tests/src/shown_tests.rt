@@ -1,6 +1,6 @@
 // Filters as texts.
 use lq_ast::{Filter, Group, How, Select};
-use std::alloc::AllocError;
+use std::alloc::{AllocError, Global};
 use vl_row::Text;
 
 /// Appends a filter, with filters inside it down to a depth.
@@ -147,4 +147,16 @@ fn how_text(how: How) -> &'static str {
         How::Matches => " =~",
         How::MatchesNot => " !~",
     }
+}
+
+/// The text with control characters in the places of their pictures.
+pub fn with_controls(alloc: Global, text: &str) -> Result<String, AllocError> {
+    let mut out = String::new(alloc);
+    for c in text.chars() {
+        match c {
+            '␀'..='␟' => out.push((c as u32 - '␀' as u32) as u8 as char)?,
+            _ => out.push(c)?,
+        }
+    }
+    Ok(out)
 }

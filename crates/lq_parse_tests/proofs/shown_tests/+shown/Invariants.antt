@@ -1,5 +1,5 @@
 use Rattle.std.proofs.Common.{◌+◌, ◌*◌}
-use Rattle.lq_parse_tests.proofs.shown.+shown.Given as goal
+use Rattle.lq_parse_tests.proofs.shown_tests.+shown.Given as goal
 
 abbrev pub decreases-push_filter : goal.decreases-push_filter
 decreases-push_filter l = 3 * l.depth
