@@ -21,7 +21,9 @@ fn keeps_records(alloc: Global) -> Result<bool, AllocError> {
         return Err(fault);
     }
     let whole = records.len() == 2 && records.as_slice().len() == 2;
-    let placed = records.len() > 1 && records.at(0).get("x") == "b" && records.at(1).get("x") == "a";
+    let placed = records.len() > 1
+        && records.at(0).get("x") == "b"
+        && records.at(1).get("x") == "a";
     Ok(was_empty && whole && placed && Recs::of(records.into_vec()).len() == 2)
 }
 
@@ -43,6 +45,12 @@ fn keys_stand_in_value_order(rt: HostRuntime) {
     assert!(rt; stand("9", "10", Ordering::Less));
     assert!(rt; stand("-0", "0", Ordering::Greater));
     assert!(rt; stand("7", "7", Ordering::Equal));
-    assert!(rt; stand("2024-05-01T00:00:00Z", "2024-05-01T00:00:00.5Z", Ordering::Less));
+    assert!(rt;
+        stand(
+            "2024-05-01T00:00:00Z",
+            "2024-05-01T00:00:00.5Z",
+            Ordering::Less
+        )
+    );
     assert!(rt; stand("", "2024-05-01T00:00:00Z", Ordering::Greater));
 }
