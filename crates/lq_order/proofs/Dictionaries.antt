@@ -1,5 +1,5 @@
 -- Words are entered one after another, and texts are compared by the ranks of their words.
-use Rattle.std.proofs.Common.{◌≡◌, ℕ, zero, suc, ◌<◌, Bool, true, false, cond, List, [], ◌∷◌, ◌++◌, map}
+use Rattle.std.proofs.Common.{◌≡◌, ℕ, zero, suc, ◌<◌, cond, List, [], ◌∷◌, ◌++◌, map}
 use Rattle.std.proofs.Common.{length}
 use Rattle.std.proofs.Common.{get_or, bytes_eq, Bor, Option, Some, None, IfSome, refl, sym, ap, subst, ◌∙◌, inl, inr}
 use Rattle.std.proofs.Common.{arith}
@@ -11,6 +11,7 @@ use Rattle.std.specs.HashMap.{HashMap, get_by}
 use Rattle.std.specs.List.{slice_index}
 use Rattle.std.specs.Ordering.{nat_cmp, on}
 use Rattle.log_model.specs.Order.{value_cmp}
+use Rattle.lq_ast.proofs.Sorted.{split_bool}
 use Rattle.lq_order.specs.Dictionary.{AreKnown, IsDictionary, IsEntered}
 use Rattle.lq_order.specs.Mirror.{Mirrors}
 
@@ -28,10 +29,6 @@ get_last (y ∷ ys) x (suc k) d e = get_last ys x k d (omega arith)
 some_weaker : {A : Type 0} (P Q : A → Type 0) → ((x : A) → P x → Q x) → (o : Option A) → IfSome o P → IfSome o Q
 some_weaker P Q f (Some x) h = f x h
 some_weaker P Q f None h = tt
-
-split_bool : (b : Bool) (G : Bool → Type 0) → (b ≡ true → G true) → (b ≡ false → G false) → G b
-split_bool true G f g = f refl
-split_bool false G f g = g refl
 
 -- ---- a text that is entered
 

@@ -3,16 +3,14 @@ use Rattle.std.proofs.Common.{◌≡◌, ℕ, ◌+◌, ◌<◌, Bool, true, fals
 use Rattle.std.proofs.Common.{get_or, take, drop}
 use Rattle.std.proofs.Common.{◌-◌, ◌≤◌, append_assoc, append-nil, zip, refl, sym, ap, subst, ◌∙◌, arith}
 use Rattle.std.proofs.lemmas.List.{map_push}
-use Rattle.std.specs.Cmp.{IsTotalOrder}
-use Rattle.std.specs.Cmp.Lexicographic.{lists_total}
 use Rattle.std.specs.List.{AllByRecursion, dedup, enumerate_from, filter, list_all, take_while}
 use Rattle.std.specs.Ordering.{is_eq, on, ordering_reverse, ordering_then}
 use Rattle.std.specs.declared.cmp.Ordering.{Ordering}
 use Rattle.std.specs.declared.cmp.Ordering.TheVariants.{Equal, Greater, Less}
-use Rattle.log_model.proofs.ValueOrder.{value_cmp_linear}
 use Rattle.log_model.specs.Field.{field_value, is_empty}
 use Rattle.log_model.specs.Order.{value_cmp}
 use Rattle.lq_ast.proofs.Sorted.{all_sorted, filter_sorted, map_sorted, rises_sorted}
+use Rattle.lq_ast.proofs.TupleOrder.{tuple_cmp_total}
 use Rattle.lq_ast.specs.Records.{Record}
 use Rattle.lq_ast.specs.Tuples.{Tuple, is_wholly_empty, sorted_by, tuple_cmp, tuple_of}
 use Rattle.lq_order.specs.Column.{columns_cmp}
@@ -70,9 +68,6 @@ filter_paired {A} {B} g test (x ∷ xs) =
     ]
 
 -- ---- tuple order
-
-pub tuple_cmp_total : IsTotalOrder tuple_cmp
-tuple_cmp_total = lists_total value_cmp_linear.total
 
 reversed_is_eq : (o : Ordering) → is_eq (ordering_reverse o) ≡ is_eq o
 reversed_is_eq Less = refl

@@ -12,7 +12,7 @@ use Rattle.std.specs.Ordering.{is_eq, is_gt, nat_cmp, on, ordering_reverse}
 use Rattle.std.specs.declared.cmp.Ordering.{Ordering}
 use Rattle.std.specs.declared.cmp.Ordering.TheVariants.{Equal, Greater, Less}
 use Rattle.log_model.specs.Order.{Key, key_cmp, key_of, other, value_cmp}
-use Rattle.lq_ast.proofs.Sorted.{rises_at, rises_sorted}
+use Rattle.lq_ast.proofs.Sorted.{equal_from, less_from, rises_at, rises_sorted}
 use Rattle.lq_ast.specs.Tuples.{sorted_by}
 use Rattle.lq_order.specs.Mirror.{Mirrors}
 use Rattle.lq_order.specs.Ranks.{entry, keyed_of, next_rank}
@@ -45,16 +45,6 @@ ranked_none entries ranks long = record {
   most = λ j h. absurd (omega arith);
   alike = λ j k up h. absurd (omega arith);
 }
-
-less_from : (o : Ordering) → is_gt o ≡ false → is_eq o ≡ false → o ≡ Less
-less_from Less g e = refl
-less_from Equal g e = absurd cc
-less_from Greater g e = absurd cc
-
-equal_from : (o : Ordering) → is_eq o ≡ true → o ≡ Equal
-equal_from Less e = absurd cc
-equal_from Equal e = refl
-equal_from Greater e = absurd cc
 
 before : (x y z : Key) (o : Ordering) → key_cmp x y ≡ o → is_gt o ≡ false → key_cmp y z ≡ Less → key_cmp x z ≡ Less
 before x y z Less e g l = key_cmp_total.trans x y z e l

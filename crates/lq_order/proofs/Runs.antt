@@ -7,14 +7,10 @@ use Rattle.std.specs.List.{AllByRecursion, prefix_len, take_while, dedup, dedup_
 use Rattle.std.specs.Ordering.{is_eq, is_gt, ordering_reverse}
 use Rattle.std.specs.declared.cmp.Ordering.{Ordering}
 use Rattle.std.specs.declared.cmp.Ordering.TheVariants.{Equal, Greater, Less}
-use Rattle.lq_ast.proofs.Sorted.{Rises, all_weaker}
+use Rattle.lq_ast.proofs.Sorted.{Rises, all_weaker, equal_from, less_from, split_bool}
 use Rattle.lq_order.specs.Groups.{runs, runs_from}
 
 -- ---- the first run of a list
-
-split_bool : (b : Bool) (G : Bool → Type 0) → (b ≡ true → G true) → (b ≡ false → G false) → G b
-split_bool true G f g = f refl
-split_bool false G f g = g refl
 
 prefix_le : {A : Type 0} (test : A → Bool) (xs : List A) → prefix_len test xs ≤ length xs
 prefix_le test [] = omega arith
@@ -75,16 +71,6 @@ module _ {A B : Type 0} (key : A → B) (same : A → A → Bool) (alike : B →
   runs_keys (x ∷ xs) all = runs_from_keys x 1 xs all.0 all.1
 
 -- ---- the runs of a list in order
-
-equal_from : (o : Ordering) → is_eq o ≡ true → o ≡ Equal
-equal_from Less e = absurd cc
-equal_from Equal e = refl
-equal_from Greater e = absurd cc
-
-less_from : (o : Ordering) → is_gt o ≡ false → is_eq o ≡ false → o ≡ Less
-less_from Less g e = refl
-less_from Equal g e = absurd cc
-less_from Greater g e = absurd cc
 
 filter_none : {A : Type 0} (test : A → Bool) (xs : List A) → AllByRecursion (λ x. test x ≡ false) xs
     → filter test xs ≡ []
