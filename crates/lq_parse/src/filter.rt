@@ -122,7 +122,7 @@ fn unary<'t>(
 
 /// A filter that is no negation.
 #[cycle(filter)]
-#[tactic(auto, unfolding(lq_grammar::specs::LogsQL::unit, lq_grammar::specs::LogsQL::selector, lq_grammar::specs::LogsQL::time_end))]
+#[tactic(auto, unfolding(lq_grammar::specs::LogsQL::unit, lq_grammar::specs::LogsQL::selector))]
 fn unit<'t>(
     alloc: Global,
     tokens: &'t [Item],

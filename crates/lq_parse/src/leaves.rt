@@ -77,7 +77,6 @@ fn word_leaf<'t>(
 }
 
 /// A leaf that begins with a mark.
-#[tactic(auto, unfolding(lq_grammar::specs::LogsQL::mark_leaf, lq_grammar::specs::LogsQL::exact, lq_grammar::specs::LogsQL::regex, lq_grammar::specs::LogsQL::greater, lq_grammar::specs::LogsQL::less))]
 pub(crate) fn mark_leaf<'t>(
     alloc: Global,
     tokens: &'t [Item],

@@ -1,4 +1,4 @@
-use Rattle.std.proofs.Common.{◌-◌, [], ◌∷◌, map, refl, sym, ap, ◌∙◌, arith}
+use Rattle.std.proofs.Common.{rules, ◌-◌, [], ◌∷◌, map, refl, sym, ap, ◌∙◌, arith}
 use Rattle.std.specs.Option.{option_copied}
 use Rattle.std.proofs.lemmas.List.{map-append}
 use Rattle.std.proofs.lemmas.Result.{err_from_is_err_and}
@@ -9,6 +9,7 @@ use Rattle.lq_grammar.specs.declared.role.Role.TheVariants.{Or}
 use Rattle.lq_grammar.specs.Roles.{any}
 use Rattle.lq_grammar.specs.Values.{denied}
 use Rattle.lq_grammar.specs.LogsQL.{and, next_unary, behind, negation, inner_negation, unary, inner}
+use Rattle.lq_grammar.specs.LogsQL.{selector, time_end, unit}
 use Rattle.lq_grammar.specs.Clauses.{at}
 use Rattle.lq_parse.proofs.Behind.{behind_read, next_read}
 use Rattle.lq_parse.proofs.Denied.{not_read}
@@ -92,3 +93,31 @@ inner_negation-returns-in_err-filter t c =
     )
     (fails_so _ (option_copied c.args.field) (at (c.args.depth - 1) inner c.in_ok-rest.rest.now)
     c.in_err-filter.ensures)
+
+pub unit-returns-in_err-select : goal.unit-returns-in_err-select
+unfolding unit selector time_end
+unit-returns-in_err-select t c = search rules
+
+pub unit-returns-in-Some-past : goal.unit-returns-in-Some-past
+unfolding unit selector time_end
+unit-returns-in-Some-past t c = search rules
+
+pub unit-returns-in-Some : goal.unit-returns-in-Some
+unfolding unit selector time_end
+unit-returns-in-Some t c = search rules
+
+pub unit-returns-in-Some-past-2 : goal.unit-returns-in-Some-past-2
+unfolding unit selector time_end
+unit-returns-in-Some-past-2 t c = search rules
+
+pub unit-returns-in-Some-text_past : goal.unit-returns-in-Some-text_past
+unfolding unit selector time_end
+unit-returns-in-Some-text_past t c = search rules
+
+pub unit-returns-in-Some-text_past-2 : goal.unit-returns-in-Some-text_past-2
+unfolding unit selector time_end
+unit-returns-in-Some-text_past-2 t c = search rules
+
+pub unit-returns : goal.unit-returns
+unfolding unit selector time_end
+unit-returns t c = search rules
