@@ -4,7 +4,8 @@ use Rattle.vl_io.specs.Change.{HasFailed}
 use Rattle.vl_io.specs.Moments.{FirstTold}
 use Rattle.lq_ast.specs.Condition.{Condition}
 use Rattle.vl_top.specs.Pipe.{EndsPipe}
-use Rattle.vl_top.specs.Program.{IsQueryText, Refusal, command_of, no_memory, pipe, unreadable_pattern, unspelled}
+use Rattle.lq_grammar.specs.Query.{IsQueryText}
+use Rattle.vl_top.specs.Program.{Refusal, command_of, no_memory, pipe, unreadable_pattern, unspelled}
 use Rattle.vl_top.specs.Refused.{Refuses, ReportsRefused}
 use Rattle.vl_top.specs.Run.{ForCommand, HasOverflown, HasStopped, IsRefused, IsUnread, Run}
 use Rattle.vl_top.specs.Status.{status_number}

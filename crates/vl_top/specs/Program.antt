@@ -1,6 +1,6 @@
 -- What the program is to do: its words, the texts that it writes, and the answer to an input.
 use Rattle.std.specs.Prelude.{◌≡◌, ℕ, ◌-◌, ◌⊎◌, ◌<◌, ◌≤◌, List, [], ◌∷◌, ◌++◌, length, take, bytes_eq, codes, pos}
-use Rattle.std.specs.Prelude.{decimal, slice_get, Option, Some, None, Err, Ok, IsSomeAnd, if◌then◌else◌}
+use Rattle.std.specs.Prelude.{decimal, slice_get, Option, Some, None, Err, IsSomeAnd, if◌then◌else◌}
 use Rattle.std.specs.List.{AllByRecursion}
 use Rattle.vl_io.specs.Change.{Change, HasFailed}
 use Rattle.vl_io.specs.Lines.{AreFewer, AreLines, piece_len}
@@ -13,7 +13,7 @@ use Rattle.lq_ast.specs.Condition.{Condition}
 use Rattle.lq_ast.specs.Evaluation.{evaluate, many_rows, records}
 use Rattle.lq_ast.specs.Patterns.{CanBeRead, patterns_of}
 use Rattle.lq_grammar.specs.Faults.{fault_text}
-use Rattle.lq_grammar.specs.Query.{QueryOf}
+use Rattle.lq_grammar.specs.Query.{IsQueryText, QueryOf}
 use Rattle.lq_grammar.specs.declared.fault.QueryFault.{QueryFault}
 use Rattle.ingest_row.specs.Intake.{Outcome, rows_read}
 use Rattle.vl_top.specs.Groups.{AreGroups, BeginsWith, CanBeHeld, HaveOutcomes, batches_of, input_limit, outcomes_in}
@@ -143,21 +143,19 @@ refusal_text too_many_rows = codes "ManyRows"
 abbrev pub refused_text : Refusal → List ℕ
 refused_text refusal = codes "query: " ++ (refusal_text refusal ++ 10 ∷ [])
 
--- the text spells a query with this condition
-abbrev pub IsQueryText : List ℕ → Condition → Type 0
-IsQueryText text query = QueryOf text (Ok query)
-
--- the text spells no query
-abbrev pub HasNoQuery : List ℕ → Type 0
-HasNoQuery text = (fault : QueryFault) × QueryOf text (Err fault)
-
 -- the text spells a query whose patterns can all be read
 abbrev pub IsReadableQuery : List ℕ → Type 0
 IsReadableQuery text = (query : Condition) × IsQueryText text query × AllByRecursion CanBeRead (patterns_of query)
 
--- the command asks for a query, and there is none
-abbrev pub IsUnspelled : Command → Type 0
-IsUnspelled (pipe text) = HasNoQuery text
+-- the text spells no query, or one whose patterns cannot all be read
+abbrev pub IsNoReadableQuery : List ℕ → Type 0
+IsNoReadableQuery text =
+    ((query : Condition) → IsQueryText text query → ⊥)
+    ⊎ ((query : Condition) × IsQueryText text query × (AllByRecursion CanBeRead (patterns_of query) → ⊥))
+
+-- the command asks for a query that cannot be asked
+abbrev pub CannotBeAsked : Command → Type 0
+CannotBeAsked (pipe text) = IsNoReadableQuery text
 
 -- Why the query with this text is refused before anything is read: it has this fault, or this pattern of it cannot be
 -- read.

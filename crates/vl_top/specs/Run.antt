@@ -8,9 +8,10 @@ use Rattle.ingest_row.specs.Intake.{Outcome}
 use Rattle.vl_top.specs.Groups.{BeginsWith, CanBeHeld, outcomes_in, refusals_from, refusals_of}
 use Rattle.vl_top.specs.Status.{status_number}
 use Rattle.vl_top.specs.declared.status.Status.{Status}
-use Rattle.vl_top.specs.Program.{Command, pipe, IsAnswer, IsOverflow, IsQueryText, IsReadableQuery, IsRefusedText}
-use Rattle.vl_top.specs.Program.{IsUnspelled, Limit, Refusal, Stop, StopsBehind, unreadable, beyond, no_memory, command_of, refused_text}
-use Rattle.vl_top.specs.Program.{stop_text, too_many_rows, usage_text}
+use Rattle.lq_grammar.specs.Query.{IsQueryText}
+use Rattle.vl_top.specs.Program.{CannotBeAsked, Command, pipe, IsAnswer, IsOverflow, IsReadableQuery, IsRefusedText}
+use Rattle.vl_top.specs.Program.{Limit, Refusal, Stop, StopsBehind, unreadable, beyond, no_memory, command_of}
+use Rattle.vl_top.specs.Program.{refused_text, stop_text, too_many_rows, usage_text}
 
 -- a run: what the words are, what it does to each object, what the clock gave before and after, and the status
 pub record Run : Type 0 where
@@ -101,10 +102,10 @@ HasStopped run stop (pipe text) = ForQuery run text (λ query now. IsStopped now
 abbrev pub ForCommand : Run → (Command → Type 0) → Type 0
 ForCommand run holds = (command : Command) × (command_of run.words ≡ Some command) × holds command
 
--- the words are no command, or ask for a query, and there is none
+-- the words are no command, or ask for a query that cannot be asked
 abbrev pub IsNotAsked : List (List ℕ) → Type 0
 IsNotAsked words =
-    (command_of words ≡ None) ⊎ ((command : Command) × (command_of words ≡ Some command) × IsUnspelled command)
+    (command_of words ≡ None) ⊎ ((command : Command) × (command_of words ≡ Some command) × CannotBeAsked command)
 
 -- the words ask for a query whose patterns can be read
 abbrev pub IsAsked : Command → Type 0
@@ -138,7 +139,7 @@ pub record IsRun (run : Run) : Type 0 where
   -- the query is refused before anything is read, or its evaluation overflows
   pub refused : run.status ≡ 1
       → ((refusal : Refusal) × ForCommand run (IsRefused run refusal)) ⊎ ForCommand run (HasOverflown run)
-  pub unspelled : ForCommand run IsUnspelled → (run.status ≡ 1) ⊎ (run.status ≡ 9)
+  pub unasked : ForCommand run CannotBeAsked → (run.status ≡ 1) ⊎ (run.status ≡ 9)
   pub usage : (run.status ≡ 2) ↔ (command_of run.words ≡ None)
   pub said_usage : run.status ≡ 2 → IsTold run.errors [] usage_text
   pub read_fault : run.status ≡ 3 → ForCommand run (HasStopped run unreadable)

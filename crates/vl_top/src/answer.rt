@@ -67,7 +67,7 @@ pub fn snapshot_lines(
     ensures fault { IfErr result (FailsFor 0 (held_in (condition_of query.now) now (parts_of snapshot.now))) }
     ensures order { All AreInOrder (parts_of snapshot.now) }
 {
-    are_in_order(snapshot);
+    order_law(snapshot);
     let mut printer = Printer::new(alloc)?;
     let mut scan = query.scan(alloc, now);
     let mut lines = Lines::new(alloc);
@@ -78,8 +78,8 @@ pub fn snapshot_lines(
     Ok(lines.text)
 }
 
-/// That the rows of each part stand in their order. It does nothing.
-fn are_in_order(snapshot: &Snapshot<RowList>)
+/// That the rows of each part stand in their order. It does nothing: its contract is the law.
+fn order_law(snapshot: &Snapshot<RowList>)
     ensures { All AreInOrder (parts_of snapshot.now) }
 {
     for i in 0..snapshot.len() {

@@ -46,7 +46,7 @@ pub fn run<R: AllocGlobal, S: Source, O: Sink, E: Sink, C: Clock>(
       status = result;
     }) }
 
-    // Words that are no command, and a text that is no query, are refused before anything is read.
+    // Words that are no command, and a query that cannot be asked, are refused before anything is read.
     ensures unread { IsNotAsked (map (λ word. word.now) words.now) → src.new ≡ src.old }
 
     // Only an answer is written to the output.

@@ -1,7 +1,8 @@
 //! Queries, read and prepared.
 ghost use Rattle.std.specs.Prelude.{◌≡◌, IfErr, IfOk, IsErr, string_bytes};
 ghost use Rattle.lq_filter.specs.Tree.{condition_of};
-ghost use Rattle.vl_top.specs.Program.{HasNoQuery, IsQueryText, IsReadableQuery};
+ghost use Rattle.lq_grammar.specs.Query.{IsQueryText};
+ghost use Rattle.vl_top.specs.Program.{IsNoReadableQuery, IsReadableQuery};
 ghost use Rattle.vl_top.specs.Refused.{Refuses, said_of};
 ghost use Rattle.vl_top.specs.declared.query.Refused.TheVariants.{NoMemory};
 
@@ -64,8 +65,8 @@ pub fn read_query(alloc: Global, text: &str) -> Result<Prepared, Refused>
     ensures read { IfOk result (λ query. IsQueryText text.now (condition_of query)) }
     ensures refused { IfErr result (Refuses text.now) }
 
-    // A text that spells no query is refused. One whose patterns can all be read is not, unless memory runs out.
-    ensures unspelled { HasNoQuery text.now → IsErr result }
+    // A query is refused where it cannot be asked. It is asked where it can, unless memory runs out.
+    ensures unasked { IsNoReadableQuery text.now → IsErr result }
     ensures readable { IsReadableQuery text.now → IfErr result (λ refused. refused ≡ NoMemory) }
 {
     let query = parse(alloc, text)?;

@@ -98,7 +98,9 @@ const REFUSED: &[(&str, &str)] = &[
     ("x:>1.5", "BadNumber at 3"),
     ("_time:5q", "BadTime at 6"),
     ("_time:99999999999999w", "BadDuration at 6"),
+    ("~\"(\"", "RegexRefused number 0"),
     ("a ~\"b\" ~\"(\"", "RegexRefused number 1"),
+    ("(((((((((((((((((((((((((((((((((((((((((((((((((((((((((((((((((", "TooDeep at 64"),
     ("{a=~\")(\"}", "RegexRefused number 0"),
 ];
 
@@ -120,6 +122,21 @@ fn a_refused_query_is_told_before_anything_is_read(rt: HostRuntime) -> Result<()
             "{query}"
         );
     }
+    Ok(())
+}
+
+#[test]
+fn a_long_query_is_refused(rt: HostRuntime) -> Result<(), Fail> {
+    let mut query = String::new(rt.alloc());
+    for _ in 0..16_385 {
+        query.push('a')?;
+    }
+    let refused = Wanted {
+        status: 1,
+        out: "",
+        err: "query: TooLong\n",
+    };
+    assert!(rt; ends(&rt, &["pipe", query.as_str()], b"", NONE, refused)?);
     Ok(())
 }
 

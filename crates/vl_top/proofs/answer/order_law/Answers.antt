@@ -1,6 +1,6 @@
 use Rattle.log_model.specs.Core.{parts_of}
 use Rattle.vl_top.proofs.AnswerLemmas.{order-more}
-use Rattle.vl_top.proofs.answer.are_in_order.Goals as goal
+use Rattle.vl_top.proofs.answer.order_law.Goals as goal
 
 pub loop-i-preserved : goal.loop-i-preserved
 loop-i-preserved c =
