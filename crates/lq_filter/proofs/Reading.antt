@@ -1,15 +1,15 @@
 -- A regular expression as it is read from its text.
-use Rattle.std.proofs.Common.{◌≡◌, ◌<◌, ◌≤◌, ℕ, Bool, false, List, None, Some, Option, is_some, refl}
+use Rattle.std.proofs.Common.{◌≡◌, ◌<◌, ◌≤◌, ℕ, Bool, false, List, length, None, Some, Option, is_some, refl}
 use Rattle.std.proofs.Common.{◌⊎◌}
 use Rattle.std.proofs.Common.{inl, inr, ◌≢◌, arith}
 use Rattle.std.specs.Prelude.{IsSomeAnd, IfSome}
 use Rattle.std.specs.Option.{option_map_or}
 use Rattle.regex.proofs.OnLiterals.{is_match_as_written, same_refl}
-use Rattle.regex.specs.Patterns.{Re, Reads, Refuses, default_config, find_str}
+use Rattle.regex.specs.Patterns.{Re, Reads, Refuses, SameCaptures, default_config, find_str}
 use Rattle.regex.specs.Strings.{IsReadFromSource, regex_config, regex_pattern, regex_source}
 use Rattle.regex.specs.declared.string.regex.Regex.{Regex}
 use Rattle.regex_syntax.specs.Brackets.{Nested}
-use Rattle.regex_syntax.specs.Grammar.{Names}
+use Rattle.regex_syntax.specs.Grammar.{Names, group_count}
 use Rattle.regex_syntax.specs.Same.{SameTree}
 use Rattle.regex_syntax.specs.declared.error.ErrorKind.{ErrorKind}
 use Rattle.regex_syntax.specs.declared.error.ErrorKind.TheVariants.{OutOfMemory}
@@ -27,6 +27,19 @@ pub not_readable : (p : List ℕ) (k : ErrorKind) → k ≢ OutOfMemory → Refu
 unfolding Refuses
 not_readable p k other (inl m) q = other m
 not_readable p k other (inr r) q = none_of _ _ _ r q
+
+fits : (o : Option (Nested Re × Names)) (tree : Re) (names : Names) (n : ℕ)
+    → IsSomeAnd o (λ (re, found). (re.depth ≤ n) × SameCaptures tree re.value × (names ≡ found)
+    × (group_count tree ≤ length names))
+    → IsSomeAnd o (λ (re, _). re.depth ≤ n)
+fits None tree names n h = h
+fits (Some x) tree names n h = h.0
+
+-- what was read from a text shows that it can be
+pub readable_as_read : (r : Regex) → regex_config r ≡ default_config → IsReadFromSource r
+    → IsReadable (regex_source r)
+unfolding Reads
+readable_as_read r config is_read = fits _ _ _ _ (rw config at is_read)
 
 by_reading : (o : Option (Nested Re × Names)) (Q : Nested Re × Names → Type 0) (b : Bool) (f : Re → Bool)
     → IsSomeAnd o Q

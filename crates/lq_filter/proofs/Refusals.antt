@@ -4,8 +4,10 @@ use Rattle.std.proofs.Common.{refl, sym}
 use Rattle.std.proofs.Common.{ap, ◌∙◌, append_assoc, length-append, arith}
 use Rattle.std.specs.Prelude.{IsSomeAnd, IsErrAnd, IfErr, Result, Ok, Err, slice_get, flat_map}
 use Rattle.std.proofs.lemmas.List.{map-append}
+use Rattle.std.specs.List.{AllByRecursion}
 use Rattle.std.proofs.lemmas.List.{append-nil, drop_all}
 use Rattle.lq_ast.specs.Patterns.{Pattern, CanBeRead}
+use Rattle.vl_row.proofs.Sorted.{all_append}
 use Rattle.lq_filter.specs.Refusal.{IsRefusal}
 use Rattle.lq_filter.specs.declared.fault.PrepareFault.{PrepareFault}
 use Rattle.lq_filter.specs.declared.fault.PrepareFault.TheVariants.{RegexRefused, Memory}
@@ -39,17 +41,20 @@ refused_one nth tried unreadable =
     let none : nth - nth ≡ 0 = omega arith in (omega arith, rw none unreadable)
 
 -- What is left of a list to prepare: what is made so far is of the elements that were passed, the number of the next
--- pattern counts those of them, and what is refused from here on is refused of the whole list.
+-- pattern counts those of them, what is refused from here on is refused of the whole list, and all patterns can be
+-- read where those from here on can.
 pub record Left {X C : Type 0} (mean : X → C) (patterns : X → List Pattern) (xs : List X) (first i : ℕ)
     (made : List C) (nth : ℕ) : Type 0 where
   pub built : made ++ map mean (drop i xs) ≡ map mean xs
   pub counted : nth + length (flat_map patterns (drop i xs)) ≡ first + length (flat_map patterns xs)
   pub refused : (fault : PrepareFault) → IsRefusal nth (flat_map patterns (drop i xs)) fault
       → IsRefusal first (flat_map patterns xs) fault
+  pub readable : AllByRecursion CanBeRead (flat_map patterns (drop i xs))
+      → AllByRecursion CanBeRead (flat_map patterns xs)
 
 module _ {X C : Type 0} (mean : X → C) (patterns : X → List Pattern) (xs : List X) (first : ℕ) where
   pub left_at_first : Left mean patterns xs first 0 [] first
-  left_at_first = record { built = refl; counted = refl; refused = λ fault h. h }
+  left_at_first = record { built = refl; counted = refl; refused = λ fault h. h; readable = λ h. h }
 
   module _ (i : ℕ) (made : List C) (nth : ℕ) (left : Left mean patterns xs first i made nth) where
     module _ (x : X) (below : i < length xs) (is : x ≡ get_or xs i x) where
@@ -62,8 +67,8 @@ module _ {X C : Type 0} (mean : X → C) (patterns : X → List Pattern) (xs : L
           (flat_map patterns (drop (i + 1) xs)) fault h))
 
       pub left_behind : (c : C) (next : ℕ) → c ≡ mean x → next ≡ nth + length (patterns x)
-          → Left mean patterns xs first (i + 1) (made ++ c ∷ []) next
-      left_behind c next same counted = record {
+          → AllByRecursion CanBeRead (patterns x) → Left mean patterns xs first (i + 1) (made ++ c ∷ []) next
+      left_behind c next same counted reads = record {
         built = append_assoc made (c ∷ []) (map mean (drop (i + 1) xs))
             ∙ ap (λ d. made ++ d ∷ map mean (drop (i + 1) xs)) same ∙ sym (ap (λ ys. made ++ map mean ys) rest)
             ∙ left.built;
@@ -72,6 +77,8 @@ module _ {X C : Type 0} (mean : X → C) (patterns : X → List Pattern) (xs : L
             omega (arith, split, left.counted, length-append (patterns x) (flat_map patterns (drop (i + 1) xs)));
         refused = λ fault h. left.refused fault
             (rw rest (refusal_behind nth (patterns x) (flat_map patterns (drop (i + 1) xs)) fault (rw counted at h)));
+        readable = λ h. left.readable
+            (rw rest (all_append CanBeRead (patterns x) (flat_map patterns (drop (i + 1) xs)) reads h));
       }
 
     pub all_made : length xs ≤ i → made ≡ map mean xs
@@ -80,6 +87,9 @@ module _ {X C : Type 0} (mean : X → C) (patterns : X → List Pattern) (xs : L
     pub all_counted : length xs ≤ i → nth ≡ first + length (flat_map patterns xs)
     all_counted ends = let none = ap (λ ys. length (flat_map patterns ys)) (drop_all i xs ends) in omega
         (arith, none, left.counted)
+
+    pub all_readable : length xs ≤ i → AllByRecursion CanBeRead (flat_map patterns xs)
+    all_readable ends = left.readable (rw (drop_all i xs ends) tt)
 
 pub flat_map-map : {X Y Z : Type 0} (f : Y → List Z) (g : X → Y) (xs : List X)
     → flat_map f (map g xs) ≡ flat_map (λ x. f (g x)) xs
@@ -104,6 +114,10 @@ module _ {X Y : Type 0} (patterns : Y → List Pattern) (mean : X → Y) (xs ite
   pub counted_mapped : (first nth : ℕ) → nth ≡ first + length (flat_map (λ x. patterns (mean x)) items)
       → nth ≡ first + length (flat_map patterns (map mean xs))
   counted_mapped first nth h = rw as_mapped at h
+
+  pub readable_mapped : AllByRecursion CanBeRead (flat_map (λ x. patterns (mean x)) items)
+      → AllByRecursion CanBeRead (flat_map patterns (map mean xs))
+  readable_mapped h = rw as_mapped at h
 
 pub map_one_more : {X C : Type 0} (show : X → C) (xs more : List X) (x : X) → more ≡ xs ++ x ∷ []
     → map show more ≡ map show xs ++ show x ∷ []

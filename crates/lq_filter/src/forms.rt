@@ -1,6 +1,7 @@
 // What each form of filter asks of the value of its field.
 ghost use Rattle.std.specs.Prelude.{◌≡◌, ◌+◌, [], ◌∷◌, IfOk, IfErr, IsOk};
 ghost use Rattle.lq_ast.specs.Condition as is;
+ghost use Rattle.lq_ast.specs.Patterns.{IsReadable};
 ghost use Rattle.lq_filter.specs.Refusal.{IsRefusal};
 ghost use Rattle.lq_filter.specs.Value.{condition_of_field, condition_on};
 
@@ -88,6 +89,7 @@ pub(crate) fn pattern(
 ) -> Result<FieldTest, PrepareFault>
     ensures same { IfOk result (λ made. condition_of_field made ≡ is.pattern field.now text.now) }
     ensures counted { IsOk result → nth.new ≡ nth.old + 1 }
+    ensures readable { IfOk result (λ _. IsReadable text.now) }
     ensures refused { IfErr result (IsRefusal nth.old ((text.now, text.now) ∷ [])) }
 {
     let number = *nth;

@@ -1,7 +1,7 @@
 ghost use Rattle.std.specs.Prelude.{◌≡◌, ◌+◌, ℕ, Err, length, flat_map, IfOk, IfErr, IsOk, IsTrue};
-ghost use Rattle.std.specs.List.{list_all};
+ghost use Rattle.std.specs.List.{AllByRecursion, list_all};
 ghost use Rattle.lq_ast.specs.Holds.{passes, selects};
-ghost use Rattle.lq_ast.specs.Patterns.{patterns_of_test};
+ghost use Rattle.lq_ast.specs.Patterns.{CanBeRead, patterns_of_test};
 ghost use Rattle.lq_ast.specs.View.{groups_of, test_of, tests_of};
 ghost use Rattle.lq_filter.specs.Labels.{groups_of as prepared_groups, how_of, test_of as prepared_test};
 ghost use Rattle.lq_filter.specs.Labels.{tests_of as prepared_tests, text_of};
@@ -69,6 +69,8 @@ impl Selector {
         ensures same { IfOk result (λ selector. prepared_groups selector ≡ groups_of select.now) }
         ensures counted { IsOk result →
             nth.new ≡ nth.old + length (flat_map (flat_map patterns_of_test) (groups_of select.now)) }
+        ensures readable { IfOk result
+            (λ _. AllByRecursion CanBeRead (flat_map (flat_map patterns_of_test) (groups_of select.now))) }
         ensures refused { IfErr result
             (IsRefusal nth.old (flat_map (flat_map patterns_of_test) (groups_of select.now))) }
     {
@@ -122,6 +124,8 @@ impl PreparedGroup {
     fn new(alloc: Global, group: &Group, nth: &mut u32) -> Result<PreparedGroup, PrepareFault>
         ensures same { IfOk result (λ prepared. prepared_tests prepared ≡ tests_of group.now) }
         ensures counted { IsOk result → nth.new ≡ nth.old + length (flat_map patterns_of_test (tests_of group.now)) }
+        ensures readable { IfOk result
+            (λ _. AllByRecursion CanBeRead (flat_map patterns_of_test (tests_of group.now))) }
         ensures refused { IfErr result (IsRefusal nth.old (flat_map patterns_of_test (tests_of group.now))) }
     {
         let mut tests = Vec::new(alloc);
@@ -169,6 +173,7 @@ impl PreparedTest {
     fn new(alloc: Global, test: &LabelTest, nth: &mut u32) -> Result<PreparedTest, PrepareFault>
         ensures same { IfOk result (λ prepared. prepared_test prepared ≡ test_of test.now) }
         ensures counted { IsOk result → nth.new ≡ nth.old + length (patterns_of_test (test_of test.now)) }
+        ensures readable { IfOk result (λ _. AllByRecursion CanBeRead (patterns_of_test (test_of test.now))) }
         ensures refused { IfErr result (IsRefusal nth.old (patterns_of_test (test_of test.now))) }
     {
         let name = test.name.try_copy(alloc)?;
@@ -207,6 +212,7 @@ impl Asked {
         ensures how { IfOk result (λ asked. how_of asked ≡ how) }
         ensures text { IfOk result (λ asked. text_of asked ≡ text.now) }
         ensures counted { IsOk result → nth.new ≡ nth.old + length (patterns_of_test ([], how, text.now)) }
+        ensures readable { IfOk result (λ _. AllByRecursion CanBeRead (patterns_of_test ([], how, text.now))) }
         ensures refused { IfErr result (IsRefusal nth.old (patterns_of_test ([], how, text.now))) }
     {
         match how {
@@ -238,6 +244,7 @@ impl WholePattern {
     fn new(alloc: Global, text: &Text, nth: &mut u32) -> Result<WholePattern, PrepareFault>
         ensures same { IfOk result (λ pattern. pattern ≡ text.now) }
         ensures counted { IsOk result → nth.new ≡ nth.old + 1 }
+        ensures readable { IfOk result (λ _. CanBeRead (text.now, whole text.now)) }
         ensures refused { IfErr result (IsRefusal nth.old ((text.now, whole text.now) ∷ [])) }
     {
         let number = *nth;

@@ -31,6 +31,7 @@ impl Pattern {
     /// Reads the text, which belongs to the pattern with number `nth`.
     pub(crate) fn new(alloc: Global, text: &str, nth: u32) -> Result<Pattern, PrepareFault>
         ensures ok { IfOk result (λ pattern. pattern ≡ text.now) }
+        ensures readable { IfOk result (λ _. IsReadable text.now) }
         ensures refused { (tried : Tried) → (CanBeRead tried → IsReadable text.now)
             → IfErr result (IsRefusal nth (tried ∷ [])) }
     {
@@ -45,6 +46,7 @@ impl Pattern {
     /// `a)(b` is not.
     pub(crate) fn of_whole(alloc: Global, text: &str, nth: u32) -> Result<Pattern, PrepareFault>
         ensures ok { IfOk result (λ pattern. pattern ≡ whole text.now) }
+        ensures readable { IfOk result (λ _. CanBeRead (text.now, whole text.now)) }
         ensures refused { IfErr result (IsRefusal nth ((text.now, whole text.now) ∷ [])) }
     {
         let alone = Pattern::new(alloc, text, nth)?;

@@ -1,6 +1,7 @@
 ghost use Rattle.std.specs.Prelude.{◌≡◌, IfOk, IfErr};
+ghost use Rattle.std.specs.List.{AllByRecursion};
 ghost use Rattle.lq_ast.specs.Holds.{holds, selects};
-ghost use Rattle.lq_ast.specs.Patterns.{patterns_of};
+ghost use Rattle.lq_ast.specs.Patterns.{CanBeRead, patterns_of};
 ghost use Rattle.lq_ast.specs.View.{condition, groups_of};
 ghost use Rattle.lq_filter.specs.Labels.{groups_of as prepared_groups};
 ghost use Rattle.lq_filter.specs.Refusal.{IsRefusal};
@@ -20,11 +21,12 @@ pub struct Prepared {
     filter: Tree,
 }
 
-/// Prepares a query: each regular expression is read, and all that does not depend on a row is done. `RegexRefused`
-/// comes only where the regular expression with that number cannot be read; numbers count from 0 in the order of the
-/// text.
+/// Prepares a query: each regular expression is read, and all that does not depend on a row is done. A query is
+/// prepared only where each of its regular expressions can be read, and `RegexRefused` comes only where the one with
+/// that number cannot be; numbers count from 0 in the order of the text.
 pub fn prepare(alloc: Global, q: &Query) -> Result<Prepared, PrepareFault>
     ensures same { IfOk result (λ prepared. condition_of prepared ≡ condition q.now.filter) }
+    ensures readable { IfOk result (λ _. AllByRecursion CanBeRead (patterns_of (condition q.now.filter))) }
     ensures refused { IfErr result (IsRefusal 0 (patterns_of (condition q.now.filter))) }
 {
     let mut nth = 0;

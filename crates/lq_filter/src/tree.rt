@@ -1,9 +1,10 @@
 ghost use Rattle.std.specs.Prelude.{◌≡◌, ◌+◌, ◌-ℤ◌, ◌&&◌, ℕ, List, [], ◌∷◌, pos, int_le, int_lt, length, map};
 ghost use Rattle.std.specs.Prelude.{IfOk, IfErr, IfSome, IsOk};
+ghost use Rattle.std.specs.List.{AllByRecursion};
 ghost use Rattle.lq_ast.specs.Condition as is;
 ghost use Rattle.lq_ast.specs.Condition.{conditions};
 ghost use Rattle.lq_ast.specs.Holds.{all_hold, holds, is_within, some_holds};
-ghost use Rattle.lq_ast.specs.Patterns.{Pattern, patterns_among, patterns_of};
+ghost use Rattle.lq_ast.specs.Patterns.{CanBeRead, IsReadable, Pattern, patterns_among, patterns_of};
 ghost use Rattle.lq_ast.specs.View.{condition, groups_of};
 ghost use Rattle.lq_filter.specs.Labels.{groups_of as prepared_groups};
 ghost use Rattle.lq_filter.specs.Refusal.{IsRefusal};
@@ -38,6 +39,7 @@ impl Tree {
     pub(crate) fn new(alloc: Global, filter: &Filter, nth: &mut u32) -> Result<Tree, PrepareFault>
         ensures same { IfOk result (λ tree. condition_of_tree tree ≡ condition filter.now) }
         ensures counted { IsOk result → nth.new ≡ nth.old + length (patterns_of (condition filter.now)) }
+        ensures readable { IfOk result (λ _. AllByRecursion CanBeRead (patterns_of (condition filter.now))) }
         ensures refused { IfErr result (IsRefusal nth.old (patterns_of (condition filter.now))) }
     {
         match filter {
@@ -72,6 +74,7 @@ impl Tree {
 fn negated(alloc: Global, filter: &Filter, nth: &mut u32) -> Result<Tree, PrepareFault>
     ensures same { IfOk result (λ tree. condition_of_tree tree ≡ is.negated (condition filter.now)) }
     ensures counted { IsOk result → nth.new ≡ nth.old + length (patterns_of (condition filter.now)) }
+    ensures readable { IfOk result (λ _. AllByRecursion CanBeRead (patterns_of (condition filter.now))) }
     ensures refused { IfErr result (IsRefusal nth.old (patterns_of (condition filter.now))) }
 {
     let tree = Tree::new(alloc, filter, nth)?;
@@ -83,6 +86,7 @@ fn all_of(alloc: Global, filters: &[Filter], nth: &mut u32) -> Result<Tree, Prep
     ensures same { IfOk result (λ tree. condition_of_tree tree ≡ is.all_of (conditions (map condition filters.now))) }
     ensures counted { IsOk result →
         nth.new ≡ nth.old + length (patterns_among (conditions (map condition filters.now))) }
+    ensures readable { IfOk result (λ _. AllByRecursion CanBeRead (patterns_among (conditions (map condition filters.now)))) }
     ensures refused { IfErr result (IsRefusal nth.old (patterns_among (conditions (map condition filters.now)))) }
 {
     let trees = trees(alloc, filters, nth)?;
@@ -94,6 +98,7 @@ fn any_of(alloc: Global, filters: &[Filter], nth: &mut u32) -> Result<Tree, Prep
     ensures same { IfOk result (λ tree. condition_of_tree tree ≡ is.any_of (conditions (map condition filters.now))) }
     ensures counted { IsOk result →
         nth.new ≡ nth.old + length (patterns_among (conditions (map condition filters.now))) }
+    ensures readable { IfOk result (λ _. AllByRecursion CanBeRead (patterns_among (conditions (map condition filters.now)))) }
     ensures refused { IfErr result (IsRefusal nth.old (patterns_among (conditions (map condition filters.now)))) }
 {
     let trees = trees(alloc, filters, nth)?;
@@ -105,6 +110,7 @@ fn trees(alloc: Global, filters: &[Filter], nth: &mut u32) -> Result<Vec<Tree>, 
     ensures same { IfOk result (λ trees. map condition_of_tree trees.items ≡ map condition filters.now) }
     ensures counted { IsOk result →
         nth.new ≡ nth.old + length (patterns_among (conditions (map condition filters.now))) }
+    ensures readable { IfOk result (λ _. AllByRecursion CanBeRead (patterns_among (conditions (map condition filters.now)))) }
     ensures refused { IfErr result (IsRefusal nth.old (patterns_among (conditions (map condition filters.now)))) }
 {
     let mut trees = Vec::new(alloc);
@@ -135,6 +141,7 @@ fn of_pattern(
 ) -> Result<Tree, PrepareFault>
     ensures same { IfOk result (λ tree. condition_of_tree tree ≡ is.pattern field.now pattern.now) }
     ensures counted { IsOk result → nth.new ≡ nth.old + 1 }
+    ensures readable { IfOk result (λ _. IsReadable pattern.now) }
     ensures refused { IfErr result (IsRefusal nth.old ((pattern.now, pattern.now) ∷ [])) }
 {
     let field = forms::pattern(alloc, field, pattern, nth)?;
@@ -144,6 +151,7 @@ fn of_pattern(
 fn of_selector(alloc: Global, select: &Select, nth: &mut u32) -> Result<Tree, PrepareFault>
     ensures same { IfOk result (λ tree. condition_of_tree tree ≡ is.selected (groups_of select.now)) }
     ensures counted { IsOk result → nth.new ≡ nth.old + length (patterns_of (is.selected (groups_of select.now))) }
+    ensures readable { IfOk result (λ _. AllByRecursion CanBeRead (patterns_of (is.selected (groups_of select.now)))) }
     ensures refused { IfErr result (IsRefusal nth.old (patterns_of (is.selected (groups_of select.now)))) }
 {
     let selector = Selector::new(alloc, select, nth)?;
@@ -242,7 +250,7 @@ fn some_holds<'p>(
     Ok(false)
 }
 
-// Whether the row is not older than so many nanoseconds, and not of the future.
+// Whether the row is younger than so many nanoseconds, and not of the future.
 fn is_recent(now: i64, span: i64, row: &Row) -> bool
     ensures { result ≡ (int_lt (now -ℤ span) (pos row.now.moment) && int_le (pos row.now.moment) now) }
 {

@@ -178,6 +178,29 @@ fn a_stream_is_not_selected_alone(rt: HostRuntime) -> Result<(), Fail> {
     Ok(())
 }
 
+fn selects_no_labels(alloc: Global, prepared: &Prepared) -> Result<bool, AllocError> {
+    let row = row_of(alloc, 0, "")?;
+    let select = selector(alloc, How::IsNot, "dev")?;
+    prepared.selects(alloc, &select, row.stream())
+}
+
+/// Whether the prepared selector selects the stream without labels.
+fn no_labels_are_selected(alloc: Global) -> Result<bool, AllocError> {
+    let query = Query {
+        filter: Filter::Select(selector(alloc, How::IsNot, "dev")?),
+    };
+    match prepare(alloc, &query) {
+        Ok(prepared) => selects_no_labels(alloc, &prepared),
+        Err(_) => Err(AllocError),
+    }
+}
+
+#[test]
+fn a_stream_without_labels_is_selected(rt: HostRuntime) -> Result<(), Fail> {
+    assert!(rt; no_labels_are_selected(rt.alloc())?);
+    Ok(())
+}
+
 fn pattern(alloc: Global, text: &str) -> Result<Filter, AllocError> {
     let field = Text::try_of(alloc, "v")?;
     let pattern = Text::try_of(alloc, text)?;

@@ -7,7 +7,7 @@ use Rattle.lq_ast.specs.declared.filter.Filter.TheVariants as form
 use Rattle.lq_ast.specs.Patterns.{patterns_of}
 use Rattle.lq_ast.specs.View.{condition}
 use Rattle.lq_filter.specs.Tree.{condition_of_tree}
-use Rattle.lq_filter.proofs.Refusals.{all_counted, handed_on, left_behind, map_one_more, refused_here}
+use Rattle.lq_filter.proofs.Refusals.{all_counted, all_readable, handed_on, left_behind, map_one_more, refused_here}
 use Rattle.lq_filter.proofs.Conditions.{patterns_among-list}
 use Rattle.lq_filter.proofs.tree.+preparing.Goals as goal
 
@@ -102,7 +102,7 @@ trees-loop-filter-preserved t c =
     c.loop-filter.filter-index (map condition_of_tree c.loop-filter.trees.items)
     c.loop-filter.nth c.loop-filter.invariant
     c.filter-item.result c.loop-filter-test.true c.filter-item.is (condition_of_tree c.in_ok-tree.tree) c.new.new.nth
-    c.in_ok-tree.ensures.same (c.in_ok-tree.ensures.counted refl) in
+    c.in_ok-tree.ensures.same (c.in_ok-tree.ensures.counted refl) c.in_ok-tree.ensures.readable in
     rw (map_one_more condition_of_tree c.loop-filter.trees.items c.push.new.self.items c.in_ok-tree.tree
     c.in_ok-push.ensures.items) behind
 
@@ -110,6 +110,14 @@ pub trees-returns-clause-counted : goal.trees-returns-clause-counted
 trees-returns-clause-counted t c = λ _.
     rw (patterns_among-list condition c.args.filters.now) at
     (all_counted condition (λ filter. patterns_of (condition filter))
+    c.args.filters.now c.args.nth.now c.loop-filter.filter-index
+    (map condition_of_tree c.loop-filter.trees.items) c.loop-filter.nth c.loop-filter.invariant
+    c.loop-filter-test.false)
+
+pub trees-returns-clause-readable : goal.trees-returns-clause-readable
+trees-returns-clause-readable t c =
+    rw (patterns_among-list condition c.args.filters.now) at
+    (all_readable condition (λ filter. patterns_of (condition filter))
     c.args.filters.now c.args.nth.now c.loop-filter.filter-index
     (map condition_of_tree c.loop-filter.trees.items) c.loop-filter.nth c.loop-filter.invariant
     c.loop-filter-test.false)
