@@ -4,6 +4,7 @@ pub mod HeldLemmas
 pub mod LineLemmas
 pub mod LoadLemmas
 pub mod PipeLemmas
+pub mod QueryLemmas
 pub mod ReportLemmas
 pub mod RunLemmas
 pub mod RefusalLemmas

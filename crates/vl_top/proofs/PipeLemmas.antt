@@ -1,7 +1,7 @@
 -- From the input to the answer.
-use Rattle.std.proofs.Common.{◌<◌, ◌≡◌, inl, inr, ℕ, pos, length, map, true, false, ◌≤◌, List, [], ◌++◌, flat_map, take, Option, All, refl, sym, ap, subst, ◌∙◌, arith}
+use Rattle.std.proofs.Common.{◌<◌, ◌≡◌, inl, inr, ℕ, pos, length, map, ◌≤◌, List, [], ◌++◌, flat_map, take, Option, All, refl, sym, ap, subst, ◌∙◌, arith}
 use Rattle.vl_io.specs.Bytes.{Appends}
-use Rattle.vl_io.specs.Change.{Change, Gave, IsCut, IsTold, IsUntold, Took}
+use Rattle.vl_io.specs.Change.{Change, Gave, IsCut, IsTold, Took}
 use Rattle.vl_io.specs.Lines.{is_feed}
 use Rattle.std.specs.Prelude.{count_by}
 use Rattle.std.proofs.lemmas.Bool.{le-ltb, lt-ltb}
@@ -10,14 +10,14 @@ use Rattle.log_model.specs.Core.{Contents, parts_of}
 use Rattle.log_model.specs.History.{AreInOrder, Numbered, rows_in, rows_of}
 use Rattle.log_model.specs.Row.{Row, record_of}
 use Rattle.lq_ast.specs.Condition.{Condition}
-use Rattle.lq_ast.specs.Evaluation.{Outcome, evaluate, many_rows, outcome_of, records, row_limit, rows_that_hold}
+use Rattle.lq_ast.specs.Evaluation.{evaluate, many_rows, outcome_of, records, row_limit, rows_that_hold}
 use Rattle.vl_top.specs.Answer.{FailsFor, held_in, lines_of}
 use Rattle.vl_top.specs.declared.answer.AnswerFault.{AnswerFault}
 use Rattle.vl_top.specs.declared.answer.AnswerFault.TheVariants as answers
 use Rattle.vl_top.specs.Groups.{batches_of, refusals_of}
 use Rattle.vl_top.specs.Program as model
 use Rattle.vl_top.specs.Program.{AreFew, IsAnswer, IsTakenIn, refused_text, stop_text, too_many_rows}
-use Rattle.vl_top.specs.Load.{IsLoaded, StopsLoad, StopsUntold}
+use Rattle.vl_top.specs.Load.{IsLoaded, StopsUntold}
 use Rattle.vl_top.specs.Interrupt.{interrupt_of, limit_of}
 use Rattle.vl_top.specs.Pipe.{EndsPipe, ReportsInterrupt, StopsPipe}
 use Rattle.vl_top.specs.Run.{IsAnswerCut, IsAnswered, IsStopped}

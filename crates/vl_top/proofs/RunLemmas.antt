@@ -1,5 +1,5 @@
 -- What a run that asks its query comes to, by its status.
-use Rattle.std.proofs.Common.{◌≡◌, ◌⊎◌, inl, inr, ℕ, List, Some, Option, arith, refl, sym, subst, ap}
+use Rattle.std.proofs.Common.{◌≡◌, ◌⊎◌, inl, inr, ℕ, List, Some, arith, refl, sym, subst, ap}
 use Rattle.vl_io.specs.Change.{HasFailed}
 use Rattle.vl_io.specs.Moments.{FirstTold}
 use Rattle.lq_ast.specs.Condition.{Condition}

@@ -13,7 +13,7 @@ returns-in-Ok-clause-run g c =
       done = search rules;
       refused = λ is. inr (overflown _ c.in-Some.text.now query asked c.in-Ok.ensures.read c.answer_query.result
           c.answer_query.ensures.ends (sym c.number-in-Ok.ensures ∙ is));
-      unspelled = search rules;
+      unasked = search rules;
       usage = search rules;
       said_usage = search rules;
       read_fault = search rules;
@@ -41,7 +41,7 @@ returns-in-Err-clause-run g c =
       done = search rules;
       refused = λ is. inl (refused_early run c.in-Some.text.now asked (refl, refl) c.in-Err.refused c.report_refused.result
           c.in-Err.ensures.refused c.report_refused.ensures (sym c.number-in-Err.ensures ∙ is));
-      unspelled = search rules;
+      unasked = search rules;
       usage = search rules;
       said_usage = search rules;
       read_fault = search rules;
