@@ -86,7 +86,8 @@ fn all_of(alloc: Global, filters: &[Filter], nth: &mut u32) -> Result<Tree, Prep
     ensures same { IfOk result (λ tree. condition_of_tree tree ≡ is.all_of (conditions (map condition filters.now))) }
     ensures counted { IsOk result →
         nth.new ≡ nth.old + length (patterns_among (conditions (map condition filters.now))) }
-    ensures readable { IfOk result (λ _. AllByRecursion CanBeRead (patterns_among (conditions (map condition filters.now)))) }
+    ensures readable { IfOk result
+        (λ _. AllByRecursion CanBeRead (patterns_among (conditions (map condition filters.now)))) }
     ensures refused { IfErr result (IsRefusal nth.old (patterns_among (conditions (map condition filters.now)))) }
 {
     let trees = trees(alloc, filters, nth)?;
@@ -98,7 +99,8 @@ fn any_of(alloc: Global, filters: &[Filter], nth: &mut u32) -> Result<Tree, Prep
     ensures same { IfOk result (λ tree. condition_of_tree tree ≡ is.any_of (conditions (map condition filters.now))) }
     ensures counted { IsOk result →
         nth.new ≡ nth.old + length (patterns_among (conditions (map condition filters.now))) }
-    ensures readable { IfOk result (λ _. AllByRecursion CanBeRead (patterns_among (conditions (map condition filters.now)))) }
+    ensures readable { IfOk result
+        (λ _. AllByRecursion CanBeRead (patterns_among (conditions (map condition filters.now)))) }
     ensures refused { IfErr result (IsRefusal nth.old (patterns_among (conditions (map condition filters.now)))) }
 {
     let trees = trees(alloc, filters, nth)?;
@@ -110,7 +112,8 @@ fn trees(alloc: Global, filters: &[Filter], nth: &mut u32) -> Result<Vec<Tree>, 
     ensures same { IfOk result (λ trees. map condition_of_tree trees.items ≡ map condition filters.now) }
     ensures counted { IsOk result →
         nth.new ≡ nth.old + length (patterns_among (conditions (map condition filters.now))) }
-    ensures readable { IfOk result (λ _. AllByRecursion CanBeRead (patterns_among (conditions (map condition filters.now)))) }
+    ensures readable { IfOk result
+        (λ _. AllByRecursion CanBeRead (patterns_among (conditions (map condition filters.now)))) }
     ensures refused { IfErr result (IsRefusal nth.old (patterns_among (conditions (map condition filters.now)))) }
 {
     let mut trees = Vec::new(alloc);

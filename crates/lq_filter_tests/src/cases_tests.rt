@@ -2,7 +2,7 @@
 use lq_ast::{Filter, Group, How, LabelTest, Query, Select};
 use lq_filter::{Prepared, prepare};
 use std::alloc::{AllocError, Global};
-use vl_row::{FieldList, Row, Text};
+use vl_row::{FieldList, Items, Row, Text};
 
 /// A line of the table: the columns that say a filter, and the value.
 #[derive(Clone, Copy)]
@@ -105,8 +105,12 @@ impl<'l> Case<'l> {
         let text = Text::try_of(alloc, self.first)?;
         labels.push(LabelTest { name, how, text })?;
         let mut groups = Vec::new(alloc);
-        groups.push(Group { labels })?;
-        Ok(Filter::Select(Select { groups }))
+        groups.push(Group {
+            labels: Items::of(labels),
+        })?;
+        Ok(Filter::Select(Select {
+            groups: Items::of(groups),
+        }))
     }
 
     fn field_filter(&self, alloc: Global, form: &str) -> Result<Filter, AllocError> {

@@ -116,16 +116,22 @@ fn no_group_selects_all(rt: HostRuntime) -> Result<(), Fail> {
 
 /// `app!=a, app=~TEXT`
 fn group_of_two(alloc: Global, text: &str) -> Result<Group, AllocError> {
-    let mut group = group_of(alloc, label(alloc, How::IsNot, "a")?)?;
-    group.labels.push(label(alloc, How::Matches, text)?)?;
-    Ok(group)
+    let mut labels = Vec::new(alloc);
+    labels.push(label(alloc, How::IsNot, "a")?)?;
+    labels.push(label(alloc, How::Matches, text)?)?;
+    Ok(Group {
+        labels: Items::of(labels),
+    })
 }
 
 /// `{app=b or app!=a, app=~TEXT}`
 fn two_groups(alloc: Global, text: &str) -> Result<Select, AllocError> {
-    let mut select = selector(alloc, How::Is, "b")?;
-    select.groups.push(group_of_two(alloc, text)?)?;
-    Ok(select)
+    let mut groups = Vec::new(alloc);
+    groups.push(group_of(alloc, label(alloc, How::Is, "b")?)?)?;
+    groups.push(group_of_two(alloc, text)?)?;
+    Ok(Select {
+        groups: Items::of(groups),
+    })
 }
 
 fn of_two_groups(alloc: Global) -> Result<Filter, AllocError> {
