@@ -1,0 +1,4 @@
+pub mod Framing
+pub mod Framer
+pub mod Reading
+pub mod Spans
