@@ -53,8 +53,8 @@ IsFeedFault (Cut at) fed piece old new = ⊥
 IsFeedFault (Ended first at) fed piece old new = ⊥
 IsFeedFault Memory fed piece old new = new ≡ old
 
--- The input ended behind these bytes: what is left of them is the last message.
-pub record Ends (framer : Framing) (fed : List ℕ) (old new : List (List ℕ)) : Type 0 where
+-- The input ended: what is left is the last message.
+pub record Ends (framer : Framing) (old new : List (List ℕ)) : Type 0 where
   pub no_length : begins_length framer.rest ≡ false
   pub given : new ≡ old ++ unless_empty framer.rest
 

@@ -38,7 +38,7 @@ pub record IsLine (line : List ℕ) : Type 0 where
   pub each : IsTrue (list_all is_no_feed line)
 
 pub record IsCounted (digits message : List ℕ) : Type 0 where
-  pub digits : AreLengthDigits digits
+  pub are_digits : AreLengthDigits digits
   pub value : length_of digits ≡ length message
   pub few : length message ≤ frame_limit
 
