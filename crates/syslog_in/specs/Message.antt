@@ -77,7 +77,7 @@ header_source h =
 
 -- the quotation mark, the backslash and the bracket, before which a backslash stands for nothing
 abbrev pub is_special : ℕ → Bool
-is_special byte = (byte == 34) || ((byte == 92) || (byte == 93))
+is_special byte = (byte == 34) || (byte == 92) || (byte == 93)
 
 -- A byte, a special one behind a backslash, or a backslash before a byte that is not special.
 pub data Character : Type 0 where

@@ -72,8 +72,10 @@ impl Frames {
         let start = self.bytes.len();
         self.bytes.extend_from_slice(text)?;
         let end = self.bytes.len();
-        self.spans.push(FrameSpan { start, end })?;
-        Ok(())
+        match self.spans.push(FrameSpan { start, end }) {
+            Ok(()) => Ok(()),
+            Err(_) => Err(AllocError),
+        }
     }
 
     /// Keeps the first texts, so many of them.
