@@ -1,5 +1,5 @@
 //! The frame that bytes begin with.
-ghost use Rattle.std.specs.Prelude.{◌≡◌, ◌<◌, ◌≤◌, length, take};
+ghost use Rattle.std.specs.Prelude.{◌≡◌, ◌≤◌, length, IfSome};
 ghost use Rattle.syslog_in.specs.Framing.{begins_length, without_return};
 ghost use Rattle.syslog_in.specs.Reading.{line_len, length_at, counted_at, line_at, step_at, step_of};
 
@@ -24,7 +24,8 @@ pub(crate) enum Scan<'a> {
 /// How many digits the bytes begin with, and what they say. Nothing if that is beyond the limit of a frame.
 #[tactic(auto, unfolding(crate::specs::Reading::length_at))]
 pub(crate) fn length_at(bytes: &[u8]) -> Option<(usize, usize)>
-    ensures { result ≡ length_at bytes.now }
+    ensures value { result ≡ length_at bytes.now }
+    ensures bound { IfSome result (λ x. x.0 ≤ length bytes.now) }
 {
     let mut value = 0;
     for (digits, byte) in bytes.iter().enumerate() {
