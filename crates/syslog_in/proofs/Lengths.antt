@@ -33,7 +33,7 @@ all_read bytes len number h within stop =
     let here = prefix_len_is is_ascii_digit bytes len 0 within h.each stop in
     rw (here, ← h.value, le-ltb frame_limit number h.few) refl
 
-digits_reach : (bytes : List ℕ) (len : ℕ) → len ≤ length bytes
+pub digits_reach : (bytes : List ℕ) (len : ℕ) → len ≤ length bytes
     → ((k : ℕ) → k < len → is_ascii_digit (get_or bytes k 0) ≡ true) → len ≤ digits_len bytes
 digits_reach bytes len within each =
     elim (cases_lt (digits_len bytes) len) [

@@ -1,3 +1,6 @@
 pub mod Finding
 pub mod Texts
+pub mod Runs
 pub mod Lengths
+pub mod Steps
+pub mod Stops
