@@ -4,3 +4,5 @@ pub mod Runs
 pub mod Lengths
 pub mod Steps
 pub mod Stops
+pub mod Streams
+pub mod Pieces
