@@ -6,3 +6,4 @@ pub mod Steps
 pub mod Stops
 pub mod Streams
 pub mod Pieces
+pub mod Framers
