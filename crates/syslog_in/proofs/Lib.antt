@@ -7,3 +7,4 @@ pub mod Stops
 pub mod Streams
 pub mod Pieces
 pub mod Framers
+pub mod Standing

@@ -25,13 +25,19 @@ fn is_visible(byte: u8) -> bool
     byte.is_ascii_graphic()
 }
 
+fn are_visible(bytes: &[u8]) -> bool
+    ensures { result ≡ list_all is_visible bytes.now }
+{
+    bytes.iter().all(|byte| is_visible(*byte))
+}
+
 /// The bytes as a text, if they are visible ones.
 pub(crate) fn visible(bytes: &[u8]) -> Option<&str>
     ensures some { IfSome result (λ text. text.now ≡ bytes.now) }
     ensures visible { IfSome result (λ _. IsTrue (list_all is_visible bytes.now)) }
     ensures none { IfNone result (IsFalse (list_all is_visible bytes.now)) }
 {
-    if !bytes.iter().all(|byte| is_visible(*byte)) {
+    if !are_visible(bytes) {
         return None;
     }
     match std::str::from_utf8(bytes) {
@@ -50,8 +56,11 @@ pub(crate) fn name(text: &[u8], most: usize) -> Result<(&str, &[u8]), usize>
     ensures left { IfErr result (λ left. left ≡ length text.now) }
 {
     let (part, rest) = cut(text);
+    if part.is_empty() || part.len() > most {
+        return Err(text.len());
+    }
     match visible(part) {
-        Some(name) if !part.is_empty() && part.len() <= most => Ok((name, rest)),
-        _ => Err(text.len()),
+        Some(name) => Ok((name, rest)),
+        None => Err(text.len()),
     }
 }
