@@ -8,3 +8,5 @@ pub mod Streams
 pub mod Pieces
 pub mod Framers
 pub mod Standing
+pub mod Timestamps
+pub mod Priorities

@@ -1,6 +1,6 @@
 -- Reading a message from left to right.
 use Rattle.std.specs.Prelude.{◌≡◌, ℕ, Bool, not, ◌&&◌, ◌||◌, ◌==◌, nat_le, List, [], ◌∷◌, ◌++◌, length, take, drop}
-use Rattle.std.specs.Prelude.{Option, Some, None, if◌then◌else◌}
+use Rattle.std.specs.Prelude.{Option, Some, None, ◌-◌, nat_lt, slice_index, if◌then◌else◌}
 use Rattle.std.specs.List.{prefix_len}
 use Rattle.syslog_in.specs.Message.{is_special, is_name_byte}
 
@@ -45,3 +45,23 @@ value_at (byte ∷ next ∷ rest) =
     else (if byte == 92
     then (if is_special next then put (next ∷ []) (value_at rest) else put (92 ∷ []) (value_at (next ∷ rest)))
     else put (byte ∷ []) (value_at (next ∷ rest))))
+
+-- ---- timestamps
+
+-- `Z` is the last byte
+abbrev pub ends_with_zulu : List ℕ → Bool
+ends_with_zulu text = nat_le 1 (length text) && (slice_index text (length text - 1) == 90)
+
+abbrev pub is_sign : ℕ → Bool
+is_sign byte = (byte == 43) || (byte == 45)
+
+-- a sign is the sixth from the end
+abbrev pub ends_with_hours : List ℕ → Bool
+ends_with_hours text = nat_le 6 (length text) && is_sign (slice_index text (length text - 6))
+
+abbrev pub ends_with_offset : List ℕ → Bool
+ends_with_offset text = ends_with_zulu text || ends_with_hours text
+
+-- `T` stands between date and time, and an offset at the end
+abbrev pub has_form : List ℕ → Bool
+has_form text = nat_lt 10 (length text) && ((slice_index text 10 == 84) && ends_with_offset text)

@@ -5,3 +5,5 @@ pub mod Spans
 pub mod Message
 pub mod Parts
 pub mod DataReading
+pub mod HeaderReading
+pub mod NamesRead

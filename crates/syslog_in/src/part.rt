@@ -4,6 +4,7 @@ ghost use Rattle.std.specs.Option.{option_map};
 ghost use Rattle.std.specs.List.{list_all};
 ghost use Rattle.syslog_in.specs.Message.{is_visible, IsName};
 ghost use Rattle.syslog_in.specs.DataReading.{first_part, behind_part};
+ghost use Rattle.syslog_in.specs.HeaderReading.{past};
 ghost use Rattle.syslog_in.specs.Parts.{Stands};
 
 use memchr::memchr;
@@ -16,6 +17,16 @@ pub(crate) fn cut(text: &[u8]) -> (&[u8], &[u8])
     match memchr(b' ', text) {
         Some(end) => (&text[..end], &text[end + 1..]),
         None => (text, &text[text.len()..]),
+    }
+}
+
+/// What follows the byte, if the bytes begin with it.
+pub(crate) fn past(bytes: &[u8], byte: u8) -> Option<&[u8]>
+    ensures { option_map (λ rest. rest.now) result ≡ past byte bytes.now }
+{
+    match bytes {
+        [first, rest @ ..] if *first == byte => Some(rest),
+        _ => None,
     }
 }
 
