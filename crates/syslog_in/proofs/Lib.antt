@@ -10,3 +10,4 @@ pub mod Framers
 pub mod Standing
 pub mod Timestamps
 pub mod Priorities
+pub mod NamesRead
