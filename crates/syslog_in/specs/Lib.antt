@@ -7,3 +7,4 @@ pub mod Parts
 pub mod DataReading
 pub mod HeaderReading
 pub mod NamesRead
+pub mod Endings

@@ -1,12 +1,18 @@
 //! Structured data, whose parameters become fields (RFC 5424, section 6.3).
-ghost use Rattle.std.specs.Prelude.{◌≡◌, ◌<◌, ◌≤◌, ◌++◌, ◌∷◌, [], IfOk, IfErr, IfSome, IfNone, List, ℕ, length};
+ghost use Rattle.std.specs.Prelude.{◌≡◌, ◌<◌, ◌≤◌, ◌++◌, ◌∷◌, IfOk, OnOk, length, string_bytes};
 ghost use Rattle.std.specs.Option.{option_map};
 ghost use Rattle.std.specs.List.{prefix_len};
 ghost use Rattle.std.specs.Str.Lossy.{utf8_lossy};
 ghost use Rattle.log_model.specs.Field.{set_field};
-ghost use Rattle.syslog_in.specs.Message.{is_name_byte};
-ghost use Rattle.syslog_in.specs.DataReading.{name_len, name_at, is_plain, value_at, put};
+ghost use Rattle.syslog_in.specs.Message.{is_name_byte, is_special, data_fields};
+ghost use Rattle.syslog_in.specs.DataReading.{name_len, name_at, is_plain, escaped_text, value_at, ending_at, GivesValue};
+ghost use Rattle.syslog_in.specs.DataReading.{FindsOne, FindsAny, SpellsParam, param_fields, SpellsElement};
+ghost use Rattle.syslog_in.specs.DataReading.{element_fields, SpellsElements, SpellsParameters, SpellsData, SpellsParams};
+ghost use Rattle.syslog_in.specs.DataReading.{params_fields};
+ghost use Rattle.syslog_in.specs.HeaderReading.{past};
+ghost use Rattle.syslog_in.specs.Endings.{ending_of};
 
+use crate::part::past;
 use memchr::memchr3;
 use std::alloc::{AllocError, Global};
 use vl_row::FieldList;
@@ -26,6 +32,7 @@ pub(crate) fn set_bytes(
     fields: &mut FieldList,
 ) -> Result<(), AllocError>
     requires { 0 < length name.now }
+    ensures { OnOk result (fields.new ≡ set_field fields.old name.now (utf8_lossy value.now)) }
 {
     if let Ok(text) = std::str::from_utf8(value) {
         return fields.set(alloc, name, text);
@@ -47,7 +54,9 @@ fn name_len(text: &[u8]) -> usize
 }
 
 /// The name at the start, and what follows it.
+#[tactic(auto, unfolding(crate::specs::DataReading::name_at))]
 fn name_at(text: &[u8]) -> Option<(&str, &[u8])>
+    ensures { option_map (λ x. (x.0.now, x.1.now)) result ≡ name_at text.now }
 {
     let len = name_len(text);
     if len == 0 || len > 32 {
@@ -55,7 +64,7 @@ fn name_at(text: &[u8]) -> Option<(&str, &[u8])>
     }
     match std::str::from_utf8(&text[..len]) {
         Ok(name) => Some((name, &text[len..])),
-        Err(_) => None,
+        Err(_) => unreachable!(),
     }
 }
 
@@ -69,38 +78,75 @@ fn plain_len(text: &[u8]) -> usize
     }
 }
 
+/// What ends a run of such bytes.
+#[derive(Clone, Copy)]
+enum RunEnd<'a> {
+    /// The quotation mark, and what follows it.
+    Quote(&'a [u8]),
+    /// A backslash, the byte behind it, and what follows both.
+    Escape(u8, &'a [u8]),
+    /// What may not stand in a value.
+    Nothing,
+}
+
+fn run_end(text: &[u8]) -> RunEnd<'_>
+    ensures { ending_of result ≡ ending_at text.now }
+{
+    match text {
+        [b'"', rest @ ..] => RunEnd::Quote(rest),
+        [b'\\', byte, rest @ ..] => RunEnd::Escape(*byte, rest),
+        _ => RunEnd::Nothing,
+    }
+}
+
+fn is_special(byte: u8) -> bool
+    ensures { result ≡ is_special byte }
+{
+    matches!(byte, b'"' | b'\\' | b']')
+}
+
+/// Appends what a backslash and this byte say.
+fn push_escaped(byte: u8, out: &mut Vec<u8>) -> Result<(), AllocError>
+    ensures { OnOk result (out.new.items ≡ out.old.items ++ escaped_text byte) }
+{
+    if !is_special(byte) {
+        out.push(b'\\')?;
+    }
+    out.push(byte)?;
+    Ok(())
+}
+
 /// Appends the value behind its opening quotation mark, and gives what follows the closing one.
 fn value<'a>(text: &'a [u8], out: &mut Vec<u8>) -> Result<Option<&'a [u8]>, AllocError>
+    ensures { IfOk result (λ found. GivesValue (value_at text.now) out.old.items out.new.items
+        (option_map (λ rest. rest.now) found)) }
 {
     let mut rest = text;
     'runs: loop {
-        let len = plain_len(rest);
-        out.extend_from_slice(&rest[..len])?;
-        match &rest[len..] {
-            [b'"', after @ ..] => return Ok(Some(after)),
-            [b'\\', byte @ (b'"' | b'\\' | b']'), after @ ..] => {
-                out.push(*byte)?;
-                rest = after;
+        let (run, after) = rest.split_at(plain_len(rest));
+        out.extend_from_slice(run)?;
+        match run_end(after) {
+            RunEnd::Quote(end) => return Ok(Some(end)),
+            RunEnd::Escape(byte, next) => {
+                push_escaped(byte, out)?;
+                rest = next;
             }
-            [b'\\', after @ ..] => {
-                out.push(b'\\')?;
-                rest = after;
-            }
-            _ => return Ok(None),
+            RunEnd::Nothing => return Ok(None),
         }
     }
 }
 
-/// What follows `="`.
-fn past_quote(text: &[u8]) -> Option<&[u8]>
+/// Puts a field's name together.
+fn join(id: &str, name: &str, out: &mut String) -> Result<(), AllocError>
+    ensures { OnOk result (string_bytes out.new ≡ id.now ++ 46 ∷ name.now) }
 {
-    match text {
-        [b'=', b'"', inside @ ..] => Some(inside),
-        _ => None,
-    }
+    out.clear();
+    out.push_str(id)?;
+    out.push_str(".")?;
+    out.push_str(name)
 }
 
-/// Sets the field of the parameter at the start, and gives what follows it.
+/// Sets the field of the parameter behind a blank, and gives what follows it.
 fn set_param<'a>(
     alloc: Global,
     id: &str,
@@ -108,23 +154,52 @@ fn set_param<'a>(
     room: &mut Room,
     fields: &mut FieldList,
 ) -> Result<Option<&'a [u8]>, AllocError>
+    ensures one { IfOk result (λ found. FindsOne (SpellsParam text.now) (param_fields id.now) fields.old fields.new
+        (option_map (λ rest. rest.now) found)) }
+    ensures any { IfOk result (λ found. FindsAny (SpellsParam text.now) (param_fields id.now) fields.old fields.new
+        (option_map (λ rest. rest.now) found)) }
 {
     let Some((name, rest)) = name_at(text) else {
         return Ok(None);
     };
-    let Some(inside) = past_quote(rest) else {
+    let Some(quoted) = past(rest, b'=') else {
+        return Ok(None);
+    };
+    let Some(inside) = past(quoted, b'"') else {
         return Ok(None);
     };
     room.value.clear();
     let Some(after) = value(inside, &mut room.value)? else {
         return Ok(None);
     };
-    room.name.clear();
-    room.name.push_str(id)?;
-    room.name.push_str(".")?;
-    room.name.push_str(name)?;
+    join(id, name, &mut room.name)?;
     set_bytes(alloc, room.name.as_str(), &room.value, fields)?;
     Ok(Some(after))
+}
+
+/// Sets the fields of the parameters of an element, and gives what follows the closing bracket.
+fn set_params<'a>(
+    alloc: Global,
+    id: &str,
+    text: &'a [u8],
+    room: &mut Room,
+    fields: &mut FieldList,
+) -> Result<Option<&'a [u8]>, AllocError>
+    ensures one { IfOk result (λ found. FindsOne (SpellsParams text.now) (params_fields id.now) fields.old fields.new
+        (option_map (λ rest. rest.now) found)) }
+    ensures any { IfOk result (λ found. FindsAny (SpellsParams text.now) (params_fields id.now) fields.old fields.new
+        (option_map (λ rest. rest.now) found)) }
+{
+    let mut rest = text;
+    'params: loop {
+        let Some(param) = past(rest, b' ') else {
+            return Ok(past(rest, b']'));
+        };
+        match set_param(alloc, id, param, room, fields)? {
+            Some(after) => rest = after,
+            None => return Ok(None),
+        }
+    }
 }
 
 /// Sets the fields of the element behind its opening bracket, and gives what follows the closing one.
@@ -134,38 +209,37 @@ fn set_element<'a>(
     room: &mut Room,
     fields: &mut FieldList,
 ) -> Result<Option<&'a [u8]>, AllocError>
+    ensures one { IfOk result (λ found. FindsOne (SpellsElement text.now) element_fields fields.old fields.new
+        (option_map (λ rest. rest.now) found)) }
+    ensures any { IfOk result (λ found. FindsAny (SpellsElement text.now) element_fields fields.old fields.new
+        (option_map (λ rest. rest.now) found)) }
 {
-    let Some((id, mut rest)) = name_at(text) else {
-        return Ok(None);
-    };
-    'params: loop {
-        match rest {
-            [b']', after @ ..] => return Ok(Some(after)),
-            [b' ', param @ ..] => match set_param(alloc, id, param, room, fields)? {
-                Some(after) => rest = after,
-                None => return Ok(None),
-            },
-            _ => return Ok(None),
-        }
+    match name_at(text) {
+        Some((id, rest)) => set_params(alloc, id, rest, room, fields),
+        None => Ok(None),
     }
 }
 
-/// Sets the fields of all elements, of which the first is behind its opening bracket.
+/// Sets the fields of all elements, of which the first is behind its opening bracket, and gives what follows them.
 fn set_elements<'a>(
     alloc: Global,
     text: &'a [u8],
     room: &mut Room,
     fields: &mut FieldList,
 ) -> Result<Option<&'a [u8]>, AllocError>
+    ensures one { IfOk result (λ found. FindsOne (SpellsElements text.now) data_fields fields.old fields.new
+        (option_map (λ rest. rest.now) found)) }
+    ensures any { IfOk result (λ found. FindsAny (SpellsElements text.now) data_fields fields.old fields.new
+        (option_map (λ rest. rest.now) found)) }
 {
     let mut inside = text;
     'elements: loop {
         let Some(rest) = set_element(alloc, inside, room, fields)? else {
             return Ok(None);
         };
-        match rest {
-            [b'[', next @ ..] => inside = next,
-            _ => return Ok(Some(rest)),
+        match past(rest, b'[') {
+            Some(next) => inside = next,
+            None => return Ok(Some(rest)),
         }
     }
 }
@@ -176,18 +250,19 @@ fn set_parameters<'a>(
     text: &'a [u8],
     fields: &mut FieldList,
 ) -> Result<Option<&'a [u8]>, AllocError>
+    ensures one { IfOk result (λ found. FindsOne (SpellsParameters text.now) data_fields fields.old fields.new
+        (option_map (λ rest. rest.now) found)) }
+    ensures any { IfOk result (λ found. FindsAny (SpellsParameters text.now) data_fields fields.old fields.new
+        (option_map (λ rest. rest.now) found)) }
 {
-    match text {
-        [b'-', rest @ ..] => Ok(Some(rest)),
-        [b'[', inside @ ..] => {
-            let mut room = Room {
-                name: String::new(alloc),
-                value: Vec::new(alloc),
-            };
-            set_elements(alloc, inside, &mut room, fields)
-        }
-        _ => Ok(None),
-    }
+    let Some(inside) = past(text, b'[') else {
+        return Ok(past(text, b'-'));
+    };
+    let mut room = Room {
+        name: String::new(alloc),
+        value: Vec::new(alloc),
+    };
+    set_elements(alloc, inside, &mut room, fields)
 }
 
 /// Sets the fields of structured data that goes up to a blank or the end, and gives what follows it.
@@ -196,12 +271,16 @@ pub(crate) fn set_data<'a>(
     text: &'a [u8],
     fields: &mut FieldList,
 ) -> Result<Option<&'a [u8]>, AllocError>
+    ensures one { IfOk result (λ found. FindsOne (SpellsData text.now) data_fields fields.old fields.new
+        (option_map (λ rest. rest.now) found)) }
+    ensures any { IfOk result (λ found. FindsAny (SpellsData text.now) data_fields fields.old fields.new
+        (option_map (λ rest. rest.now) found)) }
 {
     let Some(rest) = set_parameters(alloc, text, fields)? else {
         return Ok(None);
     };
-    match rest {
-        [] | [b' ', ..] => Ok(Some(rest)),
-        _ => Ok(None),
+    if rest.is_empty() || past(rest, b' ').is_some() {
+        return Ok(Some(rest));
     }
+    Ok(None)
 }
