@@ -11,3 +11,4 @@ pub mod Standing
 pub mod Timestamps
 pub mod Priorities
 pub mod NamesRead
+pub mod Values
