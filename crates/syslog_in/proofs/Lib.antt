@@ -12,3 +12,5 @@ pub mod Timestamps
 pub mod Priorities
 pub mod NamesRead
 pub mod Values
+pub mod Params
+pub mod Elements

@@ -181,7 +181,7 @@ pub record SpellsValue (bytes text rest : List ℕ) : Type 0 where
   pub spelled : bytes ≡ value_source value ++ rest
   pub text_is : text ≡ flat_map character_text value
 
-abbrev pair : List ℕ → List ℕ → List ℕ × List ℕ
+abbrev pub pair : List ℕ → List ℕ → List ℕ × List ℕ
 pair a b = (a, b)
 
 put_some : (front : List ℕ) (o : Found) (text rest : List ℕ) → put front o ≡ found_of text rest
