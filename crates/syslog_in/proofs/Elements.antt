@@ -3,7 +3,7 @@ use Rattle.std.proofs.Common.{◌≡◌, ℕ, ◌+◌, ◌<◌, Bool, true, fals
 use Rattle.std.proofs.Common.{Option, Some, None, refl, sym, ap, subst, arith, ◌∙◌, inl, inr, ◌⊎◌}
 use Rattle.std.specs.Prelude.{flat_map}
 use Rattle.std.specs.List.{AllByRecursion}
-use Rattle.std.proofs.lemmas.Bool.{cases_Bool, eqb-true, eqb-false}
+use Rattle.std.proofs.lemmas.Bool.{eqb-true, false≢true}
 use Rattle.std.proofs.lemmas.Grind.{flat_map-append}
 use Rattle.std.proofs.lemmas.List.{append_assoc, append-nil, length-append, map-append}
 use Rattle.std.proofs.lemmas.List.Sums.{fold-append}
@@ -14,7 +14,7 @@ use Rattle.log_model.specs.Field.{Field, set_field, set_all}
 use Rattle.syslog_in.specs.Message.{Param, IsParam, param_source, param_field, Element, IsElement, element_source, data_source}
 use Rattle.syslog_in.specs.Message.{data_fields, IsDataName}
 use Rattle.syslog_in.specs.DataReading.{FindsOne, FindsAny, SpellsParam, SpellsParams, param_fields, params_fields, SpellsElement}
-use Rattle.syslog_in.specs.DataReading.{element_fields, SpellsElements, SpellsParameters, SpellsData, IsNoBracket, Ends, name_at}
+use Rattle.syslog_in.specs.DataReading.{element_fields, SpellsElements, SpellsParameters, SpellsData, IsNoBracket, is_end, name_at}
 use Rattle.syslog_in.specs.HeaderReading.{past}
 use Rattle.syslog_in.proofs.Priorities.{past_some, past_again}
 use Rattle.syslog_in.proofs.Params.{found, name_takes, name_again}
@@ -139,9 +139,6 @@ module _ (id text rest : List ℕ) (old new : List Field) (h : ParamsSoFar id te
       omega (arith, ap length rest_is, ap length spelled, length-append (param_source one.0) after)
 
 -- ---- elements
-
-no_name_byte : 32 ≡ 93 → ⊥
-no_name_byte e = omega arith
 
 -- the id of an element, and the parameters behind it
 element_reads : (text rest : List ℕ) (element : Element) → SpellsElement text element rest
@@ -330,13 +327,13 @@ module _ (text inside : List ℕ) (old new : List Field) (h : ElementsSoFar text
       → FindsAny (SpellsElements text) data_fields old next (Some rest)
   end_any rest next bracket any = λ all end spells.
       let left = others_left rest next any all end spells in
-      last left.0 left.1 left.3
+      last all end left.0 left.1 left.3
     where
-      last : {all : List Element} {end : List ℕ} (others : List Element) → rest ≡ flat_map element_source others ++ end
+      last : (all : List Element) (end : List ℕ) (others : List Element) → rest ≡ flat_map element_source others ++ end
           → set_all old (data_fields all) ≡ set_all next (data_fields others)
           → (Some rest ≡ Some end) × (next ≡ set_all old (data_fields all))
-      last [] is set = (ap Some is, sym set)
-      last (e ∷ others) is set = absurd (none-some _ (bracket ∙ ap (past 91) is ∙ past_again 91 _))
+      last all end [] is set = (ap Some is, sym set)
+      last all end (e ∷ others) is set = absurd (none-some _ (bracket ∙ ap (past 91) is ∙ past_again 91 _))
 
   pub stuck_elements : (next : List Field) → FindsAny (SpellsElement inside) element_fields new next None
       → FindsAny (SpellsElements text) data_fields old next None
@@ -359,3 +356,79 @@ module _ (text inside : List ℕ) (old new : List Field) (h : ElementsSoFar text
         id,
         length-append (flat_map param_source one.0.params) (93 ∷ []),
       )
+
+-- ---- structured data
+
+brackets : (inside : List ℕ) (elements : List Element) (rest : List ℕ) → SpellsElements inside elements rest
+    → flat_map element_source elements ≡ data_source elements
+brackets inside [] rest h = absurd (first_none rest h.spelled h.no_more)
+  where
+    first_none : (bytes : List ℕ) → 91 ∷ inside ≡ bytes → IsNoBracket bytes → ⊥
+    first_none [] e b = cc
+    first_none (byte ∷ more) e b = b (sym (ap (λ (t : List ℕ). get_or t 0 0) e))
+brackets inside (e ∷ elements) rest h = refl
+
+module _ (text : List ℕ) (old : List Field) where
+  pub nil_one : (found_end : Option (List ℕ)) → found_end ≡ past 45 text
+      → FindsOne (SpellsParameters text) data_fields old old found_end
+  nil_one None is = tt
+  nil_one (Some rest) is = ([], record { are_elements = tt; spelled = past_some 45 text rest (sym is) }, refl)
+
+  pub nil_any : (found_end : Option (List ℕ)) → None ≡ past 91 text → found_end ≡ past 45 text
+      → FindsAny (SpellsData text) data_fields old old found_end
+  nil_any found_end none is = λ elements rest spells. by_elements elements rest spells.spelled
+    where
+      by_elements : (elements : List Element) (rest : List ℕ) → text ≡ data_source elements ++ rest
+          → (found_end ≡ Some rest) × (old ≡ set_all old (data_fields elements))
+      by_elements [] rest spelled = (is ∙ ap (past 45) spelled ∙ past_again 45 rest, refl)
+      by_elements (e ∷ elements) rest spelled =
+          absurd (none-some _ (none ∙ ap (past 91) spelled ∙ past_again 91 _))
+
+  pub data_one : (inside : List ℕ) (new : List Field) (found_end : Option (List ℕ)) → Some inside ≡ past 91 text
+      → FindsOne (SpellsElements inside) data_fields old new found_end
+      → FindsOne (SpellsParameters text) data_fields old new found_end
+  data_one inside new None bracket one = tt
+  data_one inside new (Some rest) bracket one = (
+    one.0,
+    record {
+      are_elements = one.1.are_elements;
+      spelled = past_some 91 text inside (sym bracket) ∙ one.1.spelled
+          ∙ ap (λ (t : List ℕ). t ++ rest) (brackets inside one.0 rest one.1);
+    },
+    one.2,
+  )
+
+  pub data_any : (inside : List ℕ) (new : List Field) (found_end : Option (List ℕ)) → Some inside ≡ past 91 text
+      → FindsAny (SpellsElements inside) data_fields old new found_end
+      → FindsAny (SpellsData text) data_fields old new found_end
+  data_any inside new found_end bracket any = λ elements rest spells.
+      let text_is = past_some 91 text inside (sym bracket) in
+      by_elements elements rest spells (sym text_is ∙ spells.spelled)
+    where
+      no_bracket : (rest : List ℕ) → is_end rest ≡ true → IsNoBracket rest
+      no_bracket [] e = tt
+      no_bracket (byte ∷ bytes) e = λ is. absurd (omega (arith, eqb-true byte 32 e, is))
+      by_elements : (elements : List Element) (rest : List ℕ) → SpellsData text elements rest
+          → 91 ∷ inside ≡ data_source elements ++ rest
+          → (found_end ≡ Some rest) × (new ≡ set_all old (data_fields elements))
+      by_elements [] rest spells spelled =
+          absurd (let wrong = ap (λ (t : List ℕ). get_or t 0 0) spelled in omega arith)
+      by_elements (e ∷ elements) rest spells spelled =
+          any (e ∷ elements) rest (record {
+            are_elements = spells.are_elements;
+            spelled = spelled;
+            no_more = no_bracket rest spells.ends;
+          })
+
+  pub whole_one : (new : List Field) (rest : List ℕ) → is_end rest ≡ true
+      → FindsOne (SpellsParameters text) data_fields old new (Some rest)
+      → FindsOne (SpellsData text) data_fields old new (Some rest)
+  whole_one new rest ends one =
+      (one.0, record { are_elements = one.1.are_elements; spelled = one.1.spelled; ends = ends }, one.2)
+
+  pub no_end_any : (new : List Field) (rest : List ℕ) → is_end rest ≡ false
+      → FindsAny (SpellsData text) data_fields old new (Some rest)
+      → FindsAny (SpellsData text) data_fields old new None
+  no_end_any new rest no_end any = λ elements end spells.
+      let same = some_is rest end (any elements end spells).0 in
+      absurd (false≢true (sym (sym (ap is_end same) ∙ no_end) ∙ spells.ends))

@@ -2,10 +2,10 @@
 use Rattle.std.proofs.Common.{◌≡◌, ℕ, List, [], ◌∷◌, ◌++◌, length, refl, sym, ap, subst, ◌∙◌, Result, Ok, Err}
 use Rattle.std.specs.Prelude.{IfErr}
 use Rattle.std.specs.Result.{IsErrAnd}
-use Rattle.syslog_in.specs.Message.{IsName}
+use Rattle.syslog_in.specs.Message.{IsName, NameTexts}
 use Rattle.syslog_in.specs.Parts.{Part, hostname, app_name, proc_id, msg_id, IsPart, names, Stands, AreParts}
 use Rattle.syslog_in.specs.DataReading.{first_part, behind_part}
-use Rattle.syslog_in.specs.HeaderReading.{NameTexts, IsNamed, AreNames, LacksNameIn}
+use Rattle.syslog_in.specs.HeaderReading.{IsNamed, AreNames, LacksNameIn}
 use Rattle.syslog_in.proofs.Standing.{stands_only, visible_no_blanks}
 
 -- a name that stands, as the part that it is

@@ -1,5 +1,5 @@
 -- Reading a message from left to right.
-use Rattle.std.specs.Prelude.{◌≡◌, ℕ, Bool, true, false, flat_map, map, IfSome, not, ◌&&◌, ◌||◌, ◌==◌, nat_le, List, [], ◌∷◌, ◌++◌, length, take, drop}
+use Rattle.std.specs.Prelude.{◌≡◌, ℕ, Bool, true, false, flat_map, map, IfSome, IsTrue, not, ◌&&◌, ◌||◌, ◌==◌, nat_le, List, [], ◌∷◌, ◌++◌, length, take, drop}
 use Rattle.std.specs.Prelude.{Option, Some, None, ◌-◌, nat_lt, slice_index, if◌then◌else◌}
 use Rattle.std.specs.List.{prefix_len, AllByRecursion}
 use Rattle.log_model.specs.Field.{Field, set_all}
@@ -122,20 +122,21 @@ pub record SpellsElements (text : List ℕ) (elements : List Element) (rest : Li
   pub spelled : 91 ∷ text ≡ flat_map element_source elements ++ rest
   pub no_more : IsNoBracket rest
 
--- a blank or the end
-abbrev pub Ends : List ℕ → Type 0
-Ends [] = Unit {0}
-Ends (byte ∷ bytes) = byte ≡ 32
-
+-- structured data, or a part of it
 pub record SpellsParameters (text : List ℕ) (elements : List Element) (rest : List ℕ) : Type 0 where
   pub are_elements : AllByRecursion IsElement elements
   pub spelled : text ≡ data_source elements ++ rest
-  pub no_more : IsNoBracket rest
 
+-- a blank or the end
+abbrev pub is_end : List ℕ → Bool
+is_end [] = true
+is_end (byte ∷ bytes) = byte == 32
+
+-- structured data up to a blank or the end
 pub record SpellsData (text : List ℕ) (elements : List Element) (rest : List ℕ) : Type 0 where
   pub are_elements : AllByRecursion IsElement elements
   pub spelled : text ≡ data_source elements ++ rest
-  pub ends : Ends rest
+  pub ends : IsTrue (is_end rest)
 
 -- ---- timestamps
 

@@ -2,16 +2,9 @@
 use Rattle.std.specs.Prelude.{◌≡◌, ℕ, Bool, not, ◌&&◌, ◌||◌, ◌==◌, nat_le, List, [], ◌∷◌, ◌++◌, length, drop}
 use Rattle.std.specs.Prelude.{slice_index, Option, Some, None, ℤ, if◌then◌else◌}
 use Rattle.syslog_in.specs.Reading.{length_at}
-use Rattle.syslog_in.specs.Message.{IsName}
+use Rattle.syslog_in.specs.Message.{IsName, NameTexts}
 use Rattle.syslog_in.specs.Parts.{Part, IsPart, names, Stands, AreParts, BeginsWithPri, version}
 use Rattle.syslog_in.specs.Message.{IsTime}
-
--- HOSTNAME, APP-NAME, PROCID and MSGID
-pub record NameTexts : Type 0 where
-  pub hostname : List ℕ
-  pub app_name : List ℕ
-  pub proc_id : List ℕ
-  pub msg_id : List ℕ
 
 -- this name and no other
 abbrev pub IsNamed : ℕ → List ℕ → List ℕ → Type 0
@@ -77,3 +70,10 @@ behind_mark (Some inside) = with_digits inside (length_at inside)
 -- the number of PRI, and what follows it
 unfoldable pub priority_at : List ℕ → Option (ℕ × List ℕ)
 priority_at text = behind_mark (past 60 text)
+
+-- ---- MSG
+
+-- what follows structured data, without the blank
+abbrev pub msg_at : List ℕ → Option (List ℕ)
+msg_at [] = None
+msg_at (byte ∷ msg) = Some msg

@@ -49,29 +49,40 @@ pub record IsName (most : ℕ) (text : List ℕ) : Type 0 where
   pub few : length text ≤ most
   pub visible : IsTrue (list_all is_visible text)
 
-pub record Header : Type 0 where
-  pub priority_text : List ℕ
-  pub priority : ℕ
-  pub time_text : List ℕ
-  pub time : Option ℤ
+-- HOSTNAME, APP-NAME, PROCID and MSGID
+pub record NameTexts : Type 0 where
   pub hostname : List ℕ
   pub app_name : List ℕ
   pub proc_id : List ℕ
   pub msg_id : List ℕ
 
+pub record AreNameTexts (names : NameTexts) : Type 0 where
+  pub hostname : IsName 255 names.hostname
+  pub app_name : IsName 48 names.app_name
+  pub proc_id : IsName 128 names.proc_id
+  pub msg_id : IsName 32 names.msg_id
+
+pub record Header : Type 0 where
+  pub priority_text : List ℕ
+  pub priority : ℕ
+  pub time_text : List ℕ
+  pub time : Option ℤ
+  pub names : NameTexts
+
 pub record IsHeader (header : Header) : Type 0 where
   pub priority : IsPriority header.priority_text header.priority
   pub time : IsTime header.time_text header.time
-  pub hostname : IsName 255 header.hostname
-  pub app_name : IsName 48 header.app_name
-  pub proc_id : IsName 128 header.proc_id
-  pub msg_id : IsName 32 header.msg_id
+  pub names : AreNameTexts header.names
 
--- PRI VERSION SP TIMESTAMP SP HOSTNAME SP APP-NAME SP PROCID SP MSGID, and a blank
-abbrev pub header_source : Header → List ℕ
-header_source h =
-    (60 ∷ (h.priority_text ++ (62 ∷ 49 ∷ 32 ∷ []))) ++ ((h.time_text ++ 32 ∷ []) ++ ((h.hostname ++ 32 ∷ [])
-    ++ ((h.app_name ++ 32 ∷ []) ++ ((h.proc_id ++ 32 ∷ []) ++ (h.msg_id ++ 32 ∷ [])))))
+-- HOSTNAME SP APP-NAME SP PROCID SP MSGID SP, and what follows
+abbrev pub names_source : NameTexts → List ℕ → List ℕ
+names_source names rest =
+    names.hostname ++ 32 ∷ (names.app_name ++ 32 ∷ (names.proc_id ++ 32 ∷ (names.msg_id ++ 32 ∷ rest)))
+
+-- PRI VERSION SP TIMESTAMP SP and the names, and what follows
+abbrev pub header_source : Header → List ℕ → List ℕ
+header_source header rest =
+    60 ∷ (header.priority_text ++ 62 ∷ 49 ∷ 32 ∷ (header.time_text ++ 32 ∷ names_source header.names rest))
 
 -- ---- structured data (section 6.3)
 
@@ -157,9 +168,9 @@ begins_with_mark msg = (slice_index msg 0 == 239) && ((slice_index msg 1 == 187)
 abbrev pub without_mark : List ℕ → List ℕ
 without_mark msg = if begins_with_mark msg then drop 3 msg else msg
 
-abbrev pub msg_text : Option (List ℕ) → List ℕ
-msg_text None = []
-msg_text (Some msg) = utf8_lossy (without_mark msg)
+abbrev pub msg_bytes : Option (List ℕ) → List ℕ
+msg_bytes None = []
+msg_bytes (Some msg) = without_mark msg
 
 abbrev pub unless_nil : List ℕ → List ℕ
 unless_nil text = if bytes_eq text nil then [] else text
@@ -169,16 +180,17 @@ unless_nil text = if bytes_eq text nil then [] else text
 abbrev pub named : List ℕ → List ℕ → Field
 named name value = (name, value)
 
-abbrev pub header_fields : Header → List Field
-header_fields h =
-    named (codes "app_name") (unless_nil h.app_name)
-    ∷ named (codes "facility") (decimal (h.priority / 8))
+-- The facility is what the priority has eights, and the severity what is left.
+abbrev pub header_fields : ℕ → NameTexts → List Field
+header_fields priority names =
+    named (codes "app_name") (unless_nil names.app_name)
+    ∷ named (codes "facility") (decimal (priority / 8))
     ∷ named (codes "format") (codes "rfc5424")
-    ∷ named (codes "hostname") (unless_nil h.hostname)
-    ∷ named (codes "msg_id") (unless_nil h.msg_id)
-    ∷ named (codes "priority") (decimal h.priority)
-    ∷ named (codes "proc_id") (unless_nil h.proc_id)
-    ∷ named (codes "severity") (decimal (h.priority % 8))
+    ∷ named (codes "hostname") (unless_nil names.hostname)
+    ∷ named (codes "msg_id") (unless_nil names.msg_id)
+    ∷ named (codes "priority") (decimal priority)
+    ∷ named (codes "proc_id") (unless_nil names.proc_id)
+    ∷ named (codes "severity") (decimal (priority % 8))
     ∷ []
 
 -- ID.NAME and the value, with U+FFFD for what is no UTF-8
@@ -188,6 +200,14 @@ param_field id param = named (id ++ 46 ∷ param.name) (utf8_lossy (flat_map cha
 abbrev pub data_fields : List Element → List Field
 data_fields elements = flat_map (λ element. map (param_field element.id) element.params) elements
 
+-- with U+FFFD for what is no UTF-8
+abbrev pub msg_field : Option (List ℕ) → Field
+msg_field msg = named (codes "_msg") (utf8_lossy (msg_bytes msg))
+
+abbrev pub message_fields : Header → List Element → Option (List ℕ) → List Field
+message_fields header elements msg =
+    header_fields header.priority header.names ++ (data_fields elements ++ msg_field msg ∷ [])
+
 -- The bytes are a message with this moment, if it has one, and these fields. Later ones of one name count.
 pub record IsMessage (bytes : List ℕ) (time : Option ℤ) (fields : List Field) : Type 0 where
   pub header : Header
@@ -195,7 +215,6 @@ pub record IsMessage (bytes : List ℕ) (time : Option ℤ) (fields : List Field
   pub msg : Option (List ℕ)
   pub is_header : IsHeader header
   pub are_elements : AllByRecursion IsElement elements
-  pub spelled : bytes ≡ header_source header ++ (data_source elements ++ msg_source msg)
+  pub spelled : bytes ≡ header_source header (data_source elements ++ msg_source msg)
   pub time_is : time ≡ header.time
-  pub fields_are :
-      fields ≡ set_all [] (header_fields header ++ (data_fields elements ++ named (codes "_msg") (msg_text msg) ∷ []))
+  pub fields_are : fields ≡ set_all [] (message_fields header elements msg)

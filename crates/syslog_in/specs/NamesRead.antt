@@ -1,5 +1,5 @@
 -- The names that the code hands on.
-use Rattle.syslog_in.specs.HeaderReading.{NameTexts}
+use Rattle.syslog_in.specs.Message.{NameTexts}
 use Rattle.syslog_in.specs.declared.header.Names.{Names}
 
 abbrev pub texts_of : Names → NameTexts

@@ -8,7 +8,7 @@ ghost use Rattle.syslog_in.specs.Message.{is_name_byte, is_special, data_fields}
 ghost use Rattle.syslog_in.specs.DataReading.{name_len, name_at, is_plain, escaped_text, value_at, ending_at, GivesValue};
 ghost use Rattle.syslog_in.specs.DataReading.{FindsOne, FindsAny, SpellsParam, param_fields, SpellsElement};
 ghost use Rattle.syslog_in.specs.DataReading.{element_fields, SpellsElements, SpellsParameters, SpellsData, SpellsParams};
-ghost use Rattle.syslog_in.specs.DataReading.{params_fields};
+ghost use Rattle.syslog_in.specs.DataReading.{params_fields, is_end};
 ghost use Rattle.syslog_in.specs.HeaderReading.{past};
 ghost use Rattle.syslog_in.specs.Endings.{ending_of};
 
@@ -252,7 +252,7 @@ fn set_parameters<'a>(
 ) -> Result<Option<&'a [u8]>, AllocError>
     ensures one { IfOk result (λ found. FindsOne (SpellsParameters text.now) data_fields fields.old fields.new
         (option_map (λ rest. rest.now) found)) }
-    ensures any { IfOk result (λ found. FindsAny (SpellsParameters text.now) data_fields fields.old fields.new
+    ensures any { IfOk result (λ found. FindsAny (SpellsData text.now) data_fields fields.old fields.new
         (option_map (λ rest. rest.now) found)) }
 {
     let Some(inside) = past(text, b'[') else {
@@ -263,6 +263,12 @@ fn set_parameters<'a>(
         value: Vec::new(alloc),
     };
     set_elements(alloc, inside, &mut room, fields)
+}
+
+fn is_end(rest: &[u8]) -> bool
+    ensures { result ≡ is_end rest.now }
+{
+    matches!(rest, [] | [b' ', ..])
 }
 
 /// Sets the fields of structured data that goes up to a blank or the end, and gives what follows it.
@@ -279,8 +285,8 @@ pub(crate) fn set_data<'a>(
     let Some(rest) = set_parameters(alloc, text, fields)? else {
         return Ok(None);
     };
-    if rest.is_empty() || past(rest, b' ').is_some() {
-        return Ok(Some(rest));
+    if !is_end(rest) {
+        return Ok(None);
     }
-    Ok(None)
+    Ok(Some(rest))
 }

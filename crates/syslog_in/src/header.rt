@@ -1,12 +1,13 @@
 //! The header of a message (RFC 5424, section 6.2).
 ghost use Rattle.std.specs.Prelude.{◌≡◌, IfOk, IfErr, IfSome, IfNone, List, ℕ, ℤ, Option, ◌≤◌, ◌↔◌, IsTrue, length};
 ghost use Rattle.std.specs.Option.{option_map};
-ghost use Rattle.syslog_in.specs.Message.{IsTime, IsTimestamp, nil};
-ghost use Rattle.syslog_in.specs.Parts.{IsPart, Stands, version, timestamp};
+ghost use Rattle.syslog_in.specs.Message.{NameTexts, IsTime, IsTimestamp, nil};
+ghost use Rattle.syslog_in.specs.Parts.{IsMessageFault, IsPart, Stands, version, timestamp};
 ghost use Rattle.syslog_in.specs.DataReading.{behind_part, has_form, ends_with_offset};
-ghost use Rattle.syslog_in.specs.HeaderReading.{NameTexts, AreNames, LacksNameIn, is_priority, priority_at};
+ghost use Rattle.syslog_in.specs.HeaderReading.{AreNames, HeaderAt, LacksNameIn, is_priority, priority_at};
 ghost use Rattle.syslog_in.specs.NamesRead.{texts_of};
 
+use crate::fault::MessageFault;
 use crate::part::{cut, name, past, visible};
 use crate::scan::length_at;
 use time_text::{TimeFault, read_moment};
@@ -18,6 +19,15 @@ pub(crate) struct Names<'a> {
     pub(crate) app_name: &'a str,
     pub(crate) proc_id: &'a str,
     pub(crate) msg_id: &'a str,
+}
+
+/// What a header says.
+#[derive(Clone, Copy)]
+pub(crate) struct Header<'a> {
+    pub(crate) priority: u8,
+    /// The moment, unless it is nil.
+    pub(crate) time: Option<i64>,
+    pub(crate) names: Names<'a>,
 }
 
 /// Whether so many digits, which say this number, are a number from 0 to 191 without zeros ahead.
@@ -134,4 +144,38 @@ pub(crate) fn read_names(text: &[u8]) -> Result<(Names<'_>, &[u8]), usize>
         msg_id,
     };
     Ok((names, rest))
+}
+
+/// The header of a message, and what stands behind it.
+pub(crate) fn read_header(m: &[u8]) -> Result<(Header<'_>, &[u8]), MessageFault>
+    ensures some { IfOk result (λ x. HeaderAt m.now x.0.priority x.0.time (texts_of x.0.names) x.1.now) }
+    ensures only { IfOk result (λ x. (priority : ℕ) (time : Option ℤ) (texts : NameTexts) (rest : List ℕ)
+        → HeaderAt m.now priority time texts rest → (priority ≡ x.0.priority) × (time ≡ x.0.time)
+        × (texts ≡ texts_of x.0.names) × (rest ≡ x.1.now)) }
+    ensures fault { IfErr result (λ fault. IsMessageFault fault m.now) }
+    ensures none { IfErr result (λ _. (priority : ℕ) (time : Option ℤ) (texts : NameTexts) (rest : List ℕ)
+        → HeaderAt m.now priority time texts rest → ⊥) }
+{
+    let Some((priority, rest)) = priority(m) else {
+        return Err(MessageFault::BadPri);
+    };
+    let Some(rest) = past_version(rest) else {
+        return Err(MessageFault::BadVersion);
+    };
+    let Some((time, rest)) = time(rest) else {
+        return Err(MessageFault::BadTime);
+    };
+    match read_names(rest) {
+        Ok((names, rest)) => {
+            let header = Header {
+                priority,
+                time,
+                names,
+            };
+            Ok((header, rest))
+        }
+        Err(left) => Err(MessageFault::BadHeader {
+            at: m.len() - left,
+        }),
+    }
 }

@@ -1,11 +1,16 @@
 //! From a message to its fields.
-ghost use Rattle.std.specs.Prelude.{◌≡◌, ◌≢◌, ◌<◌, ◌≤◌, ◌++◌, ◌∷◌, [], IfOk, IfErr, IfSome, IfNone, List, ℕ, length};
-ghost use Rattle.syslog_in.specs.Message.{IsMessage};
+ghost use Rattle.std.specs.Prelude.{◌≡◌, ◌≢◌, ℕ, ℤ, List, Option, IfOk, IfErr, OnOk, codes};
+ghost use Rattle.std.specs.Str.Lossy.{utf8_lossy};
+ghost use Rattle.log_model.specs.Field.{Field as Pair, set_all, set_field};
+ghost use Rattle.syslog_in.specs.Message.{IsMessage, header_fields, unless_nil};
+ghost use Rattle.syslog_in.specs.NamesRead.{texts_of};
+ghost use Rattle.syslog_in.specs.HeaderReading.{msg_at};
+ghost use Rattle.syslog_in.specs.Message.{msg_bytes};
 ghost use Rattle.syslog_in.specs.Parts.{IsMessageFault};
 
 use crate::data::{set_bytes, set_data};
 use crate::fault::MessageFault;
-use crate::header::{Names, past_version, priority, read_names, time};
+use crate::header::{Names, read_header};
 use itoa::Buffer;
 use std::alloc::{AllocError, Global};
 use vl_row::FieldList;
@@ -22,6 +27,7 @@ pub struct SyslogRow {
 
 /// The name, or nothing where it is nil.
 fn unless_nil(name: &str) -> &str
+    ensures { result.now ≡ unless_nil name.now }
 {
     if name == "-" { "" } else { name }
 }
@@ -33,6 +39,7 @@ fn set_header(
     names: &Names<'_>,
     fields: &mut FieldList,
 ) -> Result<(), AllocError>
+    ensures { OnOk result (fields.new ≡ set_all fields.old (header_fields priority (texts_of names.now))) }
 {
     let mut digits = Buffer::new();
     fields.set(alloc, "app_name", unless_nil(names.app_name))?;
@@ -45,44 +52,40 @@ fn set_header(
     fields.set(alloc, "severity", digits.format(priority % 8))
 }
 
-/// Sets the field of the message proper, which what follows structured data is.
-fn set_text(alloc: Global, rest: &[u8], fields: &mut FieldList) -> Result<(), AllocError>
+/// The message proper, of what follows structured data: without the blank, and without the mark of UTF-8.
+fn text_of(rest: &[u8]) -> &[u8]
+    ensures { result.now ≡ msg_bytes (msg_at rest.now) }
 {
     match rest {
-        [_, 0xef, 0xbb, 0xbf, text @ ..] => set_bytes(alloc, "_msg", text, fields),
-        [_, text @ ..] => set_bytes(alloc, "_msg", text, fields),
-        [] => Ok(()),
+        [_, 0xef, 0xbb, 0xbf, text @ ..] => text,
+        [_, text @ ..] => text,
+        [] => rest,
     }
 }
 
 /// The moment and the fields of a message (RFC 5424, section 6). Fields that are nil or empty are left out, and of
 /// parameters with one name the later counts. Bytes that are no UTF-8 become U+FFFD.
 pub fn read_message(alloc: Global, m: &[u8]) -> Result<SyslogRow, MessageFault>
+    ensures read { IfOk result (λ row. IsMessage m.now row.time row.fields) }
+    // Bytes are one message at most.
+    ensures only { IfOk result (λ row. (time : Option ℤ) (fields : List Pair) → IsMessage m.now time fields
+        → (time ≡ row.time) × (fields ≡ row.fields)) }
+    // What is refused is no message, unless memory ran out.
+    ensures none { IfErr result (λ fault. fault ≢ MessageFault.Memory
+        → (time : Option ℤ) (fields : List Pair) → IsMessage m.now time fields → ⊥) }
+    ensures fault { IfErr result (λ fault. IsMessageFault fault m.now) }
 {
-    let Some((priority, rest)) = priority(m) else {
-        return Err(MessageFault::BadPri);
-    };
-    let Some(rest) = past_version(rest) else {
-        return Err(MessageFault::BadVersion);
-    };
-    let Some((time, rest)) = time(rest) else {
-        return Err(MessageFault::BadTime);
-    };
-    let (names, rest) = match read_names(rest) {
-        Ok(found) => found,
-        Err(left) => {
-            return Err(MessageFault::BadHeader {
-                at: m.len() - left,
-            });
-        }
-    };
+    let (header, rest) = read_header(m)?;
     let mut fields = FieldList::with_room(alloc, ROOM)?;
-    set_header(alloc, priority, &names, &mut fields)?;
+    set_header(alloc, header.priority, &header.names, &mut fields)?;
     let Some(after) = set_data(alloc, rest, &mut fields)? else {
         return Err(MessageFault::BadData {
             at: m.len() - rest.len(),
         });
     };
-    set_text(alloc, after, &mut fields)?;
-    Ok(SyslogRow { time, fields })
+    set_bytes(alloc, "_msg", text_of(after), &mut fields)?;
+    Ok(SyslogRow {
+        time: header.time,
+        fields,
+    })
 }
