@@ -11,6 +11,7 @@ pub mod Standing
 pub mod Timestamps
 pub mod Priorities
 pub mod NamesRead
+pub mod Headers
 pub mod Values
 pub mod Params
 pub mod Elements

@@ -1,9 +1,10 @@
 -- Names that stand one behind another.
 use Rattle.std.proofs.Common.{◌≡◌, ℕ, List, [], ◌∷◌, ◌++◌, length, refl, sym, ap, subst, ◌∙◌, Result, Ok, Err}
 use Rattle.std.specs.Prelude.{IfErr}
+use Rattle.std.specs.List.{AllByRecursion}
 use Rattle.std.specs.Result.{IsErrAnd}
 use Rattle.syslog_in.specs.Message.{IsName, NameTexts}
-use Rattle.syslog_in.specs.Parts.{Part, hostname, app_name, proc_id, msg_id, IsPart, names, Stands, AreParts}
+use Rattle.syslog_in.specs.Parts.{Part, version, timestamp, hostname, app_name, proc_id, msg_id, IsPart, names, Stands, AreParts}
 use Rattle.syslog_in.specs.DataReading.{first_part, behind_part}
 use Rattle.syslog_in.specs.HeaderReading.{IsNamed, AreNames, LacksNameIn}
 use Rattle.syslog_in.proofs.Standing.{stands_only, visible_no_blanks}
@@ -129,3 +130,75 @@ names_only text texts others rest left h k =
         ∙ ap (λ (n : List ℕ). made others.hostname n texts.proc_id texts.msg_id) b
         ∙ ap (λ (n : List ℕ). made others.hostname others.app_name n texts.msg_id) c
         ∙ ap (λ (n : List ℕ). made others.hostname others.app_name others.proc_id n) d
+
+part_only : (most : ℕ) (text rest other : List ℕ) → Stands (IsName most) text rest → Stands (IsName most) text other
+    → rest ≡ other
+part_only most text rest other h k =
+    (stands_only (IsName most) text rest h (visible_no_blanks h.part h.is_so.visible)).1
+    ∙ sym (stands_only (IsName most) text other k (visible_no_blanks k.part k.is_so.visible)).1
+
+-- ---- where one is missing, they do not stand
+
+-- parts that stand in a text, as far as they are the first of the names
+names_from : (texts : NameTexts) (text rest : List ℕ) → AreNames text texts rest
+    → AreParts names text rest
+names_from texts text rest h = (
+  h.first,
+  as_name 255 text texts.hostname h.first h.hostname,
+  (
+    h.second,
+    as_name 48 h.first texts.app_name h.second h.app_name,
+    (
+      h.third,
+      as_name 128 h.second texts.proc_id h.third h.proc_id,
+      (rest, as_name 32 h.third texts.msg_id rest h.msg_id, refl),
+    ),
+  ),
+)
+
+is_name_part : Part → Type 0
+is_name_part version = ⊥
+is_name_part timestamp = ⊥
+is_name_part hostname = Unit {0}
+is_name_part app_name = Unit {0}
+is_name_part proc_id = Unit {0}
+is_name_part msg_id = Unit {0}
+
+-- a name stands in one way
+name_part_only : (part : Part) (text rest other : List ℕ) → is_name_part part → Stands (IsPart part) text rest
+    → Stands (IsPart part) text other → rest ≡ other
+unfolding is_name_part
+name_part_only version text rest other n h k = absurd n
+name_part_only timestamp text rest other n h k = absurd n
+name_part_only hostname text rest other n h k = part_only 255 text rest other h k
+name_part_only app_name text rest other n h k = part_only 48 text rest other h k
+name_part_only proc_id text rest other n h k = part_only 128 text rest other h k
+name_part_only msg_id text rest other n h k = part_only 32 text rest other h k
+
+are_name_parts : AllByRecursion is_name_part names
+unfolding is_name_part
+are_name_parts = (tt, (tt, (tt, (tt, tt))))
+
+-- where a list of names stands, none of them is missing behind those before it
+none_missing : (all before after : List Part) (part : Part) (text rest middle : List ℕ) → all ≡ before ++ part ∷ after
+    → AllByRecursion is_name_part all → AreParts all text rest → AreParts before text middle
+    → ((more : List ℕ) → Stands (IsPart part) middle more → ⊥) → ⊥
+none_missing [] [] after part text rest middle is each stand before_stand lacks = cc
+none_missing [] (b ∷ before) after part text rest middle is each stand before_stand lacks = cc
+none_missing (a ∷ all) [] after part text rest middle is each stand before_stand lacks =
+    let same : a ≡ part = cc in
+    lacks stand.0 (subst (λ (p : Part). Stands (IsPart p) middle stand.0) same
+    (subst (λ (t : List ℕ). Stands (IsPart a) t stand.0) before_stand stand.1))
+none_missing (a ∷ all) (b ∷ before) after part text rest middle is each stand before_stand lacks =
+    let head : a ≡ b = cc in
+    let tail : all ≡ before ++ part ∷ after = cc in
+    let first = subst (λ (p : Part). Stands (IsPart p) text before_stand.0) (sym head) before_stand.1 in
+    let same = name_part_only a text stand.0 before_stand.0 each.0 stand.1 first in
+    none_missing all before after part before_stand.0 rest middle tail each.1
+    (subst (λ (t : List ℕ). AreParts all t rest) same stand.2) before_stand.2 lacks
+
+pub names_missing : (text : List ℕ) (texts : NameTexts) (rest : List ℕ) (left : ℕ) → AreNames text texts rest
+    → LacksNameIn text left → ⊥
+names_missing text texts rest left stand h =
+    none_missing names h.before h.after h.part text rest h.rest h.is_name are_name_parts (names_from texts text rest stand)
+    h.parts h.lacks

@@ -37,7 +37,7 @@ numbers digits number = (digits, number)
 abbrev found_of : ℕ → ℕ → Option (ℕ × ℕ)
 found_of digits number = Some (numbers digits number)
 
-abbrev pair : ℕ → List ℕ → ℕ × List ℕ
+abbrev pub pair : ℕ → List ℕ → ℕ × List ℕ
 pair n rest = (n, rest)
 
 digits_some : (inside : List ℕ) (found : Option (ℕ × ℕ)) (x : ℕ × List ℕ) → with_digits inside found ≡ Some x
