@@ -12,6 +12,7 @@ pub mod Timestamps
 pub mod Priorities
 pub mod NamesRead
 pub mod Headers
+pub mod Messages
 pub mod Values
 pub mod Params
 pub mod Elements

@@ -140,7 +140,7 @@ part_only most text rest other h k =
 -- ---- where one is missing, they do not stand
 
 -- parts that stand in a text, as far as they are the first of the names
-names_from : (texts : NameTexts) (text rest : List ℕ) → AreNames text texts rest
+pub names_from : (texts : NameTexts) (text rest : List ℕ) → AreNames text texts rest
     → AreParts names text rest
 names_from texts text rest h = (
   h.first,
