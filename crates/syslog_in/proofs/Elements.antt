@@ -91,8 +91,7 @@ module _ (id text rest : List ℕ) (old new : List Field) (h : ParamsSoFar id te
         left = λ all end spells.
             let others = h.left all end spells in
             let first = first_param param others.0 end (subst (λ (t : List ℕ). SpellsParams t others.0 end) rest_is others.1) in
-            let same = any first.0 (flat_map param_source first.1 ++ 93 ∷ end) first.3 in
-            (
+            let same = any first.0 (flat_map param_source first.1 ++ 93 ∷ end) first.3 in (
               first.1,
               record { are_params = first.4; spelled = some_is after _ same.0 },
               others.2 ∙ ap (λ (ps : List Param). set_all new (params_fields id ps)) first.2
@@ -116,8 +115,7 @@ module _ (id text rest : List ℕ) (old new : List Field) (h : ParamsSoFar id te
       → FindsAny (SpellsParams text) (params_fields id) old new found_end
   last_any found_end none is = λ all end spells.
       let others = h.left all end spells in
-      let end_is = no_blank rest others.0 end none others.1 in
-      (
+      let end_is = no_blank rest others.0 end none others.1 in (
         is ∙ ap (past 93) end_is.1 ∙ past_again 93 end,
         sym (others.2 ∙ ap (λ (ps : List Param). set_all new (params_fields id ps)) end_is.0),
       )
@@ -146,8 +144,7 @@ element_reads : (text rest : List ℕ) (element : Element) → SpellsElement tex
 element_reads text rest element h =
     let is : text ≡ element.id ++ (flat_map param_source element.params ++ 93 ∷ rest) =
     ap (drop 1) h.spelled ∙ append_assoc element.id (flat_map param_source element.params ++ 93 ∷ []) rest
-    ∙ ap (λ (t : List ℕ). element.id ++ t) (append_assoc (flat_map param_source element.params) (93 ∷ []) rest) in
-    (
+    ∙ ap (λ (t : List ℕ). element.id ++ t) (append_assoc (flat_map param_source element.params) (93 ∷ []) rest) in (
       flat_map param_source element.params ++ 93 ∷ rest,
       ap name_at is ∙ named element.params,
       record { are_params = h.is_element.params; spelled = refl },
@@ -167,8 +164,7 @@ module _ (text : List ℕ) (old new : List Field) where
       → FindsOne (SpellsElement text) element_fields old new found_end
   element_one id rest None name one = tt
   element_one id rest (Some end) name one =
-      let is_name = name_takes text id rest (sym name) in
-      (
+      let is_name = name_takes text id rest (sym name) in (
         record { id = id; params = one.0 },
         record {
           is_element = record { id = is_name.0; params = one.1.are_params };
@@ -274,8 +270,7 @@ module _ (text inside : List ℕ) (old new : List Field) (h : ElementsSoFar text
   others_left rest next any all end spells =
       let left = h.left all end spells in
       let first = first_element inside left.0 end left.1 in
-      let same = any first.0 (flat_map element_source first.1 ++ end) first.3 in
-      (
+      let same = any first.0 (flat_map element_source first.1 ++ end) first.3 in (
         first.1,
         some_is rest _ same.0,
         first.4,
@@ -297,8 +292,7 @@ module _ (text inside : List ℕ) (old new : List Field) (h : ElementsSoFar text
             ∙ ap (λ (t : List ℕ). flat_map element_source (h.elements ++ one.0 ∷ []) ++ t) rest_is;
         set = set_one one.0 next one.2;
         left = λ all end spells.
-            let left = others_left rest next any all end spells in
-            (
+            let left = others_left rest next any all end spells in (
               left.0,
               record {
                 are_elements = left.2;
@@ -408,6 +402,7 @@ module _ (text : List ℕ) (old : List Field) where
       no_bracket : (rest : List ℕ) → is_end rest ≡ true → IsNoBracket rest
       no_bracket [] e = tt
       no_bracket (byte ∷ bytes) e = λ is. absurd (omega (arith, eqb-true byte 32 e, is))
+
       by_elements : (elements : List Element) (rest : List ℕ) → SpellsData text elements rest
           → 91 ∷ inside ≡ data_source elements ++ rest
           → (found_end ≡ Some rest) × (new ≡ set_all old (data_fields elements))

@@ -1,17 +1,23 @@
 -- What a framer has taken, and what is left of it.
-use Rattle.std.proofs.Common.{◌≡◌, ℕ, ◌+◌, ◌-◌, ◌≤◌, ◌<◌, true, false, ◌==◌, nat_lt, List, [], ◌∷◌, ◌++◌, length, take, drop, min}
+use Rattle.std.proofs.Common.{◌≡◌, ℕ, ◌+◌, ◌-◌, ◌≤◌, ◌<◌, true, false, ◌==◌, nat_lt, nat_le, ◌*◌, List, [], ◌∷◌, ◌++◌, length, take, drop, min}
 use Rattle.std.proofs.Common.{Option, Some, None, refl, sym, ap, subst, arith, ◌∙◌, inl, inr, ◌⊎◌, replicate}
-use Rattle.std.proofs.lemmas.Bool.{cases_Bool, ltb-true, ltb-false, eqb-true}
+use Rattle.std.specs.Char.{digit_value}
+use Rattle.std.proofs.lemmas.Bool.{cases_Bool, ltb-true, ltb-false, eqb-true, and_parts, leb-true, false≢true, cases_lt}
+use Rattle.std.proofs.lemmas.Bool.Decides.{nat_tests}
+use Rattle.std.proofs.lemmas.Int.Digits.{digits_value_more}
+use Rattle.std.proofs.lemmas.Str.Parse.{digits_value-take-le}
+use Rattle.time_text.proofs.DigitLemmas.{digit_value_is}
 use Rattle.std.proofs.lemmas.List.{take-append-drop, append_assoc, append-nil, length-append, length-take-le, length-replicate}
 use Rattle.std.proofs.lemmas.List.Sums.{prefix_len-le-length}
-use Rattle.syslog_in.specs.Framing.{frame_limit, Frame, counted, ended, begins_length, AreLengthDigits, length_of, AreFrames}
+use Rattle.syslog_in.specs.Framing.{frame_limit, Frame, counted, ended, IsFrame, source, message_of, begins_length, AreLengthDigits, length_of, AreFrames}
 use Rattle.syslog_in.specs.Framing.{BeginsWithNone, CanGoOn, HasBadLength, IsTooLong, BeginsWithFrames}
 use Rattle.syslog_in.specs.Framer.{Framing, HasTaken, Completes, place, place_in}
 use Rattle.syslog_in.specs.Reading.{Step, whole, short, bad_length, too_long, digits_len, number_at, counted_at, line_len, is_short}
 use Rattle.syslog_in.specs.Reading.{behind_blank, behind_digits, behind_line, line_at, step_at, why_step, Reads}
 use Rattle.syslog_in.specs.declared.reach.Stop.{Stop}
 use Rattle.syslog_in.specs.declared.reach.Why.TheVariants as reasons
-use Rattle.syslog_in.proofs.Steps.{within_or_beyond, digits_here, line_here}
+use Rattle.syslog_in.proofs.Steps.{within_or_beyond, digits_here, line_here, whole_takes, whole_again}
+use Rattle.syslog_in.proofs.Stops.{bad_takes, bad_again, bad_more, long_takes, long_again, long_more}
 use Rattle.syslog_in.proofs.Streams.{none_from_step, more_frames, frames_behind, no_frames, rest_fits}
 
 -- ---- what can go on
@@ -202,3 +208,71 @@ taken_more framer next fed piece old new rest stop h r why rest_is start_is end_
           ∙ ap (λ (t : List ℕ). place (length (fed ++ piece) - length t)) (sym rest_is);
       running = end_is;
     }
+
+-- ---- how much is kept
+
+-- one digit more makes ten times as much
+grows : (digits : List ℕ) (n low : ℕ) → n < length digits → low ≤ length_of (take n digits)
+    → low * 10 ≤ length_of (take (n + 1) digits)
+grows digits n low within least = omega (arith, digits_value_more 10 digits n within)
+
+first_counts : (digits : List ℕ) → begins_length digits ≡ true → 1 ≤ length_of (take 1 digits)
+first_counts [] h = absurd (false≢true h)
+first_counts (byte ∷ digits) h =
+    let parts = and_parts (nat_le 49 byte) (nat_le byte 57) h in
+    let low = leb-true 49 byte parts.0 in
+    let high = leb-true byte 57 parts.1 in
+    let value = digits_value_more 10 (byte ∷ digits) 0 (omega arith) in
+    let digit : digit_value byte ≡ byte - 48 = digit_value_is byte (grind (arith, nat_tests)) in
+    omega (arith, value, digit, low)
+
+digits_short : (digits : List ℕ) → AreLengthDigits digits → length_of digits ≤ frame_limit → length digits ≤ 5
+digits_short digits h few =
+    elim (cases_lt 5 (length digits)) [
+      | inl long ↦
+          let one = first_counts digits h.first in
+          let two = grows digits 1 1 (omega arith) one in
+          let three = grows digits 2 10 (omega arith) two in
+          let four = grows digits 3 100 (omega arith) three in
+          let five = grows digits 4 1000 (omega arith) four in
+          let six = grows digits 5 10_000 (omega arith) five in
+          absurd (omega (arith, six, digits_value-take-le 10 digits 6 (omega arith)))
+      | inr short_is ↦ short_is
+    ]
+
+pub kept_short : (rest : List ℕ) → CanGoOn rest → length rest ≤ 65_541
+kept_short rest h = by_frame h.frame h.is_frame (omega (arith, sym (length-append rest h.more) ∙ ap length h.spelled, h.some))
+  where
+    by_frame : (frame : Frame) → IsFrame frame → length rest < length (source frame) → length rest ≤ 65_541
+    by_frame (counted digits message) is less =
+        omega (
+          arith,
+          less,
+          length-append digits (32 ∷ message),
+          digits_short digits is.are_digits (omega (arith, is.value, is.few)),
+          is.few,
+        )
+    by_frame (ended line) is less = omega (arith, less, length-append line (10 ∷ []), is.few)
+
+-- what can go on is no frame and not at fault
+pub goes_on_again : (rest : List ℕ) → CanGoOn rest → step_at rest ≡ short
+goes_on_again rest h = by_step (step_at rest) refl
+  where
+    frame_is : step_at (rest ++ h.more) ≡ whole (message_of h.frame) []
+    frame_is = ap step_at (h.spelled ∙ sym (append-nil (source h.frame))) ∙ whole_again h.frame [] h.is_frame
+
+    by_step : (step : Step) → step_at rest ≡ step → step ≡ short
+    by_step short e = refl
+    by_step (whole message after) e =
+        let at = whole_takes rest message after e in
+        let longer = ap (λ (t : List ℕ). t ++ h.more) at.spelled ∙ append_assoc (source at.frame) after h.more in
+        let again = ap step_at longer ∙ whole_again at.frame (after ++ h.more) at.is_frame in
+        let same = sym again ∙ frame_is in
+        let none : after ++ h.more ≡ [] = cc in
+        absurd (omega (arith, ap length none, length-append after h.more, h.some))
+    by_step (bad_length at) e =
+        let bad = bad_again (rest ++ h.more) at (bad_more rest h.more at (bad_takes rest at e)) in
+        let wrong = sym bad ∙ frame_is in absurd cc
+    by_step too_long e =
+        let long = long_again (rest ++ h.more) (long_more rest h.more (long_takes rest e)) in
+        let wrong = sym long ∙ frame_is in absurd cc

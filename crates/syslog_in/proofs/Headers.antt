@@ -74,8 +74,7 @@ module _ (text first : List ℕ) (priority : ℕ) (pri : pri_of priority first �
   at_version : (p : ℕ) (time : Option ℤ) (texts : NameTexts) (rest : List ℕ) (h : HeaderAt text p time texts rest)
       → (p ≡ priority) × Stands (IsPart version) first h.second
   at_version p time texts rest h =
-      let same = pri_only text first h.first priority pri h.pri in
-      (
+      let same = pri_only text first h.first priority pri h.pri in (
         sym h.priority_is ∙ same.0,
         subst (λ (t : List ℕ). Stands (IsPart version) t h.second) same.1 h.is_version,
       )

@@ -52,8 +52,7 @@ names_spelled texts text rest h some =
     let two = named_source 48 texts.app_name h.first h.second h.app_name
     (some_source texts.proc_id h.third h.second three) in
     let one = named_source 255 texts.hostname text h.first h.hostname
-    (some_source texts.app_name h.second h.first two) in
-    (
+    (some_source texts.app_name h.second h.first two) in (
       one ∙ ap (λ (t : List ℕ). texts.hostname ++ 32 ∷ t) (two ∙ ap (λ (t : List ℕ). texts.app_name ++ 32 ∷ t)
           (three ∙ ap (λ (t : List ℕ). texts.proc_id ++ 32 ∷ t) four)),
       record {
@@ -79,8 +78,7 @@ header_spelled text priority time texts rest h some =
     let time_is = part_source (λ part. IsTime part time) h.second h.third h.is_time third in
     let version_is = part_source (IsPart version) h.first h.second h.is_version
     (some_source h.is_time.part h.third h.second time_is)
-    ∙ ap (λ (v : List ℕ). v ++ 32 ∷ h.second) h.is_version.is_so in
-    (
+    ∙ ap (λ (v : List ℕ). v ++ 32 ∷ h.second) h.is_version.is_so in (
       record {
         priority_text = h.pri.digits;
         priority = h.pri.priority;
@@ -278,8 +276,7 @@ module _ (text : List ℕ) (priority : ℕ) (time : Option ℤ) (texts : NameTex
       let got = any h.elements (msg_source h.msg)
       (subst (λ (t : List ℕ). SpellsData t h.elements (msg_source h.msg)) same.3 parts.1) in
       let after_is : after ≡ msg_source h.msg = some_is after (msg_source h.msg) got.0 in
-      let last : List ℕ → List Field → List Field = λ end set. set_field set (codes "_msg") (utf8_lossy (msg_bytes (msg_at end))) in
-      (
+      let last : List ℕ → List Field → List Field = λ end set. set_field set (codes "_msg") (utf8_lossy (msg_bytes (msg_at end))) in (
         h.time_is ∙ same.1,
         parts.2
             ∙ ap (λ (p : ℕ). fields_of p h.header.names h.elements (msg_source h.msg)) same.0

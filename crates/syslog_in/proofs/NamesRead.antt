@@ -116,8 +116,7 @@ names_only text texts others rest left h k =
     let k3 = named_only 128 k.second others.proc_id k.third k.proc_id in
     let three : h.third ≡ k.third = h3.1 ∙ ap behind_part two ∙ sym k3.1 in
     let h4 = named_only 32 h.third texts.msg_id rest h.msg_id in
-    let k4 = named_only 32 k.third others.msg_id left k.msg_id in
-    (
+    let k4 = named_only 32 k.third others.msg_id left k.msg_id in (
       same (h1.0 ∙ sym k1.0) (h2.0 ∙ ap first_part one ∙ sym k2.0) (h3.0 ∙ ap first_part two ∙ sym k3.0)
           (h4.0 ∙ ap first_part three ∙ sym k4.0),
       h4.1 ∙ ap behind_part three ∙ sym k4.1,

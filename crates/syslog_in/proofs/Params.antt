@@ -32,8 +32,7 @@ name_takes text name rest e =
     let front : take n text ≡ name = ap (λ (p : List ℕ × List ℕ). p.0) same in
     let back : drop n text ≡ rest = ap (λ (p : List ℕ × List ℕ). p.1) same in
     let count = length-take-le n text (prefix_len-le-length is_name_byte text) in
-    let long = ap length front in
-    (
+    let long = ap length front in (
       record {
         some = omega (arith, long, count, leb-true 1 n tests.0);
         few = omega (arith, long, count, leb-true n 32 tests.1);
@@ -103,8 +102,7 @@ module _ (id text : List ℕ) (old new : List Field) where
       let value_h = value_takes inside value after h.value_is in
       let rest_is = past_some 61 h.rest h.quoted (sym h.equals) in
       let quoted_is = past_some 34 h.quoted inside (sym h.quote) in
-      let param : Param = record { name = name; value = value_h.value } in
-      (
+      let param : Param = record { name = name; value = value_h.value } in (
         param,
         record {
           is_param = record { name = is_name.0; value = value_h.is_value };
@@ -128,8 +126,7 @@ module _ (id text : List ℕ) (old new : List Field) where
       let inside_is : inside ≡ reads.values =
       some_is inside reads.values (h.quote ∙ ap (past 34) quoted_is ∙ past_again 34 reads.values) in
       let values = some_is (pair value after) (pair (flat_map character_text param.value) rest)
-      (sym h.value_is ∙ ap value_at inside_is ∙ reads.value) in
-      (
+      (sym h.value_is ∙ ap value_at inside_is ∙ reads.value) in (
         ap Some (ap (λ (p : List ℕ × List ℕ). p.1) values),
         set ∙ ap (λ (n : List ℕ). fields_with old id n value) same
             ∙ ap (λ (v : List ℕ). fields_with old id param.name v) (ap (λ (p : List ℕ × List ℕ). p.0) values),

@@ -81,8 +81,7 @@ priority_takes text x e = marked (past 60 text) refl e
               let more = and_parts ((found.0 == 1) || not (slice_index inside 0 == 48)) (nat_le found.1 191) tests.1 in
               let some = leb-true 1 found.0 tests.0 in
               let digits = take (digits_len inside) inside in
-              let count = length-take-le (digits_len inside) inside (prefix_len-le-length is_ascii_digit inside) in
-              (
+              let count = length-take-le (digits_len inside) inside (prefix_len-le-length is_ascii_digit inside) in (
                 record {
                   digits = digits;
                   priority = found.1;

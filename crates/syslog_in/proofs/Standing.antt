@@ -34,8 +34,11 @@ name_bytes_visible (byte ∷ bytes) h =
 
 visible_no_blank : (byte : ℕ) → is_visible byte ≡ true → is_no_blank byte ≡ true
 visible_no_blank byte h =
-    not_from_false _ (ne_eqb byte 32 (λ is. absurd (omega (arith, leb-true 33 byte
-    (and_parts (nat_le 33 byte) (nat_le byte 126) h).0))))
+    not_from_false _ (ne_eqb byte 32 (λ is. absurd (omega (
+      arith,
+      leb-true 33 byte
+          (and_parts (nat_le 33 byte) (nat_le byte 126) h).0,
+    ))))
 
 pub visible_no_blanks : (bytes : List ℕ) → list_all is_visible bytes ≡ true → list_all is_no_blank bytes ≡ true
 visible_no_blanks [] h = refl

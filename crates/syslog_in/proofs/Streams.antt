@@ -96,8 +96,7 @@ unique (frame ∷ frames) (other ∷ others) rest left each all none none₂ e =
     let same = sym one ∙ ap step_at texts ∙ two in
     let message : message_of frame ≡ message_of other = cc in
     let behind : flat_map source frames ++ rest ≡ flat_map source others ++ left = cc in
-    let later = unique frames others rest left each.1 all.1 none none₂ behind in
-    (
+    let later = unique frames others rest left each.1 all.1 none none₂ behind in (
       ap (λ (ms : List (List ℕ)). unless_empty (message_of frame) ++ ms) later.0
           ∙ ap (λ (m : List ℕ). unless_empty m ++ messages_of others) message,
       later.1,

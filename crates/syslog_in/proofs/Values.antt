@@ -243,6 +243,7 @@ takes false (byte ∷ bytes) text rest e =
       spelled = ap (λ (c : ℕ). c ∷ bytes) q ∙ ap (λ (t : List ℕ). 34 ∷ t) same;
       text_is = sym none;
     }
+
     by_byte : (byte == 34 ≡ true) ⊎ (byte == 34 ≡ false) → (byte == 93 ≡ true) ⊎ (byte == 93 ≡ false)
         → (byte == 92 ≡ true) ⊎ (byte == 92 ≡ false) → value_from false (byte ∷ bytes) ≡ found_of text rest
         → (value_from true bytes ≡ found_of text rest → SpellsValue (92 ∷ bytes) text rest)

@@ -1,5 +1,6 @@
 //! From a stream of bytes to its messages.
-ghost use Rattle.std.specs.Prelude.{◌≡◌, ◌++◌, ℕ, List, [], length, Some, Err, OnOk, IfErr};
+ghost use Rattle.std.specs.Prelude.{◌≡◌, ◌≤◌, ◌++◌, ℕ, List, [], length, Some, Err, OnOk, IfErr};
+ghost use Rattle.syslog_in.specs.Framing.{AreFrames};
 
 use crate::fault::FrameFault;
 use crate::frames::Frames;
@@ -51,7 +52,10 @@ impl Framer {
 
     /// A framer at the start of a stream. This allocates nothing.
     pub fn new(alloc: Global) -> Framer
-        ensures { HasTaken result [] }
+        ensures fresh { HasTaken result [] }
+        // Bytes are whole frames and a rest in one way, so that cuttings make no difference.
+        ensures unique { (bytes : List ℕ) (messages others : List (List ℕ)) (rest left : List ℕ)
+            → AreFrames bytes messages rest → AreFrames bytes others left → (messages ≡ others) × (rest ≡ left) }
     {
         Framer {
             start: 0,
@@ -62,15 +66,12 @@ impl Framer {
 
     /// Appends to `out` the messages that become whole with this piece of the stream. After a fault `out` also has
     /// those that came before it, but where memory ran out, all is as before.
-    pub fn feed(
-        &mut self,
-        alloc: Global,
-        piece: &[u8],
-        out: &mut Frames,
-    ) -> Result<(), FrameFault>
+    pub fn feed(&mut self, alloc: Global, piece: &[u8], out: &mut Frames) -> Result<(), FrameFault>
         ensures taken { OnOk result ((fed : List ℕ) → HasTaken self.old fed → HasTaken self.new (fed ++ piece.now)) }
         ensures given { OnOk result ((fed : List ℕ) → HasTaken self.old fed
             → Completes fed piece.now out.old out.new self.new.rest) }
+        // No more is kept than the front of one frame.
+        ensures kept { OnOk result ((fed : List ℕ) → HasTaken self.old fed → length self.new.rest ≤ 65_541) }
         ensures fault { IfErr result (λ fault. (fed : List ℕ) → HasTaken self.old fed
             → IsFeedFault fault fed piece.now out.old out.new) }
         ensures end { IfErr result (λ fault. self.new.end ≡ end_after fault self.old.end) }

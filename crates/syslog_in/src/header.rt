@@ -174,8 +174,6 @@ pub(crate) fn read_header(m: &[u8]) -> Result<(Header<'_>, &[u8]), MessageFault>
             };
             Ok((header, rest))
         }
-        Err(left) => Err(MessageFault::BadHeader {
-            at: m.len() - left,
-        }),
+        Err(left) => Err(MessageFault::BadHeader { at: m.len() - left }),
     }
 }

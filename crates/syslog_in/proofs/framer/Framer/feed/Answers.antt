@@ -1,7 +1,7 @@
 use Rattle.std.proofs.Common.{◌≡◌, ℕ, List, ◌+◌, ◌-◌, ◌++◌, length, refl, sym, ap, subst, arith, ◌∙◌}
 use Rattle.syslog_in.specs.Framer.{Framing, HasTaken, place, place_in}
 use Rattle.syslog_in.specs.Reading.{step_at, why_step}
-use Rattle.syslog_in.proofs.Framers.{nothing_short, is_short_from, taken_more, completed, start_later}
+use Rattle.syslog_in.proofs.Framers.{nothing_short, is_short_from, taken_more, completed, start_later, kept_short, goes_on}
 use Rattle.syslog_in.proofs.Stops.{bad_takes, long_takes}
 use Rattle.syslog_in.proofs.framer.Framer.feed.Goals as goal
 
@@ -33,8 +33,7 @@ returns-in-BadLength-clause-fault c = λ fed taken.
     let behind = c.in-BadLength.behind in
     let read = c.in-Ok.ensures.ok in
     let start = start_later _ fed piece old new read.0 c.in-Ok.stop c.saturating_add-self-inside.result framer read.1
-    c.saturating_add-self-inside.ensures in
-    (
+    c.saturating_add-self-inside.ensures in (
       read.0,
       behind,
       completed _ fed piece old new read.0 c.in-Ok.stop framer read.1,
@@ -50,10 +49,15 @@ returns-in-TooLong-clause-fault c = λ fed taken.
     let new = c.read_on.new.out in
     let read = c.in-Ok.ensures.ok in
     let start = start_later _ fed piece old new read.0 c.in-Ok.stop c.saturating_add-self-inside.result framer read.1
-    c.saturating_add-self-inside.ensures in
-    (
+    c.saturating_add-self-inside.ensures in (
       read.0,
       completed _ fed piece old new read.0 c.in-Ok.stop framer read.1,
       long_takes read.0 (read.1.why ∙ ap why_step c.in-TooLong.is),
       omega (arith, start),
     )
+
+pub returns-in-Short-clause-kept : goal.returns-in-Short-clause-kept
+returns-in-Short-clause-kept c = λ fed taken.
+    let read = c.in-Ok.ensures.ok in
+    kept_short c.read_on.new.kept.items (goes_on c.read_on.new.kept.items
+    (ap step_at (read.2 c.in-Short.is) ∙ read.1.why ∙ ap why_step c.in-Short.is))
