@@ -1,6 +1,6 @@
 -- Parameters one behind another, elements one behind another, and structured data.
-use Rattle.std.proofs.Common.{◌≡◌, ℕ, ◌+◌, ◌<◌, Bool, true, false, ◌==◌, List, [], ◌∷◌, ◌++◌, length, map, drop, get_or}
-use Rattle.std.proofs.Common.{Option, Some, None, refl, sym, ap, subst, arith, ◌∙◌, inl, inr, ◌⊎◌}
+use Rattle.std.proofs.Common.{◌≡◌, ℕ, ◌<◌, true, false, List, [], ◌∷◌, ◌++◌, length, map, drop, get_or}
+use Rattle.std.proofs.Common.{Option, Some, None, refl, sym, ap, subst, arith, ◌∙◌}
 use Rattle.std.specs.Prelude.{flat_map}
 use Rattle.std.specs.List.{AllByRecursion}
 use Rattle.std.proofs.lemmas.Bool.{eqb-true, false≢true}
@@ -11,10 +11,13 @@ use Rattle.std.proofs.lemmas.Option.{none-some}
 use Rattle.vl_row.proofs.Sorted.{all_append}
 use Rattle.time_text.proofs.Counts.{some_is}
 use Rattle.log_model.specs.Field.{Field, set_field, set_all}
-use Rattle.syslog_in.specs.Message.{Param, IsParam, param_source, param_field, Element, IsElement, element_source, data_source}
-use Rattle.syslog_in.specs.Message.{data_fields, IsDataName}
-use Rattle.syslog_in.specs.DataReading.{FindsOne, FindsAny, SpellsParam, SpellsParams, param_fields, params_fields, SpellsElement}
-use Rattle.syslog_in.specs.DataReading.{element_fields, SpellsElements, SpellsParameters, SpellsData, IsNoBracket, is_end, name_at}
+use Rattle.syslog_in.specs.Message.{Param, IsParam, param_source, param_field, Element, IsElement, element_source}
+use Rattle.syslog_in.specs.Message.{data_source}
+use Rattle.syslog_in.specs.Message.{data_fields}
+use Rattle.syslog_in.specs.DataReading.{FindsOne, FindsAny, SpellsParam, SpellsParams, param_fields, params_fields}
+use Rattle.syslog_in.specs.DataReading.{SpellsElement}
+use Rattle.syslog_in.specs.DataReading.{element_fields, SpellsElements, SpellsParameters, SpellsData, IsNoBracket}
+use Rattle.syslog_in.specs.DataReading.{is_end, name_at}
 use Rattle.syslog_in.specs.HeaderReading.{past}
 use Rattle.syslog_in.proofs.Priorities.{past_some, past_again}
 use Rattle.syslog_in.proofs.Params.{found, name_takes, name_again}
@@ -48,7 +51,8 @@ no_params id text old = record {
 
 -- the first of parameters, where a blank stands
 first_param : (param : List ℕ) (more : List Param) (end : List ℕ) → SpellsParams (32 ∷ param) more end
-    → (p : Param) × (others : List Param) × (more ≡ p ∷ others) × SpellsParam param p (flat_map param_source others ++ 93 ∷ end)
+    → (p : Param) × (others : List Param) × (more ≡ p ∷ others)
+    × SpellsParam param p (flat_map param_source others ++ 93 ∷ end)
     × AllByRecursion IsParam others
 first_param param [] end h = absurd (let wrong = ap (λ (t : List ℕ). get_or t 0 0) h.spelled in omega arith)
 first_param param (p ∷ others) end h = (
@@ -90,7 +94,8 @@ module _ (id text rest : List ℕ) (old new : List Field) (h : ParamsSoFar id te
             ∙ ap (set_all old) (sym (map-append (param_field id) h.params (p ∷ [])));
         left = λ all end spells.
             let others = h.left all end spells in
-            let first = first_param param others.0 end (subst (λ (t : List ℕ). SpellsParams t others.0 end) rest_is others.1) in
+            let first = first_param param others.0 end (subst (λ
+            (t : List ℕ). SpellsParams t others.0 end) rest_is others.1) in
             let same = any first.0 (flat_map param_source first.1 ++ 93 ∷ end) first.3 in (
               first.1,
               record { are_params = first.4; spelled = some_is after _ same.0 },
@@ -126,7 +131,8 @@ module _ (id text rest : List ℕ) (old new : List Field) (h : ParamsSoFar id te
   stuck_any param next blank any = λ all end spells.
       let rest_is : rest ≡ 32 ∷ param = past_some 32 rest param (sym blank) in
       let others = h.left all end spells in
-      let first = first_param param others.0 end (subst (λ (t : List ℕ). SpellsParams t others.0 end) rest_is others.1) in
+      let first = first_param param others.0 end (subst (λ
+      (t : List ℕ). SpellsParams t others.0 end) rest_is others.1) in
       absurd (none-some _ (any first.0 (flat_map param_source first.1 ++ 93 ∷ end) first.3).0)
 
   pub param_shorter : (param after : List ℕ) (next : List Field) → Some param ≡ past 32 rest
@@ -183,7 +189,8 @@ module _ (text : List ℕ) (old new : List Field) where
       let names = some_is (pair id rest) (pair element.id reads.0) (name ∙ reads.1) in
       let same : id ≡ element.id = ap (λ (p : List ℕ × List ℕ). p.0) names in
       let rest_is : rest ≡ reads.0 = ap (λ (p : List ℕ × List ℕ). p.1) names in
-      let got = any element.params end (subst (λ (t : List ℕ). SpellsParams t element.params end) (sym rest_is) reads.2) in
+      let got = any element.params end (subst (λ (t : List ℕ). SpellsParams t element.params end)
+      (sym rest_is) reads.2) in
       (got.0, got.1 ∙ ap (λ (n : List ℕ). set_all old (params_fields n element.params)) same)
 
   pub element_none : None ≡ name_at text → FindsAny (SpellsElement text) element_fields old new None
@@ -263,7 +270,8 @@ module _ (text inside : List ℕ) (old new : List Field) (h : ElementsSoFar text
       is ∙ ap (λ (f : List Field). set_all f (element_fields e)) h.set ∙ sym (data_more old h.elements e)
 
   -- whatever elements the text has, the first of those left is the one that was read
-  others_left : (rest : List ℕ) (next : List Field) → FindsAny (SpellsElement inside) element_fields new next (Some rest)
+  others_left : (rest : List ℕ) (next : List Field)
+      → FindsAny (SpellsElement inside) element_fields new next (Some rest)
       → (all : List Element) (end : List ℕ) → SpellsElements text all end
       → (others : List Element) × (rest ≡ flat_map element_source others ++ end) × AllByRecursion IsElement others
       × (set_all old (data_fields all) ≡ set_all next (data_fields others))

@@ -1,18 +1,22 @@
 -- What a framer has taken, and what is left of it.
-use Rattle.std.proofs.Common.{◌≡◌, ℕ, ◌+◌, ◌-◌, ◌≤◌, ◌<◌, true, false, ◌==◌, nat_lt, nat_le, ◌*◌, List, [], ◌∷◌, ◌++◌, length, take, drop, min}
-use Rattle.std.proofs.Common.{Option, Some, None, refl, sym, ap, subst, arith, ◌∙◌, inl, inr, ◌⊎◌, replicate}
+use Rattle.std.proofs.Common.{◌≡◌, ℕ, ◌+◌, ◌-◌, ◌≤◌, ◌<◌, true, false, ◌==◌, nat_lt, nat_le, ◌*◌, List, [], ◌∷◌, ◌++◌}
+use Rattle.std.proofs.Common.{length, take, drop}
+use Rattle.std.proofs.Common.{None, refl, sym, ap, subst, arith, ◌∙◌, inl, inr, ◌⊎◌, replicate}
 use Rattle.std.specs.Char.{digit_value}
 use Rattle.std.proofs.lemmas.Bool.{cases_Bool, ltb-true, ltb-false, eqb-true, and_parts, leb-true, false≢true, cases_lt}
 use Rattle.std.proofs.lemmas.Bool.Decides.{nat_tests}
 use Rattle.std.proofs.lemmas.Int.Digits.{digits_value_more}
 use Rattle.std.proofs.lemmas.Str.Parse.{digits_value-take-le}
 use Rattle.time_text.proofs.DigitLemmas.{digit_value_is}
-use Rattle.std.proofs.lemmas.List.{take-append-drop, append_assoc, append-nil, length-append, length-take-le, length-replicate}
+use Rattle.std.proofs.lemmas.List.{take-append-drop, append_assoc, append-nil, length-append, length-take-le}
+use Rattle.std.proofs.lemmas.List.{length-replicate}
 use Rattle.std.proofs.lemmas.List.Sums.{prefix_len-le-length}
-use Rattle.syslog_in.specs.Framing.{frame_limit, Frame, counted, ended, IsFrame, source, message_of, begins_length, AreLengthDigits, length_of, AreFrames}
-use Rattle.syslog_in.specs.Framing.{BeginsWithNone, CanGoOn, HasBadLength, IsTooLong, BeginsWithFrames}
-use Rattle.syslog_in.specs.Framer.{Framing, HasTaken, Completes, place, place_in}
-use Rattle.syslog_in.specs.Reading.{Step, whole, short, bad_length, too_long, digits_len, number_at, counted_at, line_len, is_short}
+use Rattle.syslog_in.specs.Framing.{frame_limit, Frame, counted, ended, IsFrame, source, message_of, begins_length}
+use Rattle.syslog_in.specs.Framing.{AreLengthDigits, length_of, AreFrames}
+use Rattle.syslog_in.specs.Framing.{BeginsWithNone, CanGoOn, BeginsWithFrames}
+use Rattle.syslog_in.specs.Framer.{Framing, HasTaken, Completes, place}
+use Rattle.syslog_in.specs.Reading.{Step, whole, short, bad_length, too_long, digits_len, number_at, counted_at}
+use Rattle.syslog_in.specs.Reading.{line_len, is_short}
 use Rattle.syslog_in.specs.Reading.{behind_blank, behind_digits, behind_line, line_at, step_at, why_step, Reads}
 use Rattle.syslog_in.specs.declared.reach.Stop.{Stop}
 use Rattle.syslog_in.specs.declared.reach.Why.TheVariants as reasons
@@ -52,7 +56,8 @@ length_goes_on bytes digits behind parts are few (inl none) =
       };
       more = 32 ∷ message;
       some = omega arith;
-      spelled = ap (λ (t : List ℕ). t ++ 32 ∷ message) (parts ∙ ap (λ (t : List ℕ). digits ++ t) none ∙ append-nil digits);
+      spelled = ap (λ (t : List ℕ). t ++ 32 ∷ message) (parts ∙ ap (λ (t : List ℕ). digits ++ t) none
+          ∙ append-nil digits);
     }
 length_goes_on bytes digits behind parts are few (inr some) =
     let missing = length_of digits - length some.0 in
@@ -241,7 +246,12 @@ digits_short digits h few =
     ]
 
 pub kept_short : (rest : List ℕ) → CanGoOn rest → length rest ≤ 65_541
-kept_short rest h = by_frame h.frame h.is_frame (omega (arith, sym (length-append rest h.more) ∙ ap length h.spelled, h.some))
+kept_short rest h = by_frame h.frame h.is_frame (omega (
+  arith,
+  sym (length-append rest h.more)
+      ∙ ap length h.spelled,
+  h.some,
+))
   where
     by_frame : (frame : Frame) → IsFrame frame → length rest < length (source frame) → length rest ≤ 65_541
     by_frame (counted digits message) is less =

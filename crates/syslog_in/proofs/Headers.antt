@@ -1,13 +1,15 @@
 -- Headers by their parts.
-use Rattle.std.proofs.Common.{◌≡◌, ℕ, ◌+◌, ◌-◌, ◌≤◌, List, [], ◌∷◌, ◌++◌, length, Option, Some, None, ℤ, refl, sym, ap, subst}
+use Rattle.std.proofs.Common.{◌≡◌, ℕ, ◌-◌, ◌≤◌, List, [], ◌∷◌, length, Option, Some, None, ℤ, refl, sym, ap}
+use Rattle.std.proofs.Common.{subst}
 use Rattle.std.proofs.Common.{arith, ◌∙◌}
 use Rattle.std.specs.List.{list_all}
 use Rattle.std.proofs.lemmas.List.{length-append}
 use Rattle.std.proofs.lemmas.Option.{none-some}
 use Rattle.time_text.proofs.Counts.{some_is}
 use Rattle.syslog_in.specs.Message.{IsTime, NameTexts}
-use Rattle.syslog_in.specs.Parts.{Part, version, timestamp, IsPart, Behind, Stands, AreParts, BeginsWithPri, LacksPart, LacksName}
-use Rattle.syslog_in.specs.DataReading.{is_no_blank, behind_part}
+use Rattle.syslog_in.specs.Parts.{Part, version, timestamp, IsPart, Behind, Stands, AreParts, BeginsWithPri, LacksPart}
+use Rattle.syslog_in.specs.Parts.{LacksName}
+use Rattle.syslog_in.specs.DataReading.{is_no_blank}
 use Rattle.syslog_in.specs.HeaderReading.{priority_at, AreNames, LacksNameIn, HeaderAt}
 use Rattle.syslog_in.proofs.Standing.{stands_only}
 use Rattle.syslog_in.proofs.NamesRead.{names_missing}
@@ -83,7 +85,8 @@ module _ (text first : List ℕ) (priority : ℕ) (pri : pri_of priority first �
       → (p : ℕ) (time : Option ℤ) (texts : NameTexts) (rest : List ℕ) → HeaderAt text p time texts rest → ⊥
   no_version none p time texts rest h = none h.second (at_version p time texts rest h).1
 
-  pub lacks_version : ((rest : List ℕ) → Stands (IsPart version) first rest → ⊥) → (at : ℕ) × LacksPart text [] version at
+  pub lacks_version : ((rest : List ℕ) → Stands (IsPart version) first rest → ⊥)
+      → (at : ℕ) × LacksPart text [] version at
   lacks_version none = (
     length text - length first,
     record {

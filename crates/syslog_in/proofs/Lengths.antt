@@ -1,9 +1,8 @@
 -- What the loop over the digits of a length keeps.
-use Rattle.std.proofs.Common.{◌≡◌, ℕ, ◌+◌, ◌-◌, ◌*◌, ◌<◌, ◌≤◌, true, false, List, length, get_or, take, Option, Some, None}
+use Rattle.std.proofs.Common.{◌≡◌, ℕ, ◌+◌, ◌-◌, ◌*◌, ◌<◌, ◌≤◌, true, false, List, length, get_or, take, Some}
+use Rattle.std.proofs.Common.{None}
 use Rattle.std.proofs.Common.{refl, sym, ap, arith, ◌∙◌, inl, inr, below_more}
 use Rattle.std.specs.Char.{is_ascii_digit}
-use Rattle.std.specs.List.{prefix_len}
-use Rattle.std.specs.Str.Parse.{digits_value}
 use Rattle.std.proofs.lemmas.Bool.{false≢true, lt-ltb, le-ltb, cases_lt}
 use Rattle.std.proofs.lemmas.Int.Digits.{digits_value_more}
 use Rattle.std.proofs.lemmas.Str.Parse.{digits_value-take-le}
@@ -55,5 +54,6 @@ pub too_many : (bytes : List ℕ) (len number next : ℕ) → AreRead bytes len 
 unfolding length_at
 too_many bytes len number next h within digit is beyond =
     let value = one_more bytes len number next h within digit is in
-    let most = front-le-number bytes (len + 1) (digits_reach bytes (len + 1) (omega arith) (below_more _ _ h.each digit)) in
+    let most = front-le-number bytes (len + 1) (digits_reach bytes (len + 1) (omega arith)
+    (below_more _ _ h.each digit)) in
     rw (lt-ltb frame_limit (number_at bytes) (omega (arith, value, most))) refl

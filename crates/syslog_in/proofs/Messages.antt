@@ -1,20 +1,19 @@
 -- Messages by their header, their structured data and what follows.
-use Rattle.std.proofs.Common.{◌≡◌, ℕ, ◌-◌, ◌≤◌, ◌<◌, List, [], ◌∷◌, ◌++◌, length, Option, Some, None, ℤ, true, refl, sym, ap, subst}
+use Rattle.std.proofs.Common.{◌≡◌, ℕ, ◌-◌, ◌≤◌, ◌<◌, List, [], ◌∷◌, ◌++◌, length, Option, Some, None, ℤ, true, refl}
+use Rattle.std.proofs.Common.{sym, ap, subst}
 use Rattle.std.proofs.Common.{arith, ◌∙◌, ◌≢◌, Result, Ok, Err}
 use Rattle.std.specs.Prelude.{codes, IfErr}
-use Rattle.std.specs.Result.{IsErrAnd}
-use Rattle.std.specs.List.{AllByRecursion}
 use Rattle.std.specs.Str.Lossy.{utf8_lossy}
 use Rattle.std.proofs.lemmas.Bool.{eqb-true, eq-eqb}
-use Rattle.std.proofs.lemmas.List.{append_assoc, length-append}
+use Rattle.std.proofs.lemmas.List.{length-append}
 use Rattle.std.proofs.lemmas.List.Sums.{fold-append}
 use Rattle.std.proofs.lemmas.Option.{none-some}
 use Rattle.log_model.specs.Field.{Field, set_field, set_all}
-use Rattle.syslog_in.specs.Message.{NameTexts, Header, IsHeader, AreNameTexts, header_source, names_source, Element, IsElement}
-use Rattle.syslog_in.specs.Message.{data_source, msg_source, msg_bytes, msg_field, header_fields, data_fields, message_fields}
+use Rattle.syslog_in.specs.Message.{NameTexts, Header, IsHeader, AreNameTexts, header_source, names_source, Element}
+use Rattle.syslog_in.specs.Message.{data_source, msg_source, msg_bytes, msg_field, header_fields, data_fields}
 use Rattle.syslog_in.specs.Message.{IsMessage, IsTime, IsName}
-use Rattle.syslog_in.specs.Parts.{Part, version, timestamp, names, IsPart, Behind, Stands, AreParts, BeginsWithPri, LacksData}
-use Rattle.syslog_in.specs.Parts.{BeginsWithData}
+use Rattle.syslog_in.specs.Parts.{version, timestamp, names, IsPart, Behind, Stands, AreParts}
+use Rattle.syslog_in.specs.Parts.{LacksData}
 use Rattle.syslog_in.specs.DataReading.{FindsOne, FindsAny, SpellsData, is_end}
 use Rattle.syslog_in.specs.HeaderReading.{AreNames, IsNamed, HeaderAt, msg_at}
 use Rattle.syslog_in.specs.declared.fault.MessageFault.{MessageFault}
@@ -48,7 +47,8 @@ names_spelled : (texts : NameTexts) (text rest : List ℕ) → AreNames text tex
     → (text ≡ names_source texts rest) × AreNameTexts texts
 names_spelled texts text rest h some =
     let four = named_source 32 texts.msg_id h.third rest h.msg_id some in
-    let three = named_source 128 texts.proc_id h.second h.third h.proc_id (some_source texts.msg_id rest h.third four) in
+    let three = named_source 128 texts.proc_id h.second h.third h.proc_id
+    (some_source texts.msg_id rest h.third four) in
     let two = named_source 48 texts.app_name h.first h.second h.app_name
     (some_source texts.proc_id h.third h.second three) in
     let one = named_source 255 texts.hostname text h.first h.hostname
@@ -198,7 +198,8 @@ message_is text priority time texts rest after elements fields h d is =
           ∙ ap (λ (t : List ℕ). data_source elements ++ t) (msg_is after d.ends));
       time_is = sym header.4;
       fields_are = is ∙ fields_are priority texts elements after (msg_at after) refl
-          ∙ ap (λ (p : ℕ). set_all [] (header_fields p texts ++ (data_fields elements ++ msg_field (msg_at after) ∷ [])))
+          ∙ ap (λ (p : ℕ). set_all [] (header_fields p texts ++ (data_fields elements ++ msg_field
+          (msg_at after) ∷ [])))
           (sym header.3)
           ∙ ap (λ (n : NameTexts). set_all [] (header_fields header.0.priority n
           ++ (data_fields elements ++ msg_field (msg_at after) ∷ []))) (sym header.5);
@@ -212,7 +213,8 @@ pub message_parts : (text : List ℕ) (time : Option ℤ) (fields : List Field) 
 message_parts text time fields h = (
   header_at text (data_source h.elements ++ msg_source h.msg) h.header h.is_header h.spelled,
   record { are_elements = h.are_elements; spelled = refl; ends = msg_ends h.msg },
-  h.fields_are ∙ sym (fields_are h.header.priority h.header.names h.elements (msg_source h.msg) h.msg (msg_again h.msg)),
+  h.fields_are ∙ sym (fields_are h.header.priority h.header.names h.elements (msg_source h.msg) h.msg
+      (msg_again h.msg)),
 )
 
 -- ---- why bytes are no message
@@ -220,12 +222,16 @@ message_parts text time fields h = (
 pub header_fits : (text : List ℕ) (priority : ℕ) (time : Option ℤ) (texts : NameTexts) (rest : List ℕ)
     → HeaderAt text priority time texts rest → length rest ≤ length text
 header_fits text priority time texts rest h =
-    let parts : AreParts (version ∷ timestamp ∷ names) h.first rest =
-    (h.second, h.is_version, (h.third, time_part h.second h.third time h.is_time, names_from texts h.third rest h.are_names)) in
+    let parts : AreParts (version ∷ timestamp ∷ names) h.first rest = (
+      h.second,
+      h.is_version,
+      (h.third, time_part h.second h.third time h.is_time, names_from texts h.third rest h.are_names),
+    ) in
     omega (arith, pri_fits text h.first h.pri, parts_fit (version ∷ timestamp ∷ names) h.first rest parts)
 
 pub no_header : {X : Type 0} (result : Result X MessageFault) (text : List ℕ)
-    → ((priority : ℕ) (time : Option ℤ) (texts : NameTexts) (rest : List ℕ) → HeaderAt text priority time texts rest → ⊥)
+    → ((priority : ℕ) (time : Option ℤ) (texts : NameTexts) (rest : List ℕ) → HeaderAt text priority time texts rest
+    → ⊥)
     → IfErr result (λ fault. fault ≢ Memory → (time : Option ℤ) (fields : List Field) → IsMessage text time fields → ⊥)
 no_header (Ok x) text none = tt
 no_header (Err fault) text none = λ other time fields h.
@@ -257,7 +263,11 @@ module _ (text : List ℕ) (priority : ℕ) (time : Option ℤ) (texts : NameTex
     start = h.first;
     rest = rest;
     pri = h.pri;
-    parts = (h.second, h.is_version, (h.third, time_part h.second h.third time h.is_time, names_from texts h.third rest h.are_names));
+    parts = (
+      h.second,
+      h.is_version,
+      (h.third, time_part h.second h.third time h.is_time, names_from texts h.third rest h.are_names),
+    );
     lacks = λ d. absurd (none-some _ (any d.elements d.after (record {
       are_elements = d.are_elements;
       spelled = d.spelled;
@@ -276,7 +286,8 @@ module _ (text : List ℕ) (priority : ℕ) (time : Option ℤ) (texts : NameTex
       let got = any h.elements (msg_source h.msg)
       (subst (λ (t : List ℕ). SpellsData t h.elements (msg_source h.msg)) same.3 parts.1) in
       let after_is : after ≡ msg_source h.msg = some_is after (msg_source h.msg) got.0 in
-      let last : List ℕ → List Field → List Field = λ end set. set_field set (codes "_msg") (utf8_lossy (msg_bytes (msg_at end))) in (
+      let last : List ℕ → List Field
+      → List Field = λ end set. set_field set (codes "_msg") (utf8_lossy (msg_bytes (msg_at end))) in (
         h.time_is ∙ same.1,
         parts.2
             ∙ ap (λ (p : ℕ). fields_of p h.header.names h.elements (msg_source h.msg)) same.0

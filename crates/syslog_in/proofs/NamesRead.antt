@@ -4,7 +4,8 @@ use Rattle.std.specs.Prelude.{IfErr}
 use Rattle.std.specs.List.{AllByRecursion}
 use Rattle.std.specs.Result.{IsErrAnd}
 use Rattle.syslog_in.specs.Message.{IsName, NameTexts}
-use Rattle.syslog_in.specs.Parts.{Part, version, timestamp, hostname, app_name, proc_id, msg_id, IsPart, names, Stands, AreParts}
+use Rattle.syslog_in.specs.Parts.{Part, version, timestamp, hostname, app_name, proc_id, msg_id, IsPart, names, Stands}
+use Rattle.syslog_in.specs.Parts.{AreParts}
 use Rattle.syslog_in.specs.DataReading.{first_part, behind_part}
 use Rattle.syslog_in.specs.HeaderReading.{IsNamed, AreNames, LacksNameIn}
 use Rattle.syslog_in.proofs.Standing.{stands_only, visible_no_blanks}
@@ -26,7 +27,8 @@ named_only most text name rest h =
     let same = stands_only (IsNamed most name) text rest h (visible_no_blanks h.part h.is_so.0.visible) in
     (sym h.is_so.1 ∙ same.0, same.1)
 
-pub as_name : (most : ℕ) (text name rest : List ℕ) → Stands (IsNamed most name) text rest → Stands (IsName most) text rest
+pub as_name : (most : ℕ) (text name rest : List ℕ) → Stands (IsNamed most name) text rest
+    → Stands (IsName most) text rest
 as_name most text name rest h = record {
   part = h.part;
   after = h.after;
@@ -42,7 +44,8 @@ handed_on (Ok x) text left lacks same = tt
 handed_on (Err e) text left lacks same = subst (LacksNameIn text) (sym same) lacks
 
 module _ (text first second third left : List ℕ) where
-  pub no_hostname : (n : ℕ) → ((rest : List ℕ) → Stands (IsName 255) text rest → ⊥) → n ≡ length text → LacksNameIn text n
+  pub no_hostname : (n : ℕ) → ((rest : List ℕ) → Stands (IsName 255) text rest → ⊥) → n ≡ length text
+      → LacksNameIn text n
   no_hostname n lacks is = record {
     before = [];
     part = hostname;
@@ -199,5 +202,6 @@ none_missing (a ∷ all) (b ∷ before) after part text rest middle is each stan
 pub names_missing : (text : List ℕ) (texts : NameTexts) (rest : List ℕ) (left : ℕ) → AreNames text texts rest
     → LacksNameIn text left → ⊥
 names_missing text texts rest left stand h =
-    none_missing names h.before h.after h.part text rest h.rest h.is_name are_name_parts (names_from texts text rest stand)
+    none_missing names h.before h.after h.part text rest h.rest h.is_name are_name_parts
+    (names_from texts text rest stand)
     h.parts h.lacks

@@ -1,17 +1,20 @@
 -- Names and parameters are read as they are spelled.
-use Rattle.std.proofs.Common.{◌≡◌, ℕ, ◌+◌, ◌<◌, ◌≤◌, Bool, true, false, not, ◌&&◌, ◌||◌, ◌==◌, nat_le, List, [], ◌∷◌, ◌++◌, length}
-use Rattle.std.proofs.Common.{take, drop, Option, Some, None, refl, sym, ap, subst, arith, ◌∙◌, inl, inr}
+use Rattle.std.proofs.Common.{◌≡◌, ℕ, false, ◌&&◌, nat_le, List, [], ◌∷◌}
+use Rattle.std.proofs.Common.{◌++◌, length}
+use Rattle.std.proofs.Common.{take, drop, Option, Some, None, refl, sym, ap, subst, arith, ◌∙◌}
 use Rattle.std.specs.Prelude.{flat_map, IsTrue}
 use Rattle.std.specs.List.{list_all}
 use Rattle.std.specs.Str.Lossy.{utf8_lossy}
 use Rattle.std.proofs.lemmas.Bool.{and_parts, and_from, leb-true, le-leb}
-use Rattle.std.proofs.lemmas.List.{append_assoc, append-nil, take-append-drop, take_at, drop_at, length-take-le}
+use Rattle.std.proofs.lemmas.List.{append_assoc, take-append-drop, take_at, drop_at, length-take-le}
 use Rattle.std.proofs.lemmas.List.Sums.{prefix_len-le-length}
 use Rattle.std.proofs.lemmas.Option.{none-some}
 use Rattle.time_text.proofs.Counts.{some_is, test_some}
-use Rattle.log_model.specs.Field.{Field, set_field, set_all}
-use Rattle.syslog_in.specs.Message.{is_name_byte, IsDataName, Param, IsParam, param_source, value_source, param_field, character_text}
-use Rattle.syslog_in.specs.DataReading.{name_len, name_at, value_at, GivesValue, FindsOne, FindsAny, SpellsParam, param_fields}
+use Rattle.log_model.specs.Field.{Field, set_field}
+use Rattle.syslog_in.specs.Message.{is_name_byte, IsDataName, Param, value_source}
+use Rattle.syslog_in.specs.Message.{character_text}
+use Rattle.syslog_in.specs.DataReading.{name_len, name_at, value_at, GivesValue, FindsOne, FindsAny, SpellsParam}
+use Rattle.syslog_in.specs.DataReading.{param_fields}
 use Rattle.syslog_in.specs.HeaderReading.{past}
 use Rattle.syslog_in.proofs.Runs.{all_taken, run_then}
 use Rattle.syslog_in.proofs.Priorities.{past_some, past_again}
@@ -46,7 +49,8 @@ pub name_again : (name rest : List ℕ) (byte : ℕ) → IsDataName name → is_
 unfolding name_at
 name_again name rest byte h stop =
     let len = run_then is_name_byte name rest byte h.each stop in
-    let test = and_from (nat_le 1 (length name)) (nat_le (length name) 32) (le-leb 1 (length name) (omega (arith, h.some)))
+    let test = and_from (nat_le 1 (length name)) (nat_le (length name) 32) (le-leb 1 (length name) (omega
+    (arith, h.some)))
     (le-leb (length name) 32 h.few) in
     rw (len, test, take_at name (byte ∷ rest) (length name) refl, drop_at name (byte ∷ rest) (length name) refl) refl
 
@@ -154,7 +158,8 @@ module _ (id text : List ℕ) (old new : List Field) where
       ∙ past_again 61 (34 ∷ reads.values)) in
       absurd (none-some reads.values (none ∙ ap (past 34) quoted_is ∙ past_again 34 reads.values))
 
-  pub no_value : (name rest quoted inside before out : List ℕ) → found name rest ≡ name_at text → Some quoted ≡ past 61 rest
+  pub no_value : (name rest quoted inside before out : List ℕ) → found name rest ≡ name_at text
+      → Some quoted ≡ past 61 rest
       → Some inside ≡ past 34 quoted → GivesValue (value_at inside) before out None
       → FindsAny (SpellsParam text) (param_fields id) old new None
   no_value name rest quoted inside before out name_is equals quote none = λ param after spells.

@@ -1,15 +1,15 @@
 -- A piece of a stream behind what is kept of an unfinished frame.
-use Rattle.std.proofs.Common.{◌≡◌, ℕ, ◌+◌, ◌-◌, ◌^◌, ◌≤◌, ◌<◌, List, [], ◌∷◌, ◌++◌, length, take, drop, min}
+use Rattle.std.proofs.Common.{◌≡◌, ℕ, ◌+◌, ◌-◌, ◌≤◌, List, [], ◌++◌, length, take, drop}
 use Rattle.std.proofs.Common.{refl, sym, ap, subst, arith, ◌∙◌, inl, inr}
 use Rattle.std.proofs.Math.Seq.{take-append-add}
 use Rattle.std.proofs.lemmas.Bool.{cases_lt}
-use Rattle.std.proofs.lemmas.List.{take-append-drop, append_assoc, append-nil, length-append, take_at, drop_at, drop-drop}
+use Rattle.std.proofs.lemmas.List.{take-append-drop, append_assoc, append-nil, length-append, take_at, drop_at}
+use Rattle.std.proofs.lemmas.List.{drop-drop}
 use Rattle.std.proofs.lemmas.List.{drop-append-le, length-take-le, length-drop, take-take, drop-take}
-use Rattle.syslog_in.specs.Framing.{source, message_of, unless_empty, BeginsWithFrames}
+use Rattle.syslog_in.specs.Framing.{source, unless_empty, BeginsWithFrames}
 use Rattle.syslog_in.specs.Framer.{place}
-use Rattle.syslog_in.specs.Reading.{Step, whole, short, bad_length, too_long, step_at, why_step, Reads}
+use Rattle.syslog_in.specs.Reading.{whole, short, bad_length, too_long, step_at, why_step, Reads}
 use Rattle.syslog_in.specs.declared.reach.Stop.{Stop}
-use Rattle.syslog_in.specs.declared.reach.Why.{Why}
 use Rattle.syslog_in.proofs.Steps.{whole_takes, whole_again}
 use Rattle.syslog_in.proofs.Stops.{bad_takes, bad_again, bad_more, long_takes, long_again, long_more}
 use Rattle.syslog_in.proofs.Streams.{one_frame, more_frames, frames_behind, no_frames, rest_fits}

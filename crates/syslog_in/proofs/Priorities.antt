@@ -1,17 +1,16 @@
 -- PRI is read as it is spelled.
-use Rattle.std.proofs.Common.{◌≡◌, ℕ, ◌+◌, ◌-◌, ◌≤◌, ◌<◌, Bool, true, false, not, ◌&&◌, ◌||◌, ◌==◌, nat_le, nat_lt, List, [], ◌∷◌, ◌++◌}
-use Rattle.std.proofs.Common.{length, take, drop, Option, Some, None, refl, sym, ap, subst, arith, ◌∙◌, inl, inr, ◌⊎◌}
-use Rattle.std.specs.Prelude.{slice_index, IsTrue}
+use Rattle.std.proofs.Common.{◌≡◌, ℕ, true, false, not, ◌&&◌, ◌||◌, ◌==◌, nat_le, nat_lt}
+use Rattle.std.proofs.Common.{List, [], ◌∷◌, ◌++◌}
+use Rattle.std.proofs.Common.{length, take, drop, Option, Some, None, refl, sym, ap, arith, ◌∙◌, inl, inr}
+use Rattle.std.specs.Prelude.{slice_index}
 use Rattle.std.specs.Char.{is_ascii_digit}
-use Rattle.std.specs.Str.{all_ascii_digits}
 use Rattle.std.proofs.Math.ListN.{get_or-append}
-use Rattle.std.proofs.lemmas.Bool.{and_parts, and_from, or_cases, or_left, or_right, eqb-true, eqb-false, eq-eqb, ne_eqb, leb-true}
-use Rattle.std.proofs.lemmas.Bool.{le-leb, le-ltb, cases_Bool, cases_eq, not-true, not_from_false, cond-true, ltb-false}
+use Rattle.std.proofs.lemmas.Bool.{and_parts, and_from, or_cases, or_left, or_right, eqb-true, eqb-false, eq-eqb}
+use Rattle.std.proofs.lemmas.Bool.{ne_eqb, leb-true}
+use Rattle.std.proofs.lemmas.Bool.{le-leb, le-ltb, cases_Bool, cases_eq, not-true, not_from_false}
 use Rattle.std.proofs.lemmas.List.{take-append-drop, take_at, drop_at, get_or-take, length-take-le}
 use Rattle.std.proofs.lemmas.List.Sums.{prefix_len-le-length}
 use Rattle.time_text.proofs.Counts.{len_again, front_are_digits, some_is}
-use Rattle.log_model.specs.MomentText.{IsDecimalCount}
-use Rattle.syslog_in.specs.Message.{IsPriority}
 use Rattle.syslog_in.specs.Parts.{BeginsWithPri}
 use Rattle.syslog_in.specs.Framing.{frame_limit}
 use Rattle.syslog_in.specs.Reading.{digits_len, number_at, length_at}
@@ -77,7 +76,8 @@ priority_takes text x e = marked (past 60 text) refl e
               (sym within.1 ∙ found.2) in
               let n : digits_len inside ≡ found.0 = ap (λ (p : ℕ × ℕ). p.0) same in
               let v : number_at inside ≡ found.1 = ap (λ (p : ℕ × ℕ). p.1) same in
-              let tests = and_parts (nat_le 1 found.0) (((found.0 == 1) || not (slice_index inside 0 == 48)) && nat_le found.1 191) found.3 in
+              let tests = and_parts (nat_le 1 found.0) (((found.0 == 1) || not
+              (slice_index inside 0 == 48)) && nat_le found.1 191) found.3 in
               let more = and_parts ((found.0 == 1) || not (slice_index inside 0 == 48)) (nat_le found.1 191) tests.1 in
               let some = leb-true 1 found.0 tests.0 in
               let digits = take (digits_len inside) inside in
@@ -90,7 +90,8 @@ priority_takes text x e = marked (past 60 text) refl e
                       digits = front_are_digits inside (omega (arith, n, some));
                       first = λ zero. elim (or_cases (found.0 == 1) (not (slice_index inside 0 == 48)) more.0) [
                         | inl one ↦ omega (arith, count, n, eqb-true found.0 1 one)
-                        | inr other ↦ absurd (eqb-false (slice_index inside 0) 48 (not-true (slice_index inside 0 == 48) other)
+                        | inr other ↦ absurd (eqb-false (slice_index inside 0) 48 (not-true
+                            (slice_index inside 0 == 48) other)
                             (sym (get_or-take (digits_len inside) inside 0 0 (omega (arith, n, some))) ∙ zero))
                       ];
                       value = sym v;
@@ -116,8 +117,10 @@ priority_again text rest pri =
     let back = drop_at pri.digits (62 ∷ rest) (length pri.digits) refl in
     let few = pri.is_priority.few in
     let value : number_at inside ≡ pri.priority = rw (len, front) (sym number.value) in
-    let within : nat_lt frame_limit (number_at inside) ≡ false = le-ltb frame_limit (number_at inside) (omega (arith, value, few)) in
-    let first : slice_index inside 0 ≡ slice_index pri.digits 0 = get_or-append pri.digits (62 ∷ rest) 0 0 number.digits.some in
+    let within : nat_lt frame_limit (number_at inside) ≡ false = le-ltb frame_limit (number_at inside) (omega
+    (arith, value, few)) in
+    let first : slice_index inside 0 ≡ slice_index pri.digits 0 = get_or-append pri.digits
+    (62 ∷ rest) 0 0 number.digits.some in
     let alone : (length pri.digits == 1) || not (slice_index inside 0 == 48) ≡ true =
     elim (cases_eq (slice_index pri.digits 0) 48) [
       | inl zero ↦ or_left _ _ (eq-eqb (length pri.digits) 1 (number.first zero))

@@ -1,17 +1,18 @@
 -- Parts that stand up to a blank or the end.
-use Rattle.std.proofs.Common.{◌≡◌, ℕ, ◌+◌, ◌≤◌, ◌<◌, Bool, true, false, not, ◌==◌, List, [], ◌∷◌, ◌++◌, length, get_or, take}
-use Rattle.std.proofs.Common.{drop, refl, sym, ap, subst, arith, ◌∙◌, inl, inr, zero, suc}
-use Rattle.std.specs.Prelude.{IsTrue, slice_index, nat_le, ◌&&◌}
-use Rattle.std.specs.List.{prefix_len, list_all}
-use Rattle.std.specs.Str.{IsUtf8, IsAscii}
-use Rattle.std.proofs.lemmas.Bool.{and_parts, and_from, eqb-true, eqb-false, ne_eqb, not-false, not_from_false, leb-true, cases_lt}
-use Rattle.std.proofs.lemmas.Bool.{false≢true}
+use Rattle.std.proofs.Common.{◌≡◌, ℕ, ◌<◌, true, ◌==◌, List, [], ◌∷◌, ◌++◌, length, get_or}
+use Rattle.std.proofs.Common.{take}
+use Rattle.std.proofs.Common.{drop, refl, sym, ap, subst, arith, ◌∙◌, zero, suc}
+use Rattle.std.specs.Prelude.{nat_le}
+use Rattle.std.specs.List.{list_all}
+use Rattle.std.specs.Str.{IsUtf8}
+use Rattle.std.proofs.lemmas.Bool.{and_parts, and_from, eqb-true, ne_eqb, not-false, not_from_false}
+use Rattle.std.proofs.lemmas.Bool.{leb-true}
 use Rattle.std.proofs.lemmas.List.{take-append-drop, append-nil, take_at, drop_at, get_or_past}
 use Rattle.std.proofs.lemmas.Str.{IsUtf8-from_ascii}
 use Rattle.syslog_in.specs.Message.{is_visible, is_name_byte, IsName}
 use Rattle.syslog_in.specs.Parts.{Behind, Stands}
 use Rattle.syslog_in.specs.DataReading.{is_no_blank, part_len, first_part, behind_part}
-use Rattle.syslog_in.proofs.Runs.{all_taken, stops, run_then, run_alone}
+use Rattle.syslog_in.proofs.Runs.{stops, run_then, run_alone}
 
 -- ---- bytes
 
@@ -48,11 +49,13 @@ visible_no_blanks (byte ∷ bytes) h =
 
 -- ---- the part at the start
 
-behind_here : (rest : List ℕ) → ((byte : ℕ) (more : List ℕ) → rest ≡ byte ∷ more → byte ≡ 32) → Behind rest (drop 1 rest)
+behind_here : (rest : List ℕ) → ((byte : ℕ) (more : List ℕ) → rest ≡ byte ∷ more → byte ≡ 32)
+    → Behind rest (drop 1 rest)
 behind_here [] blank = refl
 behind_here (byte ∷ more) blank = (blank byte more refl, refl)
 
-pub stands_here : (IsSo : List ℕ → Type 0) (text : List ℕ) → IsSo (first_part text) → Stands IsSo text (behind_part text)
+pub stands_here : (IsSo : List ℕ → Type 0) (text : List ℕ) → IsSo (first_part text)
+    → Stands IsSo text (behind_part text)
 stands_here IsSo text so = record {
   part = first_part text;
   after = drop (part_len text) text;
@@ -69,7 +72,8 @@ only_part part [] rest h behind =
     let all = append-nil part in
     rw all (
       rw len (sym (sym (ap (take (length part)) (append-nil part)) ∙ take_at part [] (length part) refl)),
-      rw len (behind ∙ sym (ap (drop 1) (sym (ap (drop (length part)) (append-nil part)) ∙ drop_at part [] (length part) refl))),
+      rw len (behind ∙ sym (ap (drop 1) (sym (ap (drop (length part)) (append-nil part))
+          ∙ drop_at part [] (length part) refl))),
     )
 only_part part (byte ∷ more) rest h behind =
     let blank : byte ≡ 32 = behind.0 in
@@ -91,4 +95,5 @@ stands_only IsSo text rest h plain =
 pub lacks_name : (most : ℕ) (text : List ℕ) → (IsName most (first_part text) → ⊥)
     → (rest : List ℕ) → Stands (IsName most) text rest → ⊥
 lacks_name most text not_so rest h =
-    not_so (subst (IsName most) (stands_only (IsName most) text rest h (visible_no_blanks h.part h.is_so.visible)).0 h.is_so)
+    not_so (subst (IsName most) (stands_only (IsName most) text rest h
+    (visible_no_blanks h.part h.is_so.visible)).0 h.is_so)

@@ -1,23 +1,23 @@
 -- What stands at the start of bytes is read as it is spelled.
-use Rattle.std.proofs.Common.{◌≡◌, ℕ, zero, suc, ◌+◌, ◌-◌, ◌≤◌, ◌<◌, true, false, ◌==◌, nat_lt, List, [], ◌∷◌, ◌++◌, length, take}
-use Rattle.std.proofs.Common.{drop, Option, Some, None, refl, sym, ap, subst, arith, ◌∙◌, ◌⊎◌, inl, inr}
-use Rattle.std.specs.Prelude.{IsTrue, IsFalse}
+use Rattle.std.proofs.Common.{◌≡◌, ℕ, zero, suc, ◌+◌, ◌≤◌, ◌<◌, true, false, ◌==◌, nat_lt, List, [], ◌∷◌, ◌++◌}
+use Rattle.std.proofs.Common.{length, take}
+use Rattle.std.proofs.Common.{drop, Some, None, refl, sym, ap, arith, ◌∙◌, ◌⊎◌, inl, inr}
 use Rattle.std.specs.Char.{is_ascii_digit}
-use Rattle.std.specs.List.{prefix_len, list_all}
-use Rattle.std.specs.Str.Parse.{digits_value}
 use Rattle.std.proofs.Math.Numerals.{one-add}
-use Rattle.std.proofs.lemmas.Bool.{cases_Bool, eqb-true, eq-eqb, ltb-true, ltb-false, lt-ltb, le-ltb, cases_lt, cond-true, cond-false}
-use Rattle.std.proofs.lemmas.Bool.{false≢true, not_from_true, not_from_false, not-true, not-false, eqb-false, ne_eqb}
+use Rattle.std.proofs.lemmas.Bool.{cases_Bool, eqb-true, ltb-true, ltb-false, le-ltb}
+use Rattle.std.proofs.lemmas.Bool.{cond-true}
+use Rattle.std.proofs.lemmas.Bool.{false≢true, not-false}
 use Rattle.std.proofs.lemmas.Bool.Decides.{nat_tests}
-use Rattle.std.proofs.lemmas.List.{take-append-drop, append_assoc, append-nil, length-append, take_at, drop_at, length-take-le}
+use Rattle.std.proofs.lemmas.List.{take-append-drop, append_assoc, length-append, take_at, drop_at}
+use Rattle.std.proofs.lemmas.List.{length-take-le}
 use Rattle.std.proofs.lemmas.List.Sums.{prefix_len-le-length}
-use Rattle.syslog_in.specs.Framing.{frame_limit, Frame, counted, ended, begins_length, AreLengthDigits, length_of, is_no_feed}
-use Rattle.syslog_in.specs.Framing.{IsLine, IsCounted, IsEnded, IsFrame, source, without_return, message_of, HasBadLength}
-use Rattle.syslog_in.specs.Framing.{IsTooLong, long_length, long_line, CanGoOn}
-use Rattle.syslog_in.specs.Reading.{Step, whole, short, bad_length, too_long, digits_len, number_at, length_at, behind_blank}
-use Rattle.syslog_in.specs.Reading.{behind_digits, with_length, counted_at, line_len, behind_line, line_at, step_at}
-use Rattle.syslog_in.proofs.Runs.{all_taken, stops, run_then, run_alone}
-use Rattle.syslog_in.proofs.Lengths.{front-le-number, digits_reach}
+use Rattle.syslog_in.specs.Framing.{frame_limit, Frame, counted, ended, begins_length, AreLengthDigits, length_of}
+use Rattle.syslog_in.specs.Framing.{is_no_feed}
+use Rattle.syslog_in.specs.Framing.{IsLine, IsCounted, IsEnded, IsFrame, source, without_return, message_of}
+use Rattle.syslog_in.specs.Reading.{whole, digits_len, number_at, length_at}
+use Rattle.syslog_in.specs.Reading.{behind_blank}
+use Rattle.syslog_in.specs.Reading.{behind_digits, counted_at, line_len, behind_line, line_at, step_at}
+use Rattle.syslog_in.proofs.Runs.{all_taken, stops, run_then}
 
 -- ---- digits
 
@@ -215,7 +215,8 @@ unfolding step_at
 step_counted [] h = absurd (false≢true h)
 step_counted (byte ∷ bytes) h = rw h refl
 
-step_line : (byte : ℕ) (bytes : List ℕ) → begins_length (byte ∷ bytes) ≡ false → step_at (byte ∷ bytes) ≡ line_at (byte ∷ bytes)
+step_line : (byte : ℕ) (bytes : List ℕ) → begins_length (byte ∷ bytes) ≡ false
+    → step_at (byte ∷ bytes) ≡ line_at (byte ∷ bytes)
 unfolding step_at
 step_line byte bytes h = rw h refl
 

@@ -1,21 +1,23 @@
 -- Why no frame stands at the start of bytes is read as it is spelled.
-use Rattle.std.proofs.Common.{◌≡◌, ℕ, zero, suc, ◌+◌, ◌-◌, ◌≤◌, ◌<◌, true, false, ◌==◌, nat_lt, List, [], ◌∷◌, ◌++◌, length, take}
-use Rattle.std.proofs.Common.{drop, Option, Some, None, refl, sym, ap, subst, arith, ◌∙◌, ◌⊎◌, inl, inr}
+use Rattle.std.proofs.Common.{◌≡◌, ℕ, ◌≤◌, ◌<◌, true, false, ◌==◌, nat_lt, List, [], ◌∷◌, ◌++◌}
+use Rattle.std.proofs.Common.{length, take}
+use Rattle.std.proofs.Common.{drop, refl, sym, ap, arith, ◌∙◌, ◌⊎◌, inl, inr}
 use Rattle.std.specs.Char.{is_ascii_digit}
-use Rattle.std.specs.List.{prefix_len, list_all}
-use Rattle.std.proofs.lemmas.Bool.{cases_Bool, eqb-true, eq-eqb, ltb-true, ltb-false, lt-ltb, le-ltb, cases_lt}
-use Rattle.std.proofs.lemmas.Bool.{false≢true}
-use Rattle.std.proofs.lemmas.List.{take-append-drop, append_assoc, append-nil, length-append, take_at, drop_at, length-take-le}
-use Rattle.std.proofs.lemmas.List.{append_cancel_left}
+use Rattle.std.proofs.lemmas.Bool.{cases_Bool, ltb-true, lt-ltb}
+use Rattle.std.proofs.lemmas.List.{take-append-drop, append_assoc, length-append, take_at, drop_at}
+use Rattle.std.proofs.lemmas.List.{length-take-le}
 use Rattle.std.proofs.lemmas.List.Sums.{prefix_len-le-length}
-use Rattle.syslog_in.specs.Framing.{frame_limit, Frame, counted, ended, begins_length, AreLengthDigits, length_of, is_no_feed}
-use Rattle.syslog_in.specs.Framing.{IsLine, IsFrame, source, message_of, HasBadLength, IsTooLong, long_length, long_line}
-use Rattle.syslog_in.specs.Framing.{CanGoOn, BeginsWithNone}
-use Rattle.syslog_in.specs.Reading.{Step, whole, short, bad_length, too_long, digits_len, number_at, length_at, behind_blank}
-use Rattle.syslog_in.specs.Reading.{behind_digits, with_length, counted_at, line_len, behind_line, line_at, step_at}
-use Rattle.syslog_in.proofs.Runs.{all_taken, stops, run_then, run_again}
-use Rattle.syslog_in.proofs.Lengths.{front-le-number, digits_reach}
-use Rattle.syslog_in.proofs.Steps.{FrameAt, whole_takes, whole_again, within_or_beyond, digits_here, line_here, step_counted}
+use Rattle.syslog_in.specs.Framing.{frame_limit, begins_length, length_of}
+use Rattle.syslog_in.specs.Framing.{is_no_feed}
+use Rattle.syslog_in.specs.Framing.{HasBadLength, IsTooLong, long_length}
+use Rattle.syslog_in.specs.Framing.{long_line}
+use Rattle.syslog_in.specs.Reading.{bad_length, too_long, digits_len, number_at}
+use Rattle.syslog_in.specs.Reading.{behind_blank}
+use Rattle.syslog_in.specs.Reading.{behind_digits, counted_at, line_len, behind_line, line_at, step_at}
+use Rattle.syslog_in.proofs.Runs.{stops, run_then, run_again}
+use Rattle.syslog_in.proofs.Lengths.{front-le-number}
+use Rattle.syslog_in.proofs.Steps.{within_or_beyond, digits_here, line_here}
+use Rattle.syslog_in.proofs.Steps.{step_counted}
 use Rattle.syslog_in.proofs.Steps.{step_line_some, begins_same, length_again}
 
 -- ---- a length with a wrong byte
@@ -140,7 +142,8 @@ long_takes (byte ∷ bytes) e =
       | inr line ↦ long_takes_line (byte ∷ bytes) line (rw line at e)
     ]
 
-no_length_first : (line rest : List ℕ) → 0 < length line → begins_length line ≡ false → begins_length (line ++ rest) ≡ false
+no_length_first : (line rest : List ℕ) → 0 < length line → begins_length line ≡ false
+    → begins_length (line ++ rest) ≡ false
 no_length_first [] rest some h = absurd (omega arith)
 no_length_first (byte ∷ line) rest some h = h
 

@@ -1,17 +1,15 @@
 -- Whole frames one behind another, and what is left of a stream.
-use Rattle.std.proofs.Common.{◌≡◌, ℕ, ◌+◌, ◌-◌, ◌≤◌, ◌<◌, true, false, ◌==◌, nat_lt, List, [], ◌∷◌, ◌++◌, length, take, drop}
-use Rattle.std.proofs.Common.{refl, sym, ap, subst, arith, ◌∙◌, inl, inr, ◌⊎◌, replicate}
+use Rattle.std.proofs.Common.{◌≡◌, ℕ, ◌≤◌, ◌<◌, List, [], ◌∷◌, ◌++◌, length}
+use Rattle.std.proofs.Common.{refl, sym, ap, arith, ◌∙◌}
 use Rattle.std.specs.List.{AllByRecursion, flat_map}
-use Rattle.std.proofs.Math.Seq.{take-append-add}
-use Rattle.std.proofs.lemmas.Bool.{cases_Bool, ltb-true, cases_lt, cases_eq}
 use Rattle.std.proofs.lemmas.Grind.{flat_map-append}
-use Rattle.std.proofs.lemmas.List.{take-append-drop, append_assoc, append-nil, length-append, take_at, drop_at, drop-drop}
-use Rattle.std.proofs.lemmas.List.{drop-append-le, length-take-le, length-replicate, length-drop}
+use Rattle.std.proofs.lemmas.List.{append_assoc, append-nil, length-append}
 use Rattle.vl_row.proofs.Sorted.{all_append}
-use Rattle.syslog_in.specs.Framing.{frame_limit, Frame, counted, ended, IsFrame, source, message_of, unless_empty, messages_of}
-use Rattle.syslog_in.specs.Framing.{BeginsWithFrames, BeginsWithNone, AreFrames, CanGoOn, begins_length, AreLengthDigits, length_of}
-use Rattle.syslog_in.specs.Reading.{Step, whole, short, bad_length, too_long, step_at}
-use Rattle.syslog_in.proofs.Steps.{FrameAt, whole_takes, whole_again}
+use Rattle.syslog_in.specs.Framing.{Frame, counted, ended, IsFrame, source, message_of, unless_empty}
+use Rattle.syslog_in.specs.Framing.{messages_of}
+use Rattle.syslog_in.specs.Framing.{BeginsWithFrames, BeginsWithNone, AreFrames}
+use Rattle.syslog_in.specs.Reading.{whole, step_at}
+use Rattle.syslog_in.proofs.Steps.{whole_takes, whole_again}
 
 -- ---- a frame is not empty
 
@@ -40,7 +38,8 @@ one_frame bytes message rest e =
       messages_are = ap unless_empty at.message_is ∙ sym (append-nil (unless_empty (message_of at.frame)));
     }
 
-pub more_frames : (bytes middle rest : List ℕ) (messages others : List (List ℕ)) → BeginsWithFrames bytes messages middle
+pub more_frames : (bytes middle rest : List ℕ) (messages others : List (List ℕ))
+    → BeginsWithFrames bytes messages middle
     → BeginsWithFrames middle others rest → BeginsWithFrames bytes (messages ++ others) rest
 more_frames bytes middle rest messages others first then = record {
   frames = first.frames ++ then.frames;
@@ -77,7 +76,8 @@ none_from_step rest other = λ frame more is spelled.
     other (message_of frame) more (ap step_at spelled ∙ whole_again frame more is)
 
 -- two ways to see the frames of a stream are one
-unique : (frames others : List Frame) (rest left : List ℕ) → AllByRecursion IsFrame frames → AllByRecursion IsFrame others
+unique : (frames others : List Frame) (rest left : List ℕ) → AllByRecursion IsFrame frames
+    → AllByRecursion IsFrame others
     → BeginsWithNone rest → BeginsWithNone left
     → flat_map source frames ++ rest ≡ flat_map source others ++ left
     → (messages_of frames ≡ messages_of others) × (rest ≡ left)

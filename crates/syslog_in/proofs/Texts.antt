@@ -1,10 +1,10 @@
 -- Texts that lie among bytes.
-use Rattle.std.proofs.Common.{◌≡◌, ℕ, zero, suc, ◌+◌, ◌-◌, ◌≤◌, Bool, true, ◌&&◌, nat_le, List, [], ◌∷◌, ◌++◌, length, take, drop}
-use Rattle.std.proofs.Common.{map, refl, sym, ap, subst, arith, ◌∙◌}
-use Rattle.std.specs.Prelude.{IsTrue, slice_range}
-use Rattle.std.specs.List.{list_all}
+use Rattle.std.proofs.Common.{◌≡◌, ℕ, zero, suc, ◌-◌, Bool, true, ◌&&◌, nat_le, List, [], ◌∷◌, ◌++◌, length}
+use Rattle.std.proofs.Common.{take, drop}
+use Rattle.std.proofs.Common.{refl, ap, arith, ◌∙◌}
+use Rattle.std.specs.Prelude.{slice_range}
 use Rattle.std.proofs.lemmas.Bool.{and_parts, and_from, leb-true, le-leb}
-use Rattle.std.proofs.lemmas.List.{map-append, length-append, drop-append-le, take-append-le, drop_at, take_all, take-map}
+use Rattle.std.proofs.lemmas.List.{map-append, length-append, drop-append-le, take-append-le, drop_at, take_all}
 use Rattle.std.proofs.lemmas.List.{length-drop}
 use Rattle.std.proofs.lemmas.List.Folds.{list_all-append}
 use Rattle.syslog_in.specs.declared.frames.FrameSpan.{FrameSpan}
@@ -13,7 +13,8 @@ use Rattle.syslog_in.specs.Spans.{texts_at, are_inside}
 abbrev is_inside : List ℕ → FrameSpan → Bool
 is_inside bytes span = nat_le span.start span.end && nat_le span.end (length bytes)
 
-inside_more : (bytes text : List ℕ) (span : FrameSpan) → is_inside bytes span ≡ true → is_inside (bytes ++ text) span ≡ true
+inside_more : (bytes text : List ℕ) (span : FrameSpan) → is_inside bytes span ≡ true
+    → is_inside (bytes ++ text) span ≡ true
 inside_more bytes text span h =
     let parts = and_parts (nat_le span.start span.end) _ h in
     and_from _ _ parts.0 (le-leb span.end (length (bytes ++ text))

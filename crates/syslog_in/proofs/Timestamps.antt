@@ -1,23 +1,28 @@
 -- Timestamps by the bytes that tell them from other texts of moments.
-use Rattle.std.proofs.Common.{◌≡◌, ℕ, zero, suc, ◌+◌, ◌-◌, ◌/◌, ◌%◌, ◌≤◌, ◌<◌, Bool, true, false, not, ◌&&◌, ◌||◌, ◌==◌, nat_le, nat_lt}
-use Rattle.std.proofs.Common.{List, [], ◌∷◌, ◌++◌, length, get_or, take, drop, ℤ, Option, Some, None, refl, sym, ap, subst, arith, ◌∙◌, inl, inr, ◌⊎◌}
-use Rattle.std.specs.Prelude.{slice_index, IsTrue}
+use Rattle.std.proofs.Common.{◌≡◌, ℕ, ◌+◌, ◌-◌, ◌/◌, ◌%◌, ◌≤◌, ◌<◌, Bool, true, ◌||◌, ◌==◌}
+use Rattle.std.proofs.Common.{nat_le, nat_lt}
+use Rattle.std.proofs.Common.{List, [], ◌∷◌, ◌++◌, length, get_or, ℤ, Option, Some, None, refl, sym, ap}
+use Rattle.std.proofs.Common.{subst, arith, ◌∙◌, inl, inr, ◌⊎◌}
+use Rattle.std.specs.Prelude.{slice_index}
 use Rattle.std.specs.Char.{is_ascii_digit}
 use Rattle.std.specs.List.{list_all}
 use Rattle.std.specs.Str.{all_ascii_digits}
-use Rattle.std.proofs.lemmas.Bool.{and_parts, and_from, or_cases, or_left, or_right, eqb-true, eqb-false, eq-eqb, leb-true, le-leb}
-use Rattle.std.proofs.lemmas.Bool.{ltb-true, lt-ltb, false≢true, cases_lt, cases_Bool}
+use Rattle.std.proofs.lemmas.Bool.{and_parts, and_from, or_cases, or_left, or_right, eqb-true, eq-eqb}
+use Rattle.std.proofs.lemmas.Bool.{le-leb}
+use Rattle.std.proofs.lemmas.Bool.{ltb-true, lt-ltb, false≢true, cases_Bool}
 use Rattle.std.proofs.lemmas.Bool.Decides.{nat_tests}
-use Rattle.std.proofs.lemmas.List.{append_assoc, append-nil, length-append, get_or-append_right, get_or_append_left, get_or_past}
+use Rattle.std.proofs.lemmas.List.{append_assoc, length-append, get_or-append_right, get_or_append_left}
 use Rattle.std.proofs.lemmas.List.Folds.{list_all-append, list_all_at}
 use Rattle.log_model.specs.Moment.{Date, date_text, two_digits, days_in_month}
-use Rattle.log_model.specs.MomentText.{AreDigits, IsFraction, IsDate, IsDateTime, IsMomentInRange, SpellsMoment, counted, in_seconds}
-use Rattle.log_model.specs.MomentText.{dated, Offset, omitted, zulu, small_zulu, ahead, behind, IsOffset, offset_text, hours_text}
-use Rattle.log_model.specs.MomentText.{IsCount, AreSeconds}
+use Rattle.log_model.specs.MomentText.{IsFraction, IsDate, IsDateTime, IsMomentInRange, SpellsMoment}
+use Rattle.log_model.specs.MomentText.{counted, in_seconds}
+use Rattle.log_model.specs.MomentText.{dated, Offset, omitted, zulu, small_zulu, ahead, behind, IsOffset, offset_text}
+use Rattle.log_model.specs.MomentText.{hours_text}
 use Rattle.syslog_in.specs.Message.{is_visible, IsStated, IsTimestamp, IsTime, nil}
 use Rattle.syslog_in.specs.Parts.{Stands, IsPart, timestamp}
 use Rattle.syslog_in.proofs.Standing.{stands_here, stands_only, visible_no_blanks}
-use Rattle.syslog_in.specs.DataReading.{ends_with_zulu, is_sign, ends_with_hours, ends_with_offset, has_form, is_no_blank, first_part, behind_part}
+use Rattle.syslog_in.specs.DataReading.{ends_with_zulu, is_sign, ends_with_hours, ends_with_offset, has_form}
+use Rattle.syslog_in.specs.DataReading.{is_no_blank, first_part, behind_part}
 
 -- ---- bytes
 
@@ -53,20 +58,24 @@ fraction_clock : (fraction : List ℕ) (nanos : ℕ) → ((fraction ≡ []) × (
     → list_all is_clock_byte fraction ≡ true
 fraction_clock fraction nanos (inl none) = ap (list_all is_clock_byte) none.0
 fraction_clock fraction nanos (inr f) =
-    ap (list_all is_clock_byte) f.spelled ∙ and_from true (list_all is_clock_byte f.places) refl (digits_clock f.places f.digits.each)
+    ap (list_all is_clock_byte) f.spelled
+    ∙ and_from true (list_all is_clock_byte f.places) refl (digits_clock f.places f.digits.each)
 
 -- what stands behind the mark, up to the offset
 abbrev clock_of : (text : List ℕ) (moment : ℤ) → IsDateTime text moment → List ℕ
 clock_of text moment d =
     two_digits d.hour ++ (58 ∷ (two_digits d.minute ++ (58 ∷ (two_digits d.second ++ d.fraction))))
 
-all_clock : (text : List ℕ) (moment : ℤ) (d : IsDateTime text moment) → list_all is_clock_byte (clock_of text moment d) ≡ true
+all_clock : (text : List ℕ) (moment : ℤ) (d : IsDateTime text moment)
+    → list_all is_clock_byte (clock_of text moment d) ≡ true
 all_clock text moment d =
     let seconds = two_digits d.second ++ d.fraction in
     let minutes = two_digits d.minute ++ 58 ∷ seconds in
     let hours : list_all is_clock_byte (two_digits d.hour) ≡ true = two_clock d.hour (omega (arith, d.is_time.0)) in
-    let minute : list_all is_clock_byte (two_digits d.minute) ≡ true = two_clock d.minute (omega (arith, d.is_time.1)) in
-    let second : list_all is_clock_byte (two_digits d.second) ≡ true = two_clock d.second (omega (arith, d.is_time.2)) in
+    let minute : list_all is_clock_byte (two_digits d.minute) ≡ true = two_clock d.minute (omega
+    (arith, d.is_time.1)) in
+    let second : list_all is_clock_byte (two_digits d.second) ≡ true = two_clock d.second (omega
+    (arith, d.is_time.2)) in
     both is_clock_byte (two_digits d.hour) (58 ∷ minutes) hours
     (and_from true (list_all is_clock_byte minutes) refl (both is_clock_byte (two_digits d.minute) (58 ∷ seconds) minute
     (and_from true (list_all is_clock_byte seconds) refl (both is_clock_byte (two_digits d.second) d.fraction second
@@ -126,7 +135,8 @@ in_offset text moment d back some near =
     ap length whole ∙ length-append (front ++ clock) offset in
     let place : length text - back - length (front ++ clock) ≡ length offset - back = omega (arith, count) in
     ap (λ (t : List ℕ). get_or t (length text - back) 0) whole
-    ∙ get_or-append_right (front ++ clock) offset (length (front ++ clock)) (length text - back) 0 refl (omega (arith, count))
+    ∙ get_or-append_right (front ++ clock) offset (length (front ++ clock)) (length text - back) 0 refl (omega
+    (arith, count))
     ∙ ap (λ (k : ℕ). get_or offset k 0) place
 
 no_sign : (byte : ℕ) → is_clock_byte byte ≡ true → is_sign byte ≡ true → ⊥
@@ -145,7 +155,8 @@ not_zulu text h clock =
     no_zulu (slice_index text (length text - 1)) clock
     (and_parts (nat_le 1 (length text)) (slice_index text (length text - 1) == 90) h).1
 
-not_hours : (text : List ℕ) → ends_with_hours text ≡ true → is_clock_byte (slice_index text (length text - 6)) ≡ true → ⊥
+not_hours : (text : List ℕ) → ends_with_hours text ≡ true → is_clock_byte (slice_index text (length text - 6)) ≡ true
+    → ⊥
 not_hours text h clock =
     no_sign (slice_index text (length text - 6)) clock
     (and_parts (nat_le 6 (length text)) (is_sign (slice_index text (length text - 6))) h).1
@@ -249,7 +260,8 @@ date_visible : (date : Date) → IsDate date → list_all is_visible (date_text 
 date_visible date h =
     let most = month_below date.year date.month in
     let day : list_all is_visible (two_digits date.day) ≡ true = two_visible date.day (omega (arith, h.day.1)) in
-    let month : list_all is_visible (two_digits date.month) ≡ true = two_visible date.month (omega (arith, h.month.1)) in
+    let month : list_all is_visible (two_digits date.month) ≡ true = two_visible date.month (omega
+    (arith, h.month.1)) in
     let century = date.year / 100 in
     let year = date.year % 100 in
     let first : list_all is_visible (two_digits century) ≡ true = two_visible century (omega (arith, h.year)) in
@@ -270,8 +282,10 @@ offset_visible : (o : Offset) → IsOffset o → list_all is_visible (offset_tex
 offset_visible omitted h = refl
 offset_visible zulu h = refl
 offset_visible small_zulu h = refl
-offset_visible (ahead hours minutes) h = and_from true (list_all is_visible (hours_text hours minutes)) refl (hours_visible hours minutes h.0 h.1)
-offset_visible (behind hours minutes) h = and_from true (list_all is_visible (hours_text hours minutes)) refl (hours_visible hours minutes h.0 h.1)
+offset_visible (ahead hours minutes) h = and_from true (list_all is_visible (hours_text hours minutes)) refl
+    (hours_visible hours minutes h.0 h.1)
+offset_visible (behind hours minutes) h = and_from true (list_all is_visible (hours_text hours minutes)) refl
+    (hours_visible hours minutes h.0 h.1)
 
 pub timestamp_visible : (text : List ℕ) (moment : ℤ) → IsTimestamp text moment → list_all is_visible text ≡ true
 timestamp_visible text moment h =

@@ -1,16 +1,19 @@
 -- Values of parameters, run by run.
-use Rattle.std.proofs.Common.{◌≡◌, ℕ, ◌+◌, ◌<◌, Bool, true, false, cond, not, ◌&&◌, ◌||◌, ◌==◌, List, [], ◌∷◌, ◌++◌, length, take}
+use Rattle.std.proofs.Common.{◌≡◌, ℕ, ◌+◌, ◌<◌, Bool, true, false, cond, ◌||◌, ◌==◌, List, [], ◌∷◌, ◌++◌}
+use Rattle.std.proofs.Common.{length, take}
 use Rattle.std.proofs.Common.{drop, Option, Some, None, refl, sym, ap, subst, arith, ◌∙◌, ◌⊎◌, inl, inr}
 use Rattle.std.specs.Prelude.{flat_map, IsTrue}
 use Rattle.std.specs.List.{prefix_len, list_all}
 use Rattle.std.proofs.Math.Numerals.{one-add}
-use Rattle.std.proofs.lemmas.Bool.{cases_Bool, or_parts, or_cases, eqb-true, and_parts, and_from, not-true, not-false}
+use Rattle.std.proofs.lemmas.Bool.{cases_Bool, or_parts, eqb-true, and_parts, and_from, not-true, not-false}
 use Rattle.std.proofs.lemmas.Bool.{or_from, false≢true, not_from_false}
 use Rattle.time_text.proofs.Counts.{some_is}
-use Rattle.std.proofs.lemmas.List.{append_assoc, append-nil, length-append, length-drop}
-use Rattle.syslog_in.specs.Message.{is_special, Character, plain, escaped, backslash, is_character, character_source, character_text}
+use Rattle.std.proofs.lemmas.List.{append_assoc, append-nil, length-drop}
+use Rattle.syslog_in.specs.Message.{is_special, Character, plain, escaped, backslash, is_character, character_source}
+use Rattle.syslog_in.specs.Message.{character_text}
 use Rattle.syslog_in.specs.Message.{value_source}
-use Rattle.syslog_in.specs.DataReading.{is_plain, escaped_text, put, value_from, value_at, Ending, quote, escape, nothing}
+use Rattle.syslog_in.specs.DataReading.{is_plain, escaped_text, put, value_from, value_at, Ending, quote, escape}
+use Rattle.syslog_in.specs.DataReading.{nothing}
 use Rattle.syslog_in.specs.DataReading.{behind_backslash, ending_at, GivesValue}
 
 abbrev Found : Type 0
@@ -42,7 +45,8 @@ value_escape : (byte : ℕ) (rest : List ℕ) → value_at (92 ∷ byte ∷ rest
 unfolding value_from
 value_escape byte rest = refl
 
-value_plain : (byte : ℕ) (rest : List ℕ) → is_plain byte ≡ true → value_at (byte ∷ rest) ≡ put (byte ∷ []) (value_at rest)
+value_plain : (byte : ℕ) (rest : List ℕ) → is_plain byte ≡ true
+    → value_at (byte ∷ rest) ≡ put (byte ∷ []) (value_at rest)
 unfolding value_from
 value_plain byte rest h =
     let special = not-true (is_special byte) h in
@@ -56,28 +60,33 @@ behind_is [] = refl
 behind_is (byte ∷ rest) = refl
 
 -- where a byte is special, nothing is passed over
-value_special : (byte : ℕ) (rest : List ℕ) → is_plain byte ≡ false → value_at (byte ∷ rest) ≡ after_run (ending_at (byte ∷ rest))
+value_special : (byte : ℕ) (rest : List ℕ) → is_plain byte ≡ false
+    → value_at (byte ∷ rest) ≡ after_run (ending_at (byte ∷ rest))
 unfolding value_from
 value_special byte rest h = by_quote (cases_Bool (byte == 34)) (cases_Bool (byte == 92)) (cases_Bool (byte == 93))
   where
     by_quote : (byte == 34 ≡ true) ⊎ (byte == 34 ≡ false) → (byte == 92 ≡ true) ⊎ (byte == 92 ≡ false)
-        → (byte == 93 ≡ true) ⊎ (byte == 93 ≡ false) → value_from false (byte ∷ rest) ≡ after_run (ending_at (byte ∷ rest))
+        → (byte == 93 ≡ true) ⊎ (byte == 93 ≡ false)
+        → value_from false (byte ∷ rest) ≡ after_run (ending_at (byte ∷ rest))
     by_quote (inl q) b c = rw q refl
     by_quote (inr q) (inl b) c =
         let no_bracket : byte == 93 ≡ false = ap (λ (n : ℕ). n == 93) (eqb-true byte 92 b) in
         rw (q, no_bracket, b) (behind_is rest)
     by_quote (inr q) (inr b) (inl c) = rw (q, c, b) refl
     by_quote (inr q) (inr b) (inr c) =
-        let none : is_special byte ≡ false = or_from ((byte == 34) || (byte == 92)) (byte == 93) (or_from (byte == 34) (byte == 92) q b) c in
+        let none : is_special byte ≡ false = or_from ((byte == 34) || (byte == 92)) (byte == 93) (or_from (byte == 34)
+        (byte == 92) q b) c in
         absurd (false≢true (sym none ∙ not-false (is_special byte) h))
 
 pub value_run : (bytes : List ℕ)
-    → value_at bytes ≡ put (take (prefix_len is_plain bytes) bytes) (after_run (ending_at (drop (prefix_len is_plain bytes) bytes)))
+    → value_at bytes ≡ put (take (prefix_len is_plain bytes) bytes) (after_run (ending_at (drop
+    (prefix_len is_plain bytes) bytes)))
 value_run [] = value_nothing
 value_run (byte ∷ bytes) = by_case (is_plain byte) refl (value_run bytes)
   where
     by_case : (b : Bool) → is_plain byte ≡ b
-        → value_at bytes ≡ put (take (prefix_len is_plain bytes) bytes) (after_run (ending_at (drop (prefix_len is_plain bytes) bytes)))
+        → value_at bytes ≡ put (take (prefix_len is_plain bytes) bytes) (after_run (ending_at (drop
+        (prefix_len is_plain bytes) bytes)))
         → value_at (byte ∷ bytes) ≡ put (take (cond b (1 + prefix_len is_plain bytes) 0) (byte ∷ bytes))
         (after_run (ending_at (drop (cond b (1 + prefix_len is_plain bytes) 0) (byte ∷ bytes))))
     by_case true is more =
@@ -128,7 +137,8 @@ module _ (text rest old new : List ℕ) (h : ReadSoFar text rest old new) where
         ∙ append_assoc old h.read run) ∙ append_assoc old (h.read ++ run) (escaped_text byte);
   }
 
-  ending_shorter : (bytes : List ℕ) (byte : ℕ) (next : List ℕ) → escape byte next ≡ ending_at bytes → length next < length bytes
+  ending_shorter : (bytes : List ℕ) (byte : ℕ) (next : List ℕ) → escape byte next ≡ ending_at bytes
+      → length next < length bytes
   ending_shorter [] byte next is = absurd cc
   ending_shorter (first ∷ bytes) byte next is =
       elim (cases_Bool (first == 34)) [
@@ -165,7 +175,8 @@ pub value_again : (value : List Character) (rest : List ℕ) → list_all is_cha
 value_again [] rest h = value_quote rest
 value_again (c ∷ value) rest h =
     let parts = and_parts (is_character c) (list_all is_character value) h in
-    ap value_at (ap (λ (t : List ℕ). t ++ rest) (append_assoc (character_source c) (flat_map character_source value) (34 ∷ []))
+    ap value_at (ap (λ (t : List ℕ). t ++ rest) (append_assoc (character_source c) (flat_map character_source value)
+    (34 ∷ []))
     ∙ append_assoc (character_source c) (value_source value) rest)
     ∙ character_again c (value_source value ++ rest) parts.0
     ∙ ap (put (character_text c)) (value_again value rest parts.1)
@@ -200,7 +211,8 @@ one_more c bytes text rest is h = record {
   is_value = and_from _ _ is h.is_value;
   spelled = ap (λ (t : List ℕ). character_source c ++ t) h.spelled
       ∙ sym (append_assoc (character_source c) (value_source h.value) rest)
-      ∙ ap (λ (t : List ℕ). t ++ rest) (sym (append_assoc (character_source c) (flat_map character_source h.value) (34 ∷ [])));
+      ∙ ap (λ (t : List ℕ). t ++ rest) (sym (append_assoc (character_source c) (flat_map character_source h.value)
+      (34 ∷ [])));
   text_is = ap (λ (t : List ℕ). character_text c ++ t) h.text_is;
 }
 
@@ -251,7 +263,8 @@ takes false (byte ∷ bytes) text rest e =
         → SpellsValue (byte ∷ bytes) text rest
     by_byte (inl q) c b is behind_it later =
         let same = some_is (pair [] bytes) (pair text rest) (rw q at is) in
-        nothing_read (eqb-true byte 34 q) (ap (λ (p : List ℕ × List ℕ). p.1) same) (ap (λ (p : List ℕ × List ℕ). p.0) same)
+        nothing_read (eqb-true byte 34 q) (ap (λ (p : List ℕ × List ℕ). p.1) same) (ap (λ (p : List ℕ
+        × List ℕ). p.0) same)
     by_byte (inr q) (inl c) b is behind_it later = let wrong = rw (q, c) at is in absurd cc
     by_byte (inr q) (inr c) (inl b) is behind_it later =
         subst (λ (x : ℕ). SpellsValue (x ∷ bytes) text rest) (sym (eqb-true byte 92 b)) (behind_it (rw (q, c, b) at is))

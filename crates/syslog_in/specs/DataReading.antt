@@ -1,5 +1,6 @@
 -- Reading a message from left to right.
-use Rattle.std.specs.Prelude.{◌≡◌, ℕ, Bool, true, false, flat_map, map, IfSome, IsTrue, not, ◌&&◌, ◌||◌, ◌==◌, nat_le, List, [], ◌∷◌, ◌++◌, length, take, drop}
+use Rattle.std.specs.Prelude.{◌≡◌, ℕ, Bool, true, false, flat_map, map, IfSome, IsTrue, not, ◌&&◌, ◌||◌, ◌==◌, nat_le}
+use Rattle.std.specs.Prelude.{List, [], ◌∷◌, ◌++◌, length, take, drop}
 use Rattle.std.specs.Prelude.{Option, Some, None, ◌-◌, nat_lt, slice_index, if◌then◌else◌}
 use Rattle.std.specs.List.{prefix_len, AllByRecursion}
 use Rattle.log_model.specs.Field.{Field, set_all}

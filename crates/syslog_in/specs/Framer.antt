@@ -1,6 +1,6 @@
 -- A framer, which is fed a stream piece by piece, and what it answers.
-use Rattle.std.specs.Prelude.{◌≡◌, ℕ, ◌+◌, ◌-◌, ◌^◌, min, List, [], ◌++◌, length, Option, Some, None, codes, decimal}
-use Rattle.std.specs.Prelude.{Bool, true, false}
+use Rattle.std.specs.Prelude.{◌≡◌, ℕ, ◌+◌, ◌-◌, ◌^◌, min, List, ◌++◌, length, Option, Some, None, codes, decimal}
+use Rattle.std.specs.Prelude.{true, false}
 use Rattle.syslog_in.specs.Framing.{AreFrames, CanGoOn, HasBadLength, IsTooLong, begins_length, unless_empty}
 use Rattle.syslog_in.specs.declared.fault.FrameFault.{FrameFault}
 use Rattle.syslog_in.specs.declared.fault.FrameFault.TheVariants.{BadLength, TooLong, Cut, Ended, Memory}

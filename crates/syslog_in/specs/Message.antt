@@ -1,6 +1,8 @@
 -- Messages of syslog (RFC 5424, section 6).
-use Rattle.std.specs.Prelude.{◌≡◌, ℕ, ◌<◌, ◌≤◌, ◌/◌, ◌%◌, Bool, not, ◌&&◌, ◌||◌, ◌==◌, nat_le, List, [], ◌∷◌, ◌++◌, length}
-use Rattle.std.specs.Prelude.{drop, slice_index, flat_map, map, Option, Some, None, ℤ, IsTrue, ◌⊎◌, codes, decimal, bytes_eq}
+use Rattle.std.specs.Prelude.{◌≡◌, ℕ, ◌<◌, ◌≤◌, ◌/◌, ◌%◌, Bool, not, ◌&&◌, ◌||◌, ◌==◌, nat_le, List, [], ◌∷◌, ◌++◌}
+use Rattle.std.specs.Prelude.{length}
+use Rattle.std.specs.Prelude.{drop, slice_index, flat_map, map, Option, Some, None, ℤ, IsTrue, codes, decimal}
+use Rattle.std.specs.Prelude.{bytes_eq}
 use Rattle.std.specs.Prelude.{if◌then◌else◌}
 use Rattle.std.specs.List.{list_all, AllByRecursion}
 use Rattle.std.specs.Str.Lossy.{utf8_lossy}

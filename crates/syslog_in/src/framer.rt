@@ -113,7 +113,8 @@ impl Framer {
     /// Appends to `out` the message that the end of the input makes of what is left, if there is one.
     pub fn finish(&mut self, out: &mut Frames) -> Result<(), FrameFault>
         ensures given { OnOk result (Ends self.old out.old out.new) }
-        ensures end { OnOk result ((fed : List ℕ) → HasTaken self.old fed → self.new.end ≡ Some (0, place (length fed))) }
+        ensures end { OnOk result ((fed : List ℕ) → HasTaken self.old fed
+            → self.new.end ≡ Some (0, place (length fed))) }
         ensures cut { IfErr result (λ fault. IsCut fault self.old self.new out.old out.new) }
         ensures ended { (first at : ℕ) → self.old.end ≡ Some (first, at)
             → (result ≡ Err (FrameFault.Ended first at)) × (self.new ≡ self.old) × (out.new ≡ out.old) }

@@ -33,7 +33,8 @@ returns-clause-one c =
     let name = c.in-Some.name.now in
     param_one id c.args.text.now old _ _ _ _ _ parts
     (c.in_ok-set_bytes.ensures
-    ∙ ap (λ (n : List ℕ). set_field old n (utf8_lossy c.deref.result.now)) (c.as_str.ensures.value ∙ c.in_ok-join.ensures)
+    ∙ ap (λ (n : List ℕ). set_field old n (utf8_lossy c.deref.result.now)) (c.as_str.ensures.value
+    ∙ c.in_ok-join.ensures)
     ∙ ap (λ (v : List ℕ). set_field old (id ++ 46 ∷ name) (utf8_lossy v)) c.deref.ensures.value)
 
 pub returns-clause-any : goal.returns-clause-any
@@ -46,5 +47,6 @@ returns-clause-any c =
     let name = c.in-Some.name.now in
     param_any id c.args.text.now old _ _ _ _ _ parts
     (c.in_ok-set_bytes.ensures
-    ∙ ap (λ (n : List ℕ). set_field old n (utf8_lossy c.deref.result.now)) (c.as_str.ensures.value ∙ c.in_ok-join.ensures)
+    ∙ ap (λ (n : List ℕ). set_field old n (utf8_lossy c.deref.result.now)) (c.as_str.ensures.value
+    ∙ c.in_ok-join.ensures)
     ∙ ap (λ (v : List ℕ). set_field old (id ++ 46 ∷ name) (utf8_lossy v)) c.deref.ensures.value)

@@ -1,4 +1,4 @@
-use Rattle.std.proofs.Common.{arith, ◌∙◌, sym, ap, ℕ, take, drop, List, ◌++◌}
+use Rattle.std.proofs.Common.{arith, ◌∙◌, ap, ℕ, take, drop, List, ◌++◌}
 use Rattle.std.proofs.lemmas.List.Sums.{prefix_len-le-length}
 use Rattle.syslog_in.specs.DataReading.{is_plain, ending_at}
 use Rattle.syslog_in.proofs.Values.{at_quote, at_nothing, at_escape, escape_shorter}

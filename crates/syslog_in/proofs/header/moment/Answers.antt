@@ -1,8 +1,7 @@
-use Rattle.std.proofs.Common.{◌≡◌, ℤ, List, ℕ, Err, sym, ap, subst, ◌∙◌, FitsSigned, w64, arith}
+use Rattle.std.proofs.Common.{List, ℕ, Err, sym, ap, subst, ◌∙◌, FitsSigned, w64, arith}
 use Rattle.std.proofs.lemmas.Bool.{false≢true}
 use Rattle.std.proofs.lemmas.Int.{ints, to_z-of_z}
 use Rattle.log_model.specs.MomentText.{SpellsMoment, IsMomentInRange, dated}
-use Rattle.syslog_in.specs.Message.{IsTimestamp}
 use Rattle.syslog_in.proofs.Timestamps.{timestamp_has_form, timestamp_from_moment, timestamp_visible}
 use Rattle.syslog_in.proofs.header.moment.Goals as goal
 

@@ -1,5 +1,6 @@
 use Rattle.syslog_in.specs.NamesRead.{texts_of}
-use Rattle.syslog_in.proofs.Headers.{no_pri, no_version, lacks_version, no_time, lacks_time, header_here, header_only, names_fit}
+use Rattle.syslog_in.proofs.Headers.{no_pri, no_version, lacks_version, no_time, lacks_time, header_here, header_only}
+use Rattle.syslog_in.proofs.Headers.{names_fit}
 use Rattle.syslog_in.proofs.Headers.{lacks_name, no_names}
 use Rattle.syslog_in.proofs.header.read_header.Goals as goal
 
@@ -11,11 +12,13 @@ returns-in_default-clause-none c = λ priority time texts rest h. no_pri c.args.
 
 pub returns-in_default-past_version-clause-fault : goal.returns-in_default-past_version-clause-fault
 returns-in_default-past_version-clause-fault c =
-    lacks_version c.args.m.now c.in-Some.rest.now c.in-Some.priority c.in-Some.ensures c.in_default-past_version.ensures.none
+    lacks_version c.args.m.now c.in-Some.rest.now c.in-Some.priority c.in-Some.ensures
+    c.in_default-past_version.ensures.none
 
 pub returns-in_default-past_version-clause-none : goal.returns-in_default-past_version-clause-none
 returns-in_default-past_version-clause-none c =
-    no_version c.args.m.now c.in-Some.rest.now c.in-Some.priority c.in-Some.ensures c.in_default-past_version.ensures.none
+    no_version c.args.m.now c.in-Some.rest.now c.in-Some.priority c.in-Some.ensures
+    c.in_default-past_version.ensures.none
 
 pub returns-in_default-time-clause-fault : goal.returns-in_default-time-clause-fault
 returns-in_default-time-clause-fault c =

@@ -1,4 +1,3 @@
-use Rattle.syslog_in.specs.HeaderReading.{AreNames}
 use Rattle.syslog_in.proofs.NamesRead.{as_named, handed_on, no_hostname, no_app_name, no_proc_id, no_msg_id, names_only}
 use Rattle.syslog_in.proofs.header.read_names.Goals as goal
 

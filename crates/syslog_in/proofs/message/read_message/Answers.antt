@@ -34,7 +34,8 @@ returns-clause-read c =
     let names = texts_of header.names in
     whole_message c.args.m.now header.priority header.time names c.in_ok-header.rest.now c.in_ok-header.ensures.only _
     c.set_data.new.fields c.in-Some.after.now _ c.in_ok-header.ensures.some
-    (c.in_ok-set_header.ensures ∙ ap (λ (f : List Field). set_all f (header_fields header.priority names)) c.in_ok-fields.ensures)
+    (c.in_ok-set_header.ensures
+    ∙ ap (λ (f : List Field). set_all f (header_fields header.priority names)) c.in_ok-fields.ensures)
     (rw c.in-Some.is at c.in_ok-after.ensures.one)
     (c.in_ok-set_bytes.ensures
     ∙ ap (λ (t : List ℕ). set_field c.set_data.new.fields (codes "_msg") (utf8_lossy t)) c.text_of.ensures)
@@ -45,7 +46,8 @@ returns-clause-only c =
     let names = texts_of header.names in
     only_message c.args.m.now header.priority header.time names c.in_ok-header.rest.now c.in_ok-header.ensures.only _
     c.set_data.new.fields c.in-Some.after.now _
-    (c.in_ok-set_header.ensures ∙ ap (λ (f : List Field). set_all f (header_fields header.priority names)) c.in_ok-fields.ensures)
+    (c.in_ok-set_header.ensures
+    ∙ ap (λ (f : List Field). set_all f (header_fields header.priority names)) c.in_ok-fields.ensures)
     (rw c.in-Some.is at c.in_ok-after.ensures.any)
     (c.in_ok-set_bytes.ensures
     ∙ ap (λ (t : List ℕ). set_field c.set_data.new.fields (codes "_msg") (utf8_lossy t)) c.text_of.ensures)

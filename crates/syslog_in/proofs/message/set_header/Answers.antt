@@ -25,7 +25,8 @@ returns c =
     let fields7 = set_field fields6 (codes "proc_id") (unless_nil names.proc_id.now) in
     let one = step c.set.new.self old old (codes "app_name") c.unless_nil.result.now (unless_nil names.app_name.now)
     c.in_ok-set.ensures.ok refl c.unless_nil.ensures in
-    let two = step c.set-2.new.self c.set.new.self fields1 (codes "facility") c.format.result.now (decimal (priority / 8))
+    let two = step c.set-2.new.self c.set.new.self fields1 (codes "facility") c.format.result.now (decimal
+    (priority / 8))
     c.in_ok-set-2.ensures.ok one c.format.ensures.text in
     let three = step c.set-3.new.self c.set-2.new.self fields2 (codes "format") (codes "rfc5424") (codes "rfc5424")
     c.in_ok-set-3.ensures.ok two refl in

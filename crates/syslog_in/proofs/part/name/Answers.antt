@@ -1,10 +1,10 @@
-use Rattle.std.proofs.Common.{◌≡◌, ◌<◌, ◌≤◌, length, sym, ap, subst, ◌∙◌, arith}
+use Rattle.std.proofs.Common.{length, sym, ap, ◌∙◌, arith}
 use Rattle.std.proofs.lemmas.Bool.{eqb-true, eqb-false, false≢true}
 use Rattle.syslog_in.specs.Message.{IsName}
-use Rattle.syslog_in.specs.DataReading.{first_part}
 use Rattle.syslog_in.proofs.Standing.{stands_here, lacks_name}
 use Rattle.syslog_in.proofs.part.name.Goals as goal
-use Rattle.syslog_in.proofs.part.name.Goals.{then-is_empty-via-then-is_empty, then-is_empty-via-else-is_empty+then-part-most}
+use Rattle.syslog_in.proofs.part.name.Goals.{then-is_empty-via-then-is_empty}
+use Rattle.syslog_in.proofs.part.name.Goals.{then-is_empty-via-else-is_empty+then-part-most}
 
 pub returns-then-is_empty-clause-lacks : goal.returns-then-is_empty-clause-lacks
 returns-then-is_empty-clause-lacks c = lacks_name c.args.most c.args.text.now (λ so.

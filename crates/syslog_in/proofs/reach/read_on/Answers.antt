@@ -1,8 +1,8 @@
-use Rattle.std.proofs.Common.{◌≡◌, ◌++◌, ◌+◌, ◌-◌, ◌≤◌, ℕ, List, length, take, drop, sym, ap, subst, arith, ◌∙◌}
+use Rattle.std.proofs.Common.{◌≡◌, ◌++◌, ◌+◌, ◌-◌, ℕ, List, length, take, sym, ap, subst, arith, ◌∙◌}
 use Rattle.std.proofs.lemmas.List.{length-append, length-take-le}
 use Rattle.std.proofs.lemmas.List.{take_rest}
 use Rattle.syslog_in.specs.Framer.{place}
-use Rattle.syslog_in.specs.Reading.{whole, step_at, why_step, Reads}
+use Rattle.syslog_in.specs.Reading.{step_at, why_step, Reads}
 use Rattle.syslog_in.proofs.Pieces.{rest_fits_in, reads_behind, begun_reads, bad_all, long_all}
 use Rattle.syslog_in.proofs.reach.read_on.Goals as goal
 
@@ -45,7 +45,8 @@ returns-in_ok-stop-in-Whole-clause-ok c =
     let new = c.read_piece-in-Whole.new.out in
     let count : c.len.result ≡ length (kept ++ take used piece) =
     omega (arith, c.len.ensures, c.complete.new.kept.ok, ap length c.in_ok-used.ensures.ok) in
-    let behind = subst (λ (t : List ℕ). Reads t middle new left.0 stop) (take_rest piece (used - length rest)) left.1 in (
+    let behind = subst (λ (t : List ℕ). Reads t middle new left.0 stop) (take_rest piece
+    (used - length rest)) left.1 in (
       left.0,
       reads_behind kept piece message rest used c.in_ok-used.ensures.bound c.requires read c.args.out.now middle new
           left.0 stop c.saturating_add.result c.in_ok-push_message-in-Whole.ensures.ok behind

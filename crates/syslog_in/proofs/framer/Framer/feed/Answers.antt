@@ -1,7 +1,8 @@
-use Rattle.std.proofs.Common.{◌≡◌, ℕ, List, ◌+◌, ◌-◌, ◌++◌, length, refl, sym, ap, subst, arith, ◌∙◌}
-use Rattle.syslog_in.specs.Framer.{Framing, HasTaken, place, place_in}
+use Rattle.std.proofs.Common.{sym, ap, subst, arith, ◌∙◌}
+use Rattle.syslog_in.specs.Framer.{Framing, HasTaken}
 use Rattle.syslog_in.specs.Reading.{step_at, why_step}
-use Rattle.syslog_in.proofs.Framers.{nothing_short, is_short_from, taken_more, completed, start_later, kept_short, goes_on}
+use Rattle.syslog_in.proofs.Framers.{nothing_short, is_short_from, taken_more, completed, start_later, kept_short}
+use Rattle.syslog_in.proofs.Framers.{goes_on}
 use Rattle.syslog_in.proofs.Stops.{bad_takes, long_takes}
 use Rattle.syslog_in.proofs.framer.Framer.feed.Goals as goal
 
@@ -22,7 +23,8 @@ pub returns-in-Short-clause-given : goal.returns-in-Short-clause-given
 returns-in-Short-clause-given c = λ fed taken.
     let framer = subst (λ (f : Framing). HasTaken f fed) (sym c.self.view_is) taken in
     let read = c.in-Ok.ensures.ok in
-    rw (read.2 c.in-Short.is) (completed _ fed c.args.piece.now c.args.out.now c.read_on.new.out read.0 c.in-Ok.stop framer read.1)
+    rw (read.2 c.in-Short.is)
+    (completed _ fed c.args.piece.now c.args.out.now c.read_on.new.out read.0 c.in-Ok.stop framer read.1)
 
 pub returns-in-BadLength-clause-fault : goal.returns-in-BadLength-clause-fault
 returns-in-BadLength-clause-fault c = λ fed taken.
