@@ -47,3 +47,12 @@ abbrev pub IsStreamFault : SyslogKind → ℤ → List Field → Type 0
 IsStreamFault (kinds.Message fault) time fields = ⊥
 IsStreamFault (kinds.Row fault) time fields = row_fault time fields ≡ Some fault
 IsStreamFault kinds.Memory time fields = Unit {0}
+
+-- why bytes that are no message give no row
+abbrev pub kind_of : MessageFault → SyslogKind
+kind_of messages.BadPri = kinds.Message messages.BadPri
+kind_of messages.BadVersion = kinds.Message messages.BadVersion
+kind_of messages.BadTime = kinds.Message messages.BadTime
+kind_of (messages.BadHeader at) = kinds.Message (messages.BadHeader at)
+kind_of (messages.BadData at) = kinds.Message (messages.BadData at)
+kind_of messages.Memory = kinds.Memory

@@ -3,7 +3,8 @@ ghost use Rattle.std.specs.Prelude.{◌≡◌, ◌≢◌, ◌≤ℤ◌, pos, IfO
 ghost use Rattle.log_model.specs.Row.{Row as Event};
 ghost use Rattle.vl_row.specs.Faults.{row_fault};
 ghost use Rattle.ingest_row.specs.Ingest.{row_at};
-ghost use Rattle.ingest_row.specs.Syslog.{IsRowOfSyslog, IsSyslogRefused, IsStreamFault, moment_of, syslog_stream};
+ghost use Rattle.ingest_row.specs.Syslog.{IsRowOfSyslog, IsSyslogRefused, IsStreamFault, kind_of, moment_of};
+ghost use Rattle.ingest_row.specs.Syslog.{syslog_stream};
 
 use std::alloc::{AllocError, Global};
 use syslog_in::{MessageFault, SyslogRow, read_message};
@@ -49,6 +50,15 @@ fn row_at(alloc: Global, time: i64, fields: FieldList) -> Result<Row, SyslogKind
     }
 }
 
+fn kind_of(fault: MessageFault) -> SyslogKind
+    ensures { result ≡ kind_of fault }
+{
+    match fault {
+        MessageFault::Memory => SyslogKind::Memory,
+        _ => SyslogKind::Message(fault),
+    }
+}
+
 fn moment_of(now: i64, time: Option<i64>) -> i64
     ensures { result ≡ moment_of now time }
 {
@@ -72,7 +82,6 @@ pub fn row_of_syslog(alloc: Global, now: i64, m: &[u8]) -> Result<Row, SyslogKin
 {
     match read_message(alloc, m) {
         Ok(SyslogRow { time, fields }) => row_at(alloc, moment_of(now, time), fields),
-        Err(MessageFault::Memory) => Err(SyslogKind::Memory),
-        Err(fault) => Err(SyslogKind::Message(fault)),
+        Err(fault) => Err(kind_of(fault)),
     }
 }
