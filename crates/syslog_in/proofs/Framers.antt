@@ -11,6 +11,7 @@ use Rattle.time_text.proofs.DigitLemmas.{digit_value_is}
 use Rattle.std.proofs.lemmas.List.{take-append-drop, append_assoc, append-nil, length-append, length-take-le}
 use Rattle.std.proofs.lemmas.List.{length-replicate}
 use Rattle.std.proofs.lemmas.List.Sums.{prefix_len-le-length}
+use Rattle.syslog_in.specs.Framing.{AreApart}
 use Rattle.syslog_in.specs.Framing.{frame_limit, Frame, counted, ended, IsFrame, source, message_of, begins_length}
 use Rattle.syslog_in.specs.Framing.{AreLengthDigits, length_of, AreFrames}
 use Rattle.syslog_in.specs.Framing.{BeginsWithNone, CanGoOn, BeginsWithFrames}
@@ -286,3 +287,11 @@ goes_on_again rest h = by_step (step_at rest) refl
     by_step too_long e =
         let long = long_again (rest ++ h.more) (long_more rest h.more (long_takes rest e)) in
         let wrong = sym long ∙ frame_is in absurd cc
+
+pub are_apart : (rest : List ℕ) → AreApart rest
+are_apart rest = record {
+  bad_length = λ open_is place bad. (let e = sym (goes_on_again rest open_is) ∙ bad_again rest place bad in cc);
+  too_long = λ open_is long. (let e = sym (goes_on_again rest open_is) ∙ long_again rest long in cc);
+  not_both = λ place bad long. (let e = sym (bad_again rest place bad) ∙ long_again rest long in cc);
+  one_place = λ place other bad bad₂. (let e = sym (bad_again rest place bad) ∙ bad_again rest other bad₂ in cc);
+}

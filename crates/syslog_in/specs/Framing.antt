@@ -119,3 +119,11 @@ pub data IsTooLong (rest : List ℕ) : Type 0 where
       → IsTooLong rest
   long_line :
       (line more : List ℕ) → IsLine line → frame_limit < length line → rest ≡ line ++ more → IsTooLong rest
+
+-- Of a rest only one of these holds: more bytes can make it a frame, its length is wrong at one place, or it is too
+-- long.
+pub record AreApart (rest : List ℕ) : Type 0 where
+  pub bad_length : CanGoOn rest → (place : ℕ) → HasBadLength rest place → ⊥
+  pub too_long : CanGoOn rest → IsTooLong rest → ⊥
+  pub not_both : (place : ℕ) → HasBadLength rest place → IsTooLong rest → ⊥
+  pub one_place : (place other : ℕ) → HasBadLength rest place → HasBadLength rest other → place ≡ other

@@ -1,6 +1,6 @@
 //! From a stream of bytes to its messages.
 ghost use Rattle.std.specs.Prelude.{◌≡◌, ◌≤◌, ◌++◌, ℕ, List, [], length, Some, Err, OnOk, IfErr};
-ghost use Rattle.syslog_in.specs.Framing.{AreFrames};
+ghost use Rattle.syslog_in.specs.Framing.{AreApart, AreFrames};
 
 use crate::fault::FrameFault;
 use crate::frames::Frames;
@@ -56,6 +56,8 @@ impl Framer {
         // Bytes are whole frames and a rest in one way, so that cuttings make no difference.
         ensures unique { (bytes : List ℕ) (messages others : List (List ℕ)) (rest left : List ℕ)
             → AreFrames bytes messages rest → AreFrames bytes others left → (messages ≡ others) × (rest ≡ left) }
+        // So a fault comes exactly where it is said to come.
+        ensures apart { (rest : List ℕ) → AreApart rest }
     {
         Framer {
             start: 0,

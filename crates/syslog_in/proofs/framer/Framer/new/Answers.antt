@@ -1,6 +1,6 @@
 use Rattle.std.proofs.Common.{refl, ap, ◌∙◌}
 use Rattle.syslog_in.specs.Reading.{step_at}
-use Rattle.syslog_in.proofs.Framers.{nothing_taken, nothing_short, is_short_from}
+use Rattle.syslog_in.proofs.Framers.{nothing_taken, nothing_short, is_short_from, are_apart}
 use Rattle.syslog_in.proofs.Streams.{frames_unique}
 use Rattle.syslog_in.proofs.framer.Framer.new.Goals as goal
 
@@ -12,3 +12,6 @@ returns-clause-fresh c = nothing_taken _ refl c.new.ensures.items refl
 
 pub returns-clause-unique : goal.returns-clause-unique
 returns-clause-unique c = frames_unique
+
+pub returns-clause-apart : goal.returns-clause-apart
+returns-clause-apart c = are_apart
