@@ -1,0 +1,10 @@
+pub mod Framing
+pub mod Framer
+pub mod Reading
+pub mod Spans
+pub mod Message
+pub mod Parts
+pub mod DataReading
+pub mod HeaderReading
+pub mod NamesRead
+pub mod Endings
