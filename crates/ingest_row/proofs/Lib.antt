@@ -3,3 +3,4 @@ pub mod Rows
 pub mod RowsOfLines
 pub mod Taking
 pub mod Asked
+pub mod SyslogRows

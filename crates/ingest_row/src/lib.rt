@@ -1,5 +1,5 @@
-//! Lines of JSON as rows: which fields they have, when they were, what their message is, and to which stream they
-//! belong.
+//! Lines of JSON, and messages of syslog, as rows: which fields they have, when they were, what their message is, and
+//! to which stream they belong.
 #![tactic(auto)]
 
 mod body;
@@ -9,9 +9,11 @@ mod line;
 mod lines;
 mod options;
 mod read;
+mod syslog;
 
 pub use body::{Intake, LineFault, batch_of_body};
 pub use fault::OptionFault;
 pub use kind::LineKind;
 pub use line::row_of_line;
 pub use options::Options;
+pub use syslog::{SyslogKind, row_of_syslog};

@@ -1,15 +1,15 @@
 //! Reads cases, one a line: the arguments of a request as `name=value&name=value`, and behind a tab a line of JSON that
 //! came in 5 ns after 1970 began. Writes the row of that line; with no tab, what the arguments ask for; or the fault.
+//! A case that begins with `<` is a message of syslog that came in then, whose row it writes, or the fault.
 //!
-//! The answers in `stdout` are not the program's own. They are made in Python, with its `json` module for the lines
-//! and its
-//! `datetime` for the moments.
+//! The answers in `stdout` are not the program's own. They are made in Python, with its `json` module for the lines,
+//! its `datetime` for the moments, and a second reading of the rules of syslog.
 #![tactic(auto)]
 
 #[cfg(test)]
 mod tests;
 
-use ingest_row::{Options, row_of_line};
+use ingest_row::{Options, row_of_line, row_of_syslog};
 use std::alloc::{AllocError, Global};
 use std::io;
 use vl_row::{Field, Row, Text};
@@ -23,6 +23,9 @@ fn main(rt: HostRuntime) -> io::Result<()> {
 }
 
 fn answer(alloc: Global, case: &str) -> Result<String, AllocError> {
+    if case.starts_with('<') {
+        return syslog_answer(alloc, case);
+    }
     match case.split_once('\t') {
         Some((arguments, line)) => read(alloc, arguments, Some(line)),
         None => read(alloc, case, None),
@@ -47,6 +50,13 @@ fn read_as_asked(
     match row_of_line(alloc, options, 5, line.as_bytes()) {
         Ok(row) => row_text(alloc, &row),
         Err(kind) => format!(in alloc; "{kind}"),
+    }
+}
+
+fn syslog_answer(alloc: Global, message: &str) -> Result<String, AllocError> {
+    match row_of_syslog(alloc, 5, message.as_bytes()) {
+        Ok(row) => row_text(alloc, &row),
+        Err(kind) => format!(in alloc; "{kind:?}"),
     }
 }
 
