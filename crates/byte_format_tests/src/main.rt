@@ -1,0 +1,19 @@
+//! Tests of `byte_format`.
+//!
+//! Each line names a call and gives bytes in hexadecimal digits. The program writes what the call reads and how many bytes
+//! stand behind it, or how many bytes are left from the damaged item on. What was read is written again. The answers are
+//! those of Python's `int.from_bytes` and `bytes.decode`.
+#![tactic(auto)]
+
+mod items_tests;
+
+use items_tests::answer;
+use std::io;
+
+fn main(rt: HostRuntime) -> io::Result<()> {
+    for line in rt.stdin().lines(rt.alloc()) {
+        let answer = answer(rt.alloc(), line?.as_str())?;
+        println!(rt; "{answer}")?;
+    }
+    Ok(())
+}

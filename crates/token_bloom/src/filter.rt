@@ -1,0 +1,110 @@
+//! Filters, and filters as bytes.
+
+ghost use Rattle.std.specs.Prelude.{◌≡◌, ◌<◌, ◌≤◌, ◌^◌, IfOk, IfErr, IsTrue, List, ℕ, false, length};
+ghost use Rattle.token_bloom.specs.Filter.{empty_filter, filter_bytes, is_length, may_have, most_bytes, with_word};
+
+use crate::walk::{has_word, set_word};
+use byte_format::{Stop, put_u64s, take_u64s};
+use std::alloc::{AllocError, Global};
+use std::marker::Model;
+
+/// A Bloom filter of words.
+///
+/// A contract sees it as its words of 64 bits.
+#[derive(Drop)]
+pub struct Bloom {
+    filter: Vec<u64>,
+}
+
+impl Model for Bloom {
+    ghost use Rattle.std.specs.Prelude.{List, ℕ, ◌≤◌, length, ◌*◌, ◌^◌};
+
+    ghost Value = { List ℕ };
+
+    ghost view = { λ b. b.filter.items };
+
+    ghost invariant = { λ b. length b.filter.items ≤ 2 ^ 30 };
+}
+
+/// Why bytes are no filter.
+#[derive(Clone, Copy, Debug, Drop, PartialEq, Eq)]
+pub enum BloomFault {
+    /// Their number is no multiple of 8, or is above 2^33.
+    BadLength,
+    /// There is no memory for the filter.
+    Memory,
+}
+
+impl Bloom {
+    /// A filter with room for so many distinct words: 16 bits for each, rounded up to a multiple of 64.
+    pub fn with_room(alloc: Global, tokens: usize) -> Result<Bloom, AllocError>
+        requires { tokens < 2 ^ 32 }
+        ensures { IfOk result (λ bloom. bloom ≡ empty_filter tokens) }
+    {
+        let filter = vec![in alloc; 0; (16 * tokens + 63) / 64]?;
+        Ok(Bloom { filter })
+    }
+
+    /// Adds a word: sets its six bits, where the filter has any bit.
+    pub fn add(&mut self, word: &[u8])
+        ensures value { self.new ≡ with_word self.old word.now }
+        ensures added { 0 < length self.old → IsTrue (may_have self.new word.now) }
+        ensures kept { (other : List ℕ) → IsTrue (may_have self.old other) → IsTrue (may_have self.new other) }
+    {
+        self.set(word);
+    }
+
+    fn set(&mut self, word: &[u8])
+        ensures { self.new ≡ with_word self.old word.now }
+    {
+        if !self.filter.is_empty() {
+            set_word(self.filter.as_mut_slice(), word);
+        }
+    }
+
+    /// Whether the word may be there: all six bits of it are set. A filter without bits has no word.
+    pub fn may_have(&self, word: &[u8]) -> bool
+        ensures { result ≡ may_have self.now word.now }
+    {
+        !self.filter.is_empty() && has_word(self.filter.as_slice(), word)
+    }
+
+    /// The words of 64 bits that the filter consists of.
+    pub fn as_slice(&self) -> &[u64]
+        ensures { result.now ≡ self.now }
+    {
+        self.filter.as_slice()
+    }
+
+    /// An equal filter, in memory of its own.
+    pub fn try_copy(&self, alloc: Global) -> Result<Bloom, AllocError>
+        ensures { IfOk result (λ bloom. bloom ≡ self.now) }
+    {
+        let filter = self.filter.to_vec(alloc)?;
+        Ok(Bloom { filter })
+    }
+
+    /// The filter as bytes.
+    pub fn to_bytes(&self, alloc: Global) -> Result<Vec<u8>, AllocError>
+        ensures { IfOk result (λ bytes. bytes.items ≡ filter_bytes self.now) }
+    {
+        let mut bytes = Vec::with_capacity(alloc, self.filter.len() * 8)?;
+        put_u64s(&mut bytes, self.filter.as_slice())?;
+        Ok(bytes)
+    }
+
+    /// The filter that `to_bytes` gives these bytes of.
+    pub fn from_bytes(alloc: Global, bytes: &[u8]) -> Result<Bloom, BloomFault>
+        ensures ok { IfOk result (λ bloom. bytes.now ≡ filter_bytes bloom) }
+        ensures err { IfErr result (λ fault. fault ≡ BloomFault.BadLength → is_length (length bytes.now) ≡ false) }
+        ensures fits { is_length (length bytes.now) ≡ false → result ≡ Err BloomFault.BadLength }
+    {
+        if bytes.len() % 8 != 0 || bytes.len() > 1 << 33 {
+            return Err(BloomFault::BadLength);
+        }
+        match take_u64s(alloc, bytes.len() / 8, bytes) {
+            Ok((filter, _)) => Ok(Bloom { filter }),
+            Err(_) => Err(BloomFault::Memory),
+        }
+    }
+}

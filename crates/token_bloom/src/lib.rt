@@ -1,0 +1,8 @@
+//! Bloom filters over the words of a column. A filter says of a word that it is not there, or that it may be.
+#![tactic(auto)]
+
+mod filter;
+mod hash;
+mod walk;
+
+pub use filter::{Bloom, BloomFault};

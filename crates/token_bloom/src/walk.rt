@@ -1,0 +1,141 @@
+//! The walk over the six bits of a word. After the first bit it divides no more: it adds what the stride leaves modulo
+//! the number of bits.
+
+ghost use Rattle.std.specs.Prelude.{◌≡◌, ◌+◌, ◌*◌, ◌%◌, ◌^◌, ◌<◌, ◌≤◌};
+ghost use Rattle.token_bloom.specs.Bits.{bit_count, has_bit, has_bits, with_bit, with_bits, places, fnv, stride};
+ghost use Rattle.token_bloom.specs.Walk.{walk, IsPace};
+
+use crate::hash::{hash_of, stride_of};
+
+/// How a walk goes on from bit to bit: by the stride, and by what the stride and 2^64 leave modulo the number of bits.
+#[derive(Clone, Copy)]
+struct Pace {
+    bits: u64,
+    stride: u64,
+    short: u64,
+    wrap: u64,
+}
+
+/// Where a walk stands: so many strides behind the hash, and the bit that is there.
+#[derive(Clone, Copy)]
+struct Step {
+    sum: u64,
+    place: u64,
+}
+
+fn pace_of(bits: u64, stride: u64) -> Pace
+    requires some { 0 < bits }
+    requires room { bits ≤ 2 ^ 36 }
+    ensures pace { IsPace result }
+    ensures bits { result.bits ≡ bits }
+    ensures stride { result.stride ≡ stride }
+{
+    Pace {
+        bits,
+        stride,
+        short: stride % bits,
+        wrap: bits.wrapping_neg() % bits,
+    }
+}
+
+fn next_step(at: Step, pace: Pace) -> Step
+    requires pace { IsPace pace }
+    requires place { at.place ≡ at.sum % pace.bits }
+    ensures sum { result.sum ≡ (at.sum + pace.stride) % 2 ^ 64 }
+    ensures place { result.place ≡ result.sum % pace.bits }
+{
+    let (sum, over) = at.sum.overflowing_add(pace.stride);
+    if over {
+        let place = remainder(at.place + pace.short + (pace.bits - pace.wrap), pace.bits);
+        Step { sum, place }
+    } else {
+        let place = remainder(at.place + pace.short, pace.bits);
+        Step { sum, place }
+    }
+}
+
+/// What is left of a number below three times the bits.
+fn remainder(place: u64, bits: u64) -> u64
+    requires small { place < 3 * bits }
+    requires room { bits ≤ 2 ^ 36 }
+    ensures { result ≡ place % bits }
+{
+    if place < bits {
+        place
+    } else if place - bits < bits {
+        place - bits
+    } else {
+        place - bits - bits
+    }
+}
+
+fn is_set(filter: &[u64], b: usize) -> bool
+    requires { b < bit_count filter.now }
+    ensures { result ≡ has_bit filter.now b }
+{
+    (filter[b / 64] >> (b % 64)) & 1 == 1
+}
+
+fn set(filter: &mut [u64], b: usize)
+    requires { b < bit_count filter.old }
+    ensures { filter.new ≡ with_bit filter.old b }
+{
+    filter[b / 64] |= 1 << (b % 64);
+}
+
+/// Whether all six bits of the word are set.
+pub(crate) fn has_word(filter: &[u64], word: &[u8]) -> bool
+    requires some { 0 < bit_count filter.now }
+    requires room { bit_count filter.now ≤ 2 ^ 36 }
+    ensures { result ≡ has_bits filter.now (places (bit_count filter.now) (fnv word.now)) }
+{
+    let bits = filter.len() as u64 * 64;
+    let hash = hash_of(word);
+    let pace = pace_of(bits, stride_of(hash));
+    has_walk(filter, pace, hash)
+}
+
+/// Sets all six bits of the word.
+pub(crate) fn set_word(filter: &mut [u64], word: &[u8])
+    requires some { 0 < bit_count filter.old }
+    requires room { bit_count filter.old ≤ 2 ^ 36 }
+    ensures { filter.new ≡ with_bits filter.old (places (bit_count filter.old) (fnv word.now)) }
+{
+    let bits = filter.len() as u64 * 64;
+    let hash = hash_of(word);
+    let pace = pace_of(bits, stride_of(hash));
+    set_walk(filter, pace, hash);
+}
+
+fn has_walk(filter: &[u64], pace: Pace, hash: u64) -> bool
+    requires pace { IsPace pace }
+    requires bits { pace.bits ≡ bit_count filter.now }
+    ensures { result ≡ has_bits filter.now (walk pace.bits pace.stride 6 hash) }
+{
+    let mut at = Step {
+        sum: hash,
+        place: hash % pace.bits,
+    };
+    for _ in 0..6usize {
+        if !is_set(filter, at.place as usize) {
+            return false;
+        }
+        at = next_step(at, pace);
+    }
+    true
+}
+
+fn set_walk(filter: &mut [u64], pace: Pace, hash: u64)
+    requires pace { IsPace pace }
+    requires bits { pace.bits ≡ bit_count filter.old }
+    ensures { filter.new ≡ with_bits filter.old (walk pace.bits pace.stride 6 hash) }
+{
+    let mut at = Step {
+        sum: hash,
+        place: hash % pace.bits,
+    };
+    for _ in 0..6u64 {
+        set(filter, at.place as usize);
+        at = next_step(at, pace);
+    }
+}
