@@ -6,6 +6,9 @@ use col_codec::{ColumnFault, IntColumn, TextColumn};
 use std::alloc::{AllocError, Global};
 use std::fmt::Write;
 
+/// No column of texts is made of more bytes.
+const MOST_BYTES: usize = 1_048_576;
+
 pub fn answer(alloc: Global, line: &str) -> Result<String, AllocError> {
     let (call, rest) = line.split_once(' ').unwrap_or((line, ""));
     let (rows, digits) = rest.split_once(' ').unwrap_or((rest, ""));
@@ -40,10 +43,10 @@ fn ints(alloc: Global, list: &str) -> Result<String, AllocError> {
 
 fn texts(alloc: Global, list: &str) -> Result<String, AllocError> {
     let mut values = Vec::new(alloc);
-    let mut size = 0;
+    let mut room = MOST_BYTES;
     for value in list.split(',') {
-        if size + value.len() < 1 << 20 {
-            size += value.len();
+        if value.len() <= room {
+            room -= value.len();
             values.push(value)?;
         }
     }
