@@ -92,6 +92,23 @@ status=$?; without_time "$work/out"; fields
 wants $'{"_msg":"an error: x","_time":"NOW"}\n{"_msg":"all fine","_time":"NOW"}\n' ""
 judge "one of two words" $status 0
 
+"$program" pipe 'status:* | stats by (status) count() as requests, sum(bytes) as bytes' < "$top/examples/access.jsonl" > "$work/out" 2> "$work/err"
+status=$?
+wants $'{"bytes":"217163","requests":"13","status":"200"}\n{"bytes":"55244","requests":"3","status":"304"}\n{"bytes":"152548","requests":"9","status":"404"}\n' $'line 24: NotJson\n'
+judge "requests and bytes by status" $status 0
+
+"$program" pipe 'status:404 | top 2 by (host)' < "$top/examples/access.jsonl" > "$work/out" 2> "$work/err"
+status=$?; wants $'{"hits":"4","host":"web-3"}\n{"hits":"3","host":"web-2"}\n' $'line 24: NotJson\n'
+judge "the servers with most misses" $status 0
+
+printf '{"n":"9223372036854775807"}\n{"n":"1"}\n' | "$program" pipe '* | stats sum(n) as total' > "$work/out" 2> "$work/err"
+status=$?; wants "" $'query: Overflow in total\n'
+judge "a total that is no 64-bit integer" $status 1
+
+"$program" pipe 'a | filter ~"("' < "$work/three" > "$work/out" 2> "$work/err"
+status=$?; wants "" $'query: RegexRefused number 0\n'
+judge "a regular expression that cannot be read" $status 1
+
 "$program" < "$work/three" > "$work/out" 2> "$work/err"
 status=$?; wants "" "$usage"
 judge "no words" $status 2

@@ -1,8 +1,8 @@
 //! Tests of `byte_format`.
 //!
-//! Each line names a call and gives bytes in hexadecimal digits. The program writes what the call reads and how many bytes
-//! stand behind it, or how many bytes are left from the damaged item on. What was read is written again. The answers are
-//! those of Python's `int.from_bytes` and `bytes.decode`.
+//! Each line names a call and gives bytes in hexadecimal digits. The program writes what the call reads and how many
+//! bytes stand behind it, or how many bytes are left from the damaged item on. What was read is written again. The
+//! answers are those of Python's `int.from_bytes` and `bytes.decode`.
 #![tactic(auto)]
 
 mod items_tests;

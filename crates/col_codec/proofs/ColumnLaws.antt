@@ -11,4 +11,5 @@ pub ints-steps : (rows : ℕ) (bytes : List ℕ) → front (ints rows) bytes ≡
 unfolding ints int_steps
 ints-steps rows bytes =
     front-followed width_code (λ width. followed signed (λ least. many rows (int_above (bits_of width) least))) bytes
-    ∙ bind_same (front width_code bytes) _ _ (λ width. front-followed signed (λ least. many rows (int_above (bits_of width.0) least)) width.1)
+    ∙ bind_same (front width_code bytes) _ _ (λ width. front-followed signed (λ least. many rows (int_above
+    (bits_of width.0) least)) width.1)

@@ -1,9 +1,12 @@
 -- Texts in one buffer, by the places at which they end.
-use Rattle.std.proofs.Common.{◌≡◌, ℕ, zero, suc, ◌+◌, ◌-◌, ◌<◌, ◌≤◌, Bool, true, false, List, [], ◌∷◌, ◌++◌, length, get_or, take, drop, Some, refl, sym, ap, subst, ◌∙◌, arith, drop-cons}
+use Rattle.std.proofs.Common.{◌≡◌, ℕ, zero, suc, ◌+◌, ◌-◌, ◌<◌, ◌≤◌, Bool, true, false, List, [], ◌∷◌, ◌++◌, length}
+use Rattle.std.proofs.Common.{get_or, take, drop, Some, refl, sym, ap, subst, ◌∙◌, arith, drop-cons}
 use Rattle.std.specs.Prelude.{slice_get, ◌&&◌, sum_by}
 use Rattle.std.specs.List.{fold, list_all, flat_map}
 use Rattle.std.specs.Str.{is_utf8, IsUtf8}
-use Rattle.std.proofs.lemmas.List.{length-append, length-drop, length-take, drop-append-le, take-append-le, take-append-drop, drop-take, drop-drop, take_all, append-nil, take_at, drop_at, take-take, append_assoc}
+use Rattle.std.proofs.lemmas.List.{length-append, length-drop, length-take, drop-append-le, take-append-le}
+use Rattle.std.proofs.lemmas.List.{take-append-drop, drop-take, drop-drop, take_all, append-nil, take_at, drop_at}
+use Rattle.std.proofs.lemmas.List.{take-take, append_assoc}
 use Rattle.std.proofs.lemmas.List.Sums.{fold-append, sum_by-cons}
 use Rattle.std.proofs.lemmas.List.Folds.{list_all-append}
 use Rattle.std.proofs.lemmas.List.Concat.{flat_map-cons}
@@ -15,7 +18,8 @@ use Rattle.col_codec.specs.Texts.{last_of, parts, ends_of, total}
 pub last-push : (ends : List ℕ) (end : ℕ) → last_of (ends ++ end ∷ []) ≡ end
 last-push ends end = fold-append (λ (last end : ℕ). end) 0 ends (end ∷ [])
 
-pub rising-push : (from : ℕ) (ends : List ℕ) (end : ℕ) → IsRising from ends → last_from from ends ≤ end → IsRising from (ends ++ end ∷ [])
+pub rising-push : (from : ℕ) (ends : List ℕ) (end : ℕ) → IsRising from ends → last_from from ends ≤ end
+    → IsRising from (ends ++ end ∷ [])
 rising-push from [] end r le = (le, tt)
 rising-push from (e ∷ es) end r le = (r.0, rising-push e es end r.1 le)
 
@@ -28,23 +32,27 @@ parts_length bytes from [] = refl
 parts_length bytes from (e ∷ es) = ap suc (parts_length bytes e es)
 
 -- one text more, behind the others
-part-kept : (bytes t : List ℕ) (from end : ℕ) → from ≤ end → end ≤ length bytes → take (end - from) (drop from (bytes ++ t)) ≡ take (end - from) (drop from bytes)
+part-kept : (bytes t : List ℕ) (from end : ℕ) → from ≤ end → end ≤ length bytes
+    → take (end - from) (drop from (bytes ++ t)) ≡ take (end - from) (drop from bytes)
 part-kept bytes t from end a b =
     ap (take (end - from)) (drop-append-le from bytes t (omega arith))
     ∙ take-append-le (end - from) (drop from bytes) t (omega (arith, length-drop from bytes))
 
-pub parts-push : (bytes t : List ℕ) (from : ℕ) (ends : List ℕ) (end : ℕ) → IsRising from ends → last_from from ends ≡ length bytes
+pub parts-push : (bytes t : List ℕ) (from : ℕ) (ends : List ℕ) (end : ℕ) → IsRising from ends
+    → last_from from ends ≡ length bytes
     → end ≡ length bytes + length t → parts (bytes ++ t) from (ends ++ end ∷ []) ≡ parts bytes from ends ++ t ∷ []
 parts-push bytes t from [] end r last e =
     let size : end - from ≡ length t = omega (arith, last, e) in
     let rest : drop from (bytes ++ t) ≡ t = drop_at bytes t from (sym last) in
-    ap (λ (l : List ℕ). l ∷ []) (ap (λ (n : ℕ). take n (drop from (bytes ++ t))) size ∙ ap (take (length t)) rest ∙ take_all (length t) t (omega arith))
+    ap (λ (l : List ℕ). l ∷ []) (ap (λ (n : ℕ). take n (drop from (bytes ++ t))) size ∙ ap (take (length t)) rest
+    ∙ take_all (length t) t (omega arith))
 parts-push bytes t from (x ∷ xs) end r last e =
     let kept = part-kept bytes t from x r.0 (omega (arith, rising-last x xs r.1, last)) in
     ap (λ (l : List ℕ). l ∷ parts (bytes ++ t) x (xs ++ end ∷ [])) kept
     ∙ ap (λ (l : List (List ℕ)). take (x - from) (drop from bytes) ∷ l) (parts-push bytes t x xs end r.1 last e)
 
-pub split-push : (bytes t ends : List ℕ) (end : ℕ) → IsSplit bytes ends → IsUtf8 t → end ≡ length bytes + length t → IsSplit (bytes ++ t) (ends ++ end ∷ [])
+pub split-push : (bytes t ends : List ℕ) (end : ℕ) → IsSplit bytes ends → IsUtf8 t → end ≡ length bytes + length t
+    → IsSplit (bytes ++ t) (ends ++ end ∷ [])
 split-push bytes t ends end s utf8 e =
     let more = parts-push bytes t 0 ends end s.rising s.all e in
     let one : (is_utf8 t && true) ≡ true = rw (is_utf8-from_IsUtf8 t utf8) refl in
@@ -63,11 +71,14 @@ start-next from (e ∷ es) (suc i) lt = start-next e es i (omega (arith, lt))
 
 pub start-is : (ends : List ℕ) (i : ℕ) → 0 < i → i < length ends → start_in 0 ends i ≡ get_or ends (i - 1) 0
 start-is ends zero some lt = absurd (omega (arith, some))
-start-is ends (suc i) some lt = start-next 0 ends i (omega (arith, lt)) ∙ ap (λ (n : ℕ). get_or ends n 0) (omega arith)
+start-is ends (suc i) some lt = start-next 0 ends i (omega (arith, lt))
+    ∙ ap (λ (n : ℕ). get_or ends n 0) (omega arith)
 
-pub part-at : (bytes : List ℕ) (from : ℕ) (ends : List ℕ) (i : ℕ) → IsRising from ends → list_all is_utf8 (parts bytes from ends) ≡ true → i < length ends
+pub part-at : (bytes : List ℕ) (from : ℕ) (ends : List ℕ) (i : ℕ) → IsRising from ends
+    → list_all is_utf8 (parts bytes from ends) ≡ true → i < length ends
     → (start_in from ends i ≤ get_or ends i 0) × (get_or ends i 0 ≤ last_from from ends)
-    × (slice_get (parts bytes from ends) i ≡ Some (take (get_or ends i 0 - start_in from ends i) (drop (start_in from ends i) bytes)))
+    × (slice_get (parts bytes from ends) i ≡ Some (take (get_or ends i 0 - start_in from ends i) (drop
+    (start_in from ends i) bytes)))
     × (is_utf8 (take (get_or ends i 0 - start_in from ends i) (drop (start_in from ends i) bytes)) ≡ true)
 part-at bytes from [] i r u lt = absurd (omega (arith, lt))
 part-at bytes from (e ∷ es) zero r u lt =
@@ -83,10 +94,12 @@ between : (bytes : List ℕ) (from mid to : ℕ) → from ≤ mid → mid ≤ to
     → take (mid - from) (drop from bytes) ++ take (to - mid) (drop mid bytes) ≡ take (to - from) (drop from bytes)
 between bytes from mid to a b =
     let whole = take (to - from) (drop from bytes) in
-    let head : take (mid - from) (take (to - from) (drop from bytes)) ≡ take (mid - from) (drop from bytes) = take-take (mid - from) (to - from) (drop from bytes) (omega arith) in
+    let head : take (mid - from) (take (to - from) (drop from bytes))
+    ≡ take (mid - from) (drop from bytes) = take-take (mid - from) (to - from) (drop from bytes) (omega arith) in
     let sum : mid - from + (to - mid) ≡ to - from = omega arith in
     let tail : drop (mid - from) (take (to - from) (drop from bytes)) ≡ take (to - mid) (drop mid bytes) =
-    ap (λ (n : ℕ). drop (mid - from) (take n (drop from bytes))) (sym sum) ∙ drop-take (mid - from) (to - mid) (drop from bytes)
+    ap (λ (n : ℕ). drop (mid - from) (take n (drop from bytes))) (sym sum)
+    ∙ drop-take (mid - from) (to - mid) (drop from bytes)
     ∙ ap (take (to - mid)) (drop-drop (mid - from) from bytes ∙ ap (λ (n : ℕ). drop n bytes) (omega arith)) in
     ap (λ (l : List ℕ). l ++ take (to - mid) (drop mid bytes)) (sym head)
     ∙ ap (λ (l : List ℕ). take (mid - from) (take (to - from) (drop from bytes)) ++ l) (sym tail)
@@ -110,12 +123,23 @@ parts-ends bytes from (e ∷ es) r le =
     omega (arith, r.0, rising-last e es r.1, le, length-take (e - from) (drop from bytes), length-drop from bytes) in
     ap (λ (n : ℕ). n ∷ ends_of n (parts bytes e es)) size ∙ ap (λ (l : List ℕ). e ∷ l) (parts-ends bytes e es r.1 le)
 
-pub parts-total : (bytes : List ℕ) (from : ℕ) (ends : List ℕ) → IsRising from ends → last_from from ends ≤ length bytes
+pub parts-total : (bytes : List ℕ) (from : ℕ) (ends : List ℕ) → IsRising from ends
+    → last_from from ends ≤ length bytes
     → total (parts bytes from ends) + from ≡ last_from from ends
 parts-total bytes from [] r le = omega arith
 parts-total bytes from (e ∷ es) r le =
     let sum = sum_by-cons length (take (e - from) (drop from bytes)) (parts bytes e es) in
-    omega (arith, sum, r.0, rising-last e es r.1, le, length-take (e - from) (drop from bytes), length-drop from bytes, parts-total bytes e es r.1 le)
+    omega (
+      arith,
+      sum,
+      r.0,
+      rising-last e es r.1,
+      le,
+      length-take (e - from)
+          (drop from bytes),
+      length-drop from bytes,
+      parts-total bytes e es r.1 le,
+    )
 
 -- ---- and what is spelled is read
 
@@ -138,14 +162,18 @@ parts-from : (before bytes : List ℕ) (from : ℕ) (ts : List (List ℕ)) → l
     → bytes ≡ before ++ flat_map (λ t. t) ts → parts bytes from (ends_of from ts) ≡ ts
 parts-from before bytes from [] len e = refl
 parts-from before bytes from (t ∷ ts) len e =
-    let joined : bytes ≡ before ++ (t ++ flat_map (λ t. t) ts) = e ∙ ap (λ (l : List ℕ). before ++ l) (flat_map-cons (λ t. t) t ts) in
-    let rest : drop from bytes ≡ t ++ flat_map (λ t. t) ts = ap (drop from) joined ∙ drop_at before (t ++ flat_map (λ t. t) ts) from len in
+    let joined : bytes ≡ before ++ (t ++ flat_map (λ t. t) ts) = e
+    ∙ ap (λ (l : List ℕ). before ++ l) (flat_map-cons (λ t. t) t ts) in
+    let rest : drop from bytes ≡ t ++ flat_map (λ t. t) ts = ap (drop from) joined
+    ∙ drop_at before (t ++ flat_map (λ t. t) ts) from len in
     let size : from + length t - from ≡ length t = omega arith in
     let first : take (from + length t - from) (drop from bytes) ≡ t =
-    ap (λ (n : ℕ). take n (drop from bytes)) size ∙ ap (take (length t)) rest ∙ take_at t (flat_map (λ t. t) ts) (length t) refl in
+    ap (λ (n : ℕ). take n (drop from bytes)) size ∙ ap (take (length t)) rest
+    ∙ take_at t (flat_map (λ t. t) ts) (length t) refl in
     let next = parts-from (before ++ t) bytes (from + length t) ts (omega (arith, len, length-append before t))
     (joined ∙ sym (append_assoc before t (flat_map (λ t. t) ts))) in
-    ap (λ (l : List ℕ). l ∷ parts bytes (from + length t) (ends_of (from + length t) ts)) first ∙ ap (λ (l : List (List ℕ)). t ∷ l) next
+    ap (λ (l : List ℕ). l ∷ parts bytes (from + length t) (ends_of (from + length t) ts)) first
+    ∙ ap (λ (l : List (List ℕ)). t ∷ l) next
 
 pub parts-again : (ts : List (List ℕ)) → parts (flat_map (λ t. t) ts) 0 (ends_of 0 ts) ≡ ts
 parts-again ts = parts-from [] (flat_map (λ t. t) ts) 0 ts refl refl
@@ -154,16 +182,27 @@ pub joined-length : (ts : List (List ℕ)) → length (flat_map (λ t. t) ts) �
 joined-length [] = refl
 joined-length (t ∷ ts) =
     let sum = sum_by-cons length t ts in
-    omega (arith, sum, ap length (flat_map-cons (λ t. t) t ts), length-append t (flat_map (λ t. t) ts), joined-length ts)
+    omega (
+      arith,
+      sum,
+      ap length (flat_map-cons (λ t. t) t ts),
+      length-append t (flat_map
+          (λ t. t) ts),
+      joined-length ts,
+    )
 
 -- the rest of the texts, from one on
-pub one-text : (bytes : List ℕ) (from : ℕ) (ends : List ℕ) (i end : ℕ) → IsRising from (drop i ends) → last_from from (drop i ends) ≡ length bytes
+pub one-text : (bytes : List ℕ) (from : ℕ) (ends : List ℕ) (i end : ℕ) → IsRising from (drop i ends)
+    → last_from from (drop i ends) ≡ length bytes
     → i < length ends → end ≡ get_or ends i 0
-    → (from ≤ end) × (end ≤ length bytes) × IsRising end (drop (i + 1) ends) × (last_from end (drop (i + 1) ends) ≡ length bytes)
-    × (list_all is_utf8 (parts bytes from (drop i ends)) ≡ (is_utf8 (take (end - from) (drop from bytes)) && list_all is_utf8 (parts bytes end (drop (i + 1) ends))))
+    → (from ≤ end) × (end ≤ length bytes) × IsRising end (drop (i + 1) ends)
+    × (last_from end (drop (i + 1) ends) ≡ length bytes)
+    × (list_all is_utf8 (parts bytes from (drop i ends))
+    ≡ (is_utf8 (take (end - from) (drop from bytes)) && list_all is_utf8 (parts bytes end (drop (i + 1) ends))))
 one-text bytes from ends i end r last lt e =
     let more : suc i ≡ i + 1 = omega arith in
-    let cut : drop i ends ≡ end ∷ drop (i + 1) ends = drop-cons ends i 0 lt ∙ ap (λ (n : ℕ). get_or ends i 0 ∷ drop n ends) more ∙ ap (λ (n : ℕ). n ∷ drop (i + 1) ends) (sym e) in
+    let cut : drop i ends ≡ end ∷ drop (i + 1) ends = drop-cons ends i 0 lt
+    ∙ ap (λ (n : ℕ). get_or ends i 0 ∷ drop n ends) more ∙ ap (λ (n : ℕ). n ∷ drop (i + 1) ends) (sym e) in
     let r' : IsRising from (end ∷ drop (i + 1) ends) = subst (IsRising from) cut r in
     let last' : last_from end (drop (i + 1) ends) ≡ length bytes = sym (ap (last_from from) cut) ∙ last in (
       r'.0,

@@ -1,6 +1,8 @@
--- A column of integers as bytes: the width of the differences, the least integer, and for each its difference from the
+-- A column of integers as bytes: the width of the differences, the least integer, and for each its difference from
+-- the
 -- least.
-use Rattle.std.specs.Prelude.{ℕ, ℤ, max, pos, negsuc, ◌+ℤ◌, ◌-ℤ◌, ◌^◌, Bool, ◌||◌, ◌&&◌, ◌==◌, nat_lt, List, [], ◌∷◌, ◌++◌}
+use Rattle.std.specs.Prelude.{ℕ, ℤ, max, pos, negsuc, ◌+ℤ◌, ◌-ℤ◌, ◌^◌, Bool, ◌||◌, ◌&&◌, ◌==◌, nat_lt, List, [], ◌∷◌}
+use Rattle.std.specs.Prelude.{◌++◌}
 use Rattle.std.specs.Prelude.{length, slice_index, Option, Some, None, Result, if◌then◌else◌, unsigned_abs}
 use Rattle.std.specs.List.{fold, flat_map, list_all}
 use Rattle.std.specs.Int.{Width, byte_len, from_le_bytes, to_le_bytes, int_min}

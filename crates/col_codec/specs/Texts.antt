@@ -1,4 +1,5 @@
--- A column of texts as bytes: an offset of 0, for each text the offset at which it ends, and then all texts, one behind
+-- A column of texts as bytes: an offset of 0, for each text the offset at which it ends, and then all texts, one
+-- behind
 -- another.
 use Rattle.std.specs.Prelude.{◌≡◌, ℕ, ◌+◌, ◌-◌, ◌^◌, ◌≤◌, Bool, true, ◌&&◌, ◌==◌, nat_le, nat_lt, List, [], ◌∷◌, ◌++◌}
 use Rattle.std.specs.Prelude.{length, take, drop, sum_by, Option, Some, None, Result, if◌then◌else◌}
@@ -26,7 +27,8 @@ one_end ends = followed (number_that w32 (nat_le (last_of ends))) (λ end. value
 -- all texts, in one item
 abbrev pub joined : List ℕ → Format (List (List ℕ))
 joined ends =
-    item (exactly (last_of ends)) (λ bytes. list_all is_utf8 (parts bytes 0 ends)) (λ bytes. value (parts bytes 0 ends))
+    item (exactly (last_of ends)) (λ bytes. list_all is_utf8 (parts bytes 0 ends)) (λ bytes. value
+    (parts bytes 0 ends))
 
 -- so many texts
 unfoldable pub texts : ℕ → Format (List (List ℕ))
@@ -55,4 +57,5 @@ text_spelling ts = to_le_bytes w32 0 ++ (flat_map (to_le_bytes w32) (ends_of 0 t
 -- the spelling of a column of so many texts
 unfoldable pub text_writing : ℕ → List (List ℕ) → Option (List ℕ)
 text_writing rows ts =
-    if (length ts == rows) && (list_all is_utf8 ts && nat_lt (total ts) (2 ^ 32)) then Some (text_spelling ts) else None
+    if (length ts == rows) && (list_all is_utf8 ts && nat_lt (total ts) (2 ^ 32)) then Some
+    (text_spelling ts) else None

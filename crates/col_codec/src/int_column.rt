@@ -1,6 +1,7 @@
 //! Columns of integers.
 
-ghost use Rattle.std.specs.Prelude.{◌≡◌, ◌↔◌, ◌<◌, ◌++◌, ℤ, [], IfOk, IfErr, IsTrue, List, Ok, OnOk, Some, length, slice_get};
+ghost use Rattle.std.specs.Prelude.{◌≡◌, ◌↔◌, ◌<◌, ◌++◌, ℤ, [], IfOk, IfErr, IsTrue, List, Ok, OnOk, Some};
+ghost use Rattle.std.specs.Prelude.{length, slice_get};
 ghost use Rattle.byte_format.specs.Format.{front, whole};
 ghost use Rattle.byte_format.specs.Spelling.{reading};
 ghost use Rattle.byte_format.specs.Gives.{Gives};
@@ -87,8 +88,9 @@ impl IntColumn {
         Ok((IntColumn { ints }, rest))
     }
 
-    /// The column of so many integers whose spelling the bytes are. Bytes that are none are damaged at their first item
-    /// that is not whole or has not its form, and else at the first that differs from the spelling of the integers.
+    /// The column of so many integers whose spelling the bytes are. Bytes that are none are damaged at their first
+    /// item that is not whole or has not its form, and else at the first that differs from the spelling of the
+    /// integers.
     pub fn from_bytes(alloc: Global, bytes: &[u8], rows: usize) -> Result<IntColumn, ColumnFault>
         ensures found { IfOk result (λ column. (length column ≡ rows) × (bytes.now ≡ int_spelling column)) }
         ensures only { (xs : List ℤ) → int_writing rows xs ≡ Some bytes.now → AnswersAs bytes.now result (Ok xs) }
@@ -123,8 +125,8 @@ fn take_whole(alloc: Global, rows: usize, bytes: &[u8]) -> Result<IntColumn, Sto
     Ok(column)
 }
 
-/// The column, if this is its spelling. Else the damaged item is the one that is not whole where the bytes are cut before
-/// the first that differs.
+/// The column, if this is its spelling. Else the damaged item is the one that is not whole where the bytes are cut
+/// before the first that differs.
 fn compared(
     alloc: Global,
     rows: usize,

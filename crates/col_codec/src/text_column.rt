@@ -1,6 +1,7 @@
 //! Columns of texts.
 
-ghost use Rattle.std.specs.Prelude.{◌≡◌, ◌↔◌, ◌+◌, ◌<◌, ◌^◌, ◌++◌, ◌∷◌, ℕ, [], IfOk, IfErr, IsTrue, IsUtf8, List, Ok, OnOk};
+ghost use Rattle.std.specs.Prelude.{◌≡◌, ◌↔◌, ◌+◌, ◌<◌, ◌^◌, ◌++◌, ◌∷◌, ℕ, [], IfOk, IfErr, IsTrue, IsUtf8};
+ghost use Rattle.std.specs.Prelude.{List, Ok, OnOk};
 ghost use Rattle.std.specs.Prelude.{Some, length, map, slice_get, sum_by};
 ghost use Rattle.byte_format.specs.Format.{front, whole};
 ghost use Rattle.byte_format.specs.Spelling.{reading};
@@ -100,11 +101,12 @@ impl TextColumn {
         Ok((TextColumn { bytes, ends }, rest))
     }
 
-    /// The column of so many texts whose spelling the bytes are. Bytes that are none are damaged at their first item that
-    /// is not whole or has not its form.
+    /// The column of so many texts whose spelling the bytes are. Bytes that are none are damaged at their first item
+    /// that is not whole or has not its form.
     pub fn from_bytes(alloc: Global, bytes: &[u8], rows: usize) -> Result<TextColumn, ColumnFault>
         ensures found { IfOk result (λ column. (length column ≡ rows) × (bytes.now ≡ text_spelling column)) }
-        ensures only { (ts : List (List ℕ)) → text_writing rows ts ≡ Some bytes.now → AnswersAs bytes.now result (Ok ts) }
+        ensures only { (ts : List (List ℕ)) → text_writing rows ts ≡ Some bytes.now
+            → AnswersAs bytes.now result (Ok ts) }
         ensures damaged { IfErr result (λ fault. IsPlaceOf fault (texts rows) (text_writing rows) bytes.now) }
         ensures exact { AnswersAs bytes.now result (reading (texts rows) (text_writing rows) bytes.now) }
     {
@@ -152,7 +154,8 @@ fn put_texts(out: &mut Vec<u8>, bytes: &[u8], ends: &[u32]) -> Result<(), AllocE
 fn push_text(bytes: &mut Vec<u8>, ends: &mut Vec<u32>, t: &str) -> Result<(), AllocError>
     requires room { length bytes.old.items + length t.now < 2 ^ 32 }
     requires split { IsSplit bytes.old.items ends.old.items }
-    ensures more { OnOk result (parts bytes.new.items 0 ends.new.items ≡ parts bytes.old.items 0 ends.old.items ++ t.now ∷ []) }
+    ensures more { OnOk result (parts bytes.new.items 0 ends.new.items
+        ≡ parts bytes.old.items 0 ends.old.items ++ t.now ∷ []) }
     ensures split { OnOk result (IsSplit bytes.new.items ends.new.items) }
     ensures size { OnOk result (length bytes.new.items ≡ length bytes.old.items + length t.now) }
 {

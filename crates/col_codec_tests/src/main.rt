@@ -1,9 +1,10 @@
 //! Tests of `col_codec`.
 //!
-//! A line `ints` gives integers, and a line `texts` texts, with a comma between each two. The program writes the bytes of
-//! the column in hexadecimal digits, and the values that the column and the column of those bytes have. A line
-//! `read-ints` or `read-texts` gives a number of rows and bytes; the program writes the values, or what is wrong. The
-//! answers are those of a plain reader in Python. `wide` columns are made by the program, as each line says.
+//! A line `ints` gives integers, and a line `texts` texts, with a comma between each two. The program writes the
+//! bytes of the column in hexadecimal digits, and the values that the column and the column of those bytes have. A
+//! line `read-ints` or `read-texts` gives a number of rows and bytes; the program writes the values, or what is
+//! wrong. The answers are those of a plain reader in Python. `wide` columns are made by the program, as each line
+//! says.
 #![tactic(auto)]
 
 mod column_tests;

@@ -1,5 +1,6 @@
 pub mod Sets
 pub mod Table
+pub mod Parts
 pub mod Complete
 pub mod Sound
 pub mod Good
@@ -8,3 +9,7 @@ pub mod Rules
 pub mod Names
 pub mod Whole
 pub mod Turns
+pub mod Flaws
+pub mod FlawNames
+pub mod Places
+pub mod Spans

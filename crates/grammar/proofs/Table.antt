@@ -21,21 +21,29 @@ abbrev pub more : {X F N V A : Type 0} → Bool → (N → Class) → (N → Cla
 more guards heads ends (empty x) = []
 more guards heads ends (one class f) = []
 more guards heads ends (unless class x) = cond guards class []
-more guards heads ends (both f a b) = more guards heads ends b ++ cond (nullable b) (cond guards (more guards heads ends a) (without (bar b) (more guards heads ends a))) []
-more guards heads ends (either a b) = more guards heads ends a ++ (more guards heads ends b ++ cond (nullable b) (cond guards (first heads a) (without (bar b) (first heads a))) [])
+more guards heads ends (both f a b) = more guards heads ends b ++ cond (nullable b)
+    (cond guards (more guards heads ends a) (without (bar b) (more guards heads ends a))) []
+more guards heads ends (either a b) = more guards heads ends a ++
+    (more guards heads ends b ++ cond (nullable b) (cond guards (first heads a) (without (bar b) (first heads a))) [])
 more guards heads ends (many f a) = first heads a ++ more guards heads ends a
 more guards heads ends (checked f a) = more guards heads ends a
 more guards heads ends (deeper n f) = ends n
 
--- One token decides each choice.
+abbrev pub none : Class → Bool
+none [] = true
+none (k ∷ ks) = false
+
+-- One token decides each choice, and nothing goes on with an item whose value is checked.
 abbrev pub fits : {X F N V A : Type 0} → (N → Class) → (N → Class) → Rule X F N V A → Bool
 fits heads ends (empty x) = true
 fits heads ends (one class f) = true
 fits heads ends (unless class x) = true
-fits heads ends (both f a b) = fits heads ends a && (fits heads ends b && apart (more false heads ends a) (first heads b))
-fits heads ends (either a b) = fits heads ends a && (fits heads ends b && (not (nullable a) && apart (first heads a) (first heads b)))
+fits heads ends (both f a b) = fits heads ends a &&
+    (fits heads ends b && apart (more false heads ends a) (first heads b))
+fits heads ends (either a b) = fits heads ends a &&
+    (fits heads ends b && (not (nullable a) && apart (first heads a) (first heads b)))
 fits heads ends (many f a) = fits heads ends a && (not (nullable a) && apart (more false heads ends a) (first heads a))
-fits heads ends (checked f a) = fits heads ends a && not (nullable a)
+fits heads ends (checked f a) = fits heads ends a && (not (nullable a) && none (more false heads ends a))
 fits heads ends (deeper n f) = true
 
 -- Some short text of a rule. The last side of a choice is the one to take, and stands for itself.
@@ -68,11 +76,13 @@ plain (checked f a) = plain a
 plain (deeper n f) = false
 
 -- That text is one of the rule, and may follow what comes before it.
-abbrev pub solid : {X F N V A : Type 0} → (Class → Token X) → (N → List (Token X)) → (N → Class) → (N → Class) → Rule X F N V A → Bool
+abbrev pub solid : {X F N V A : Type 0} → (Class → Token X) → (N → List (Token X)) → (N → Class) → (N → Class)
+    → Rule X F N V A → Bool
 solid sample leasts heads shuts (empty x) = true
 solid sample leasts heads shuts (one class f) = has class (sample class)
 solid sample leasts heads shuts (unless class x) = true
-solid sample leasts heads shuts (both f a b) = solid sample leasts heads shuts a && (solid sample leasts heads shuts b && not (next (more true heads shuts a) (least sample leasts b)))
+solid sample leasts heads shuts (both f a b) = solid sample leasts heads shuts a &&
+    (solid sample leasts heads shuts b && not (next (more true heads shuts a) (least sample leasts b)))
 solid sample leasts heads shuts (either a b) = solid sample leasts heads shuts a && solid sample leasts heads shuts b
 solid sample leasts heads shuts (many f a) = solid sample leasts heads shuts a
 solid sample leasts heads shuts (checked f a) = solid sample leasts heads shuts a

@@ -3,7 +3,7 @@ use Rattle.std.specs.Prelude.{ℕ, zero, suc, Bool, true, false, ◌&&◌, ◌||
 use Rattle.std.specs.Prelude.{Err, if◌then◌else◌}
 use Rattle.grammar.specs.Rule.{Token, Class, has, next, Rule, empty, one, unless, both, either, many, checked, deeper}
 use Rattle.grammar.specs.Rule.{Grammar}
-use Rattle.grammar.specs.Spelling.{Flaw, too_deep, refused, Outcome, ◌>>=◌, place, IsStuck, IsFlawed}
+use Rattle.grammar.specs.Spelling.{Flaw, too_deep, refused, Outcome, ◌>>=◌, place}
 
 -- ---- what a rule begins with
 
@@ -96,13 +96,6 @@ end_at x (t ∷ ts) = Err (stuck (suc (length ts)))
 -- the value of a whole text
 abbrev pub whole : {X F A : Type 0} → Reader X F A → List (Token X) → Result A (Stop F)
 whole r u = r u >>= λ x. end_at x.0 x.1
-
--- What an answer to a whole text says of it.
-abbrev pub Answers : {X F A : Type 0} → (Outcome F A → List (Token X) → Type 0) → List (Token X) → Result A (Stop F)
-    → Type 0
-Answers S u (Ok x) = S (Ok x) u
-Answers S u (Err (stuck left)) = IsStuck S u left
-Answers S u (Err (flawed flaw at)) = IsFlawed S u flaw at
 
 -- what is answered for a text of this outcome
 abbrev pub as_read : {F A : Type 0} → Outcome F A → Result A (Stop F)

@@ -1,5 +1,5 @@
 -- What a rule spells, and how a text can fail to be spelled.
-use Rattle.std.specs.Prelude.{◌≡◌, ℕ, zero, suc, false, List, [], ◌∷◌, ◌++◌, length, Result, Ok, Err, IsTrue, ◌⊎◌}
+use Rattle.std.specs.Prelude.{◌≡◌, ℕ, zero, suc, false, List, [], ◌∷◌, ◌++◌, Result, Ok, Err, IsTrue, ◌⊎◌}
 use Rattle.grammar.specs.Rule.{Token, Class, has, next, Rule, empty, one, unless, both, either, many, checked, deeper}
 use Rattle.grammar.specs.Rule.{Grammar}
 
@@ -69,9 +69,47 @@ Within {X} {F} {N} {V} heads rules (suc height) zero n r u w =
     (r ≡ Err (too_deep, place u)) × (p : Outcome F V) × Opened heads rules (Within heads rules height zero) n p u w
 Within heads rules (suc height) (suc depth) n r u w = Opened heads rules (Within heads rules height depth) n r u w
 
+-- The same at any height.
+abbrev pub Named : {X F N V : Type 0} → (N → Class) → (N → Rule X F N V V) → ℕ → N → Span X F V
+Named heads rules depth n r u w = (height : ℕ) × Within heads rules height depth n r u w
+
 -- The rule spells this text, where so many names may be open at one place.
 abbrev pub Spells : {X F N V A : Type 0} → Grammar X F N V → ℕ → Rule X F N V A → Outcome F A → List (Token X) → Type 0
 Spells g depth e r u = (height : ℕ) × Spelled (Within g.heads g.rules height depth) e r u []
+
+-- ---- flaws
+
+-- An item in this text has this flaw, and stands at this place.
+abbrev pub FlawsOf : Type 0 → Type 0 → Type 1
+FlawsOf X F = Flaw F × ℕ → List (Token X) → Type 0
+
+-- The text begins as the rule does, up to an item that has this flaw. What stands behind the item may be anything.
+abbrev pub FlawIn : {X F N V A : Type 0} → (N → Span X F V) → (N → FlawsOf X F) → Rule X F N V A → FlawsOf X F
+FlawIn inner deep (empty x) flaw u = ⊥
+FlawIn inner deep (one class f) flaw u = ⊥
+FlawIn inner deep (unless class x) flaw u = ⊥
+FlawIn {X} {F} inner deep (both {A} f a b) flaw u =
+    FlawIn inner deep a flaw u
+    ⊎ ((p : Outcome F A) × (m : List (Token X)) × Spelled inner a p u m × FlawIn inner deep b flaw m)
+FlawIn inner deep (either a b) flaw u = FlawIn inner deep a flaw u ⊎ FlawIn inner deep b flaw u
+FlawIn {X} {F} inner deep (many {A} f a) flaw u =
+    (xs : List (Outcome F A)) × (m : List (Token X)) × Series (Spelled inner a) xs u m × FlawIn inner deep a flaw m
+FlawIn {X} {F} inner deep (checked {A} f a) flaw u =
+    FlawIn inner deep a flaw u
+    ⊎ ((x : A) × (reason : F) × (w : List (Token X))
+    × Spelled inner a (Ok x) u w × (f x ≡ Err reason) × (flaw ≡ (refused reason, place u)))
+FlawIn inner deep (deeper n f) flaw u = deep n flaw u
+
+-- The same of names, where so many may be open at one place.
+abbrev pub FlawInside : {X F N V : Type 0} → (N → Class) → (N → Rule X F N V V) → ℕ → N → FlawsOf X F
+FlawInside heads rules zero n flaw u = IsTrue (next (heads n) u) × (flaw ≡ (too_deep, place u))
+FlawInside {X} heads rules (suc depth) n flaw u =
+    (t : Token X) × (m : List (Token X)) × (u ≡ t ∷ m) × IsTrue (has (heads n) t)
+    × FlawIn (Named heads rules depth) (FlawInside heads rules depth) (rules n) flaw m
+
+-- The text has this flaw, where so many names may be open at one place.
+abbrev pub HasFlaw : {X F N V A : Type 0} → Grammar X F N V → ℕ → Rule X F N V A → FlawsOf X F
+HasFlaw g depth e flaw u = FlawIn (Named g.heads g.rules depth) (FlawInside g.heads g.rules depth) e flaw u
 
 -- ---- what some text begins with
 
@@ -82,31 +120,9 @@ SameHead [] (y ∷ b) = ⊥
 SameHead (x ∷ a) [] = ⊥
 SameHead (x ∷ a) (y ∷ b) = x ≡ y
 
--- the place of one of the tokens
-pub record PlaceIn {X : Type 0} (at : ℕ) (text : List (Token X)) : Type 0 where
+-- Some text begins with the tokens before these, and none with the next one too, or none ends here.
+pub record IsStuck {X F A : Type 0} (S : Outcome F A → List (Token X) → Type 0) (u rest : List (Token X)) : Type 0 where
   pub before : List (Token X)
-  pub token : Token X
-  pub behind : List (Token X)
-  pub parts : text ≡ before ++ token ∷ behind
-  pub place_is : at ≡ token.place
-
-module _ {X F A : Type 0} (S : Outcome F A → List (Token X) → Type 0) (u : List (Token X)) where
-  -- Some text begins with the tokens before the last so many, and none with the next one too, or none ends here.
-  pub record IsStuck (left : ℕ) : Type 0 where
-    pub before : List (Token X)
-    pub rest : List (Token X)
-    pub parts : u ≡ before ++ rest
-    pub left_is : left ≡ length rest
-    pub begins : (more : List (Token X)) × (r : Outcome F A) × S r (before ++ more)
-    pub longest : (more : List (Token X)) (r : Outcome F A) → SameHead rest more → S r (before ++ more) → ⊥
-
-  -- Some text begins with these tokens and has this first flaw, at one of them, and so has each that goes on with the
-  -- next one too.
-  pub record IsFlawed (flaw : Flaw F) (at : ℕ) : Type 0 where
-    pub before : List (Token X)
-    pub rest : List (Token X)
-    pub parts : u ≡ before ++ rest
-    pub inside : PlaceIn at before
-    pub begins : (more : List (Token X)) × S (Err (flaw, at)) (before ++ more)
-    pub each : (more : List (Token X)) (r : Outcome F A) → SameHead rest more → S r (before ++ more) → r
-        ≡ Err (flaw, at)
+  pub parts : u ≡ before ++ rest
+  pub begins : (more : List (Token X)) × (r : Outcome F A) × S r (before ++ more)
+  pub longest : (more : List (Token X)) (r : Outcome F A) → SameHead rest more → S r (before ++ more) → ⊥

@@ -1,9 +1,8 @@
 pub mod Conditions
 pub mod Folding
 pub mod Order
-pub mod Places
 pub mod Reading
 pub mod Refusals
-pub mod Standing
+pub mod Slots
 pub mod Values
 pub mod Walks

@@ -7,8 +7,8 @@ use Rattle.std.specs.List.{list_any, range_with_len}
 use Rattle.log_model.specs.Field.{is_empty}
 use Rattle.log_model.specs.Words.{stands_at}
 use Rattle.lq_ast.specs.Phrases.{in_order}
-use Rattle.lq_filter.specs.Search.{FindsFirst}
-use Rattle.lq_filter.proofs.Places.{any_at, found_in, none_in}
+use Rattle.word_tokens.specs.Search.{FindsFirst}
+use Rattle.word_tokens.proofs.FirstPlace.{any_at, found_in, none_in}
 
 both : (a b : Bool) → (a && b) ≡ true → (a ≡ true) × (b ≡ true)
 both true b h = (refl, h)

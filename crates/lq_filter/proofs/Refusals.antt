@@ -40,56 +40,81 @@ pub refused_one : (nth : ℕ) (tried : Pattern) → (CanBeRead tried → ⊥) �
 refused_one nth tried unreadable =
     let none : nth - nth ≡ 0 = omega arith in (omega arith, rw none unreadable)
 
--- What is left of a list to prepare: what is made so far is of the elements that were passed, the number of the next
--- pattern counts those of them, what is refused from here on is refused of the whole list, and all patterns can be
--- read where those from here on can.
-pub record Left {X C : Type 0} (mean : X → C) (patterns : X → List Pattern) (xs : List X) (first i : ℕ)
-    (made : List C) (nth : ℕ) : Type 0 where
-  pub built : made ++ map mean (drop i xs) ≡ map mean xs
+-- What is left of a list to read: the number of the next pattern counts those of the elements that were passed, what is
+-- refused from here on is refused of the whole list, and all patterns can be read where those from here on can.
+pub record Unread {X : Type 0} (patterns : X → List Pattern) (xs : List X) (first i nth : ℕ) : Type 0 where
   pub counted : nth + length (flat_map patterns (drop i xs)) ≡ first + length (flat_map patterns xs)
   pub refused : (fault : PrepareFault) → IsRefusal nth (flat_map patterns (drop i xs)) fault
       → IsRefusal first (flat_map patterns xs) fault
   pub readable : AllByRecursion CanBeRead (flat_map patterns (drop i xs))
       → AllByRecursion CanBeRead (flat_map patterns xs)
 
-module _ {X C : Type 0} (mean : X → C) (patterns : X → List Pattern) (xs : List X) (first : ℕ) where
-  pub left_at_first : Left mean patterns xs first 0 [] first
-  left_at_first = record { built = refl; counted = refl; refused = λ fault h. h; readable = λ h. h }
+module _ {X : Type 0} (patterns : X → List Pattern) (xs : List X) (first : ℕ) where
+  pub unread_at_first : Unread patterns xs first 0 first
+  unread_at_first = record { counted = refl; refused = λ fault h. h; readable = λ h. h }
 
-  module _ (i : ℕ) (made : List C) (nth : ℕ) (left : Left mean patterns xs first i made nth) where
+  module _ (i nth : ℕ) (unread : Unread patterns xs first i nth) where
     module _ (x : X) (below : i < length xs) (is : x ≡ get_or xs i x) where
       rest : drop i xs ≡ x ∷ drop (i + 1) xs
       rest = rest_is xs i x below is
 
+      pub unread_refused : (fault : PrepareFault) → IsRefusal nth (patterns x) fault
+          → IsRefusal first (flat_map patterns xs) fault
+      unread_refused fault h = unread.refused fault (rw rest (refusal_before nth (patterns x)
+          (flat_map patterns (drop (i + 1) xs)) fault h))
+
+      pub unread_behind : (next : ℕ) → next ≡ nth + length (patterns x) → AllByRecursion CanBeRead (patterns x)
+          → Unread patterns xs first (i + 1) next
+      unread_behind next counted reads = record {
+        counted =
+            let split = ap (λ ys. length (flat_map patterns ys)) rest in
+            omega (arith, split, unread.counted, length-append (patterns x) (flat_map patterns (drop (i + 1) xs)));
+        refused = λ fault h. unread.refused fault
+            (rw rest (refusal_behind nth (patterns x) (flat_map patterns (drop (i + 1) xs)) fault (rw counted at h)));
+        readable = λ h. unread.readable
+            (rw rest (all_append CanBeRead (patterns x) (flat_map patterns (drop (i + 1) xs)) reads h));
+      }
+
+    pub unread_counted : length xs ≤ i → nth ≡ first + length (flat_map patterns xs)
+    unread_counted ends = let none = ap (λ ys. length (flat_map patterns ys)) (drop_all i xs ends) in omega
+        (arith, none, unread.counted)
+
+    pub unread_readable : length xs ≤ i → AllByRecursion CanBeRead (flat_map patterns xs)
+    unread_readable ends = unread.readable (rw (drop_all i xs ends) tt)
+
+-- What is left of a list to prepare: the same, and what is made so far is of the elements that were passed.
+pub record Left {X C : Type 0} (mean : X → C) (patterns : X → List Pattern) (xs : List X) (first i : ℕ)
+    (made : List C) (nth : ℕ) : Type 0 where
+  pub built : made ++ map mean (drop i xs) ≡ map mean xs
+  pub unread : Unread patterns xs first i nth
+
+module _ {X C : Type 0} (mean : X → C) (patterns : X → List Pattern) (xs : List X) (first : ℕ) where
+  pub left_at_first : Left mean patterns xs first 0 [] first
+  left_at_first = record { built = refl; unread = unread_at_first patterns xs first }
+
+  module _ (i : ℕ) (made : List C) (nth : ℕ) (left : Left mean patterns xs first i made nth) where
+    module _ (x : X) (below : i < length xs) (is : x ≡ get_or xs i x) where
       pub refused_here : (fault : PrepareFault) → IsRefusal nth (patterns x) fault
           → IsRefusal first (flat_map patterns xs) fault
-      refused_here fault h = left.refused fault (rw rest (refusal_before nth (patterns x)
-          (flat_map patterns (drop (i + 1) xs)) fault h))
+      refused_here = unread_refused patterns xs first i nth left.unread x below is
 
       pub left_behind : (c : C) (next : ℕ) → c ≡ mean x → next ≡ nth + length (patterns x)
           → AllByRecursion CanBeRead (patterns x) → Left mean patterns xs first (i + 1) (made ++ c ∷ []) next
       left_behind c next same counted reads = record {
         built = append_assoc made (c ∷ []) (map mean (drop (i + 1) xs))
-            ∙ ap (λ d. made ++ d ∷ map mean (drop (i + 1) xs)) same ∙ sym (ap (λ ys. made ++ map mean ys) rest)
-            ∙ left.built;
-        counted =
-            let split = ap (λ ys. length (flat_map patterns ys)) rest in
-            omega (arith, split, left.counted, length-append (patterns x) (flat_map patterns (drop (i + 1) xs)));
-        refused = λ fault h. left.refused fault
-            (rw rest (refusal_behind nth (patterns x) (flat_map patterns (drop (i + 1) xs)) fault (rw counted at h)));
-        readable = λ h. left.readable
-            (rw rest (all_append CanBeRead (patterns x) (flat_map patterns (drop (i + 1) xs)) reads h));
+            ∙ ap (λ d. made ++ d ∷ map mean (drop (i + 1) xs)) same
+            ∙ sym (ap (λ ys. made ++ map mean ys) (rest_is xs i x below is)) ∙ left.built;
+        unread = unread_behind patterns xs first i nth left.unread x below is next counted reads;
       }
 
     pub all_made : length xs ≤ i → made ≡ map mean xs
     all_made ends = sym (append-nil made) ∙ ap (λ ys. made ++ map mean ys) (sym (drop_all i xs ends)) ∙ left.built
 
     pub all_counted : length xs ≤ i → nth ≡ first + length (flat_map patterns xs)
-    all_counted ends = let none = ap (λ ys. length (flat_map patterns ys)) (drop_all i xs ends) in omega
-        (arith, none, left.counted)
+    all_counted = unread_counted patterns xs first i nth left.unread
 
     pub all_readable : length xs ≤ i → AllByRecursion CanBeRead (flat_map patterns xs)
-    all_readable ends = left.readable (rw (drop_all i xs ends) tt)
+    all_readable = unread_readable patterns xs first i nth left.unread
 
 pub flat_map-map : {X Y Z : Type 0} (f : Y → List Z) (g : X → Y) (xs : List X)
     → flat_map f (map g xs) ≡ flat_map (λ x. f (g x)) xs

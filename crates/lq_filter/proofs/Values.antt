@@ -1,11 +1,12 @@
 -- The value of a field, and what is asked of it.
-use Rattle.std.proofs.Common.{◌≡◌, ℕ, ℤ, Bool, true, false, ◌||◌, List, cond, codes, refl}
+use Rattle.std.proofs.Common.{◌≡◌, ℕ, Bool, true, false, ◌||◌, List, cond, codes, refl}
 use Rattle.std.specs.Prelude.{bytes_eq}
 use Rattle.log_model.specs.Field.{field_value, is_reserved}
 use Rattle.log_model.specs.Moment.{moment_text}
 use Rattle.log_model.specs.Row.{Row, value_of}
 use Rattle.log_model.specs.Stream.{label_text, stream_id}
-use Rattle.lq_ast.specs.Holds.{holds}
+use Rattle.lq_ast.specs.Holds.{is_met}
+use Rattle.lq_ast.specs.Subject.{Subject}
 use Rattle.lq_filter.specs.Value.{condition_on, value_holds}
 use Rattle.lq_filter.specs.declared.value.ValueTest.{ValueTest}
 use Rattle.lq_filter.specs.declared.value.ValueTest.TheVariants as test
@@ -23,19 +24,19 @@ stored_value row name e =
     last_of (bytes_eq name (codes "_time")) (bytes_eq name (codes "_stream")) (bytes_eq name (codes "_stream_id"))
     (moment_text row.moment) (label_text row.labels) (stream_id row.labels) (field_value row.fields name) e
 
--- what is asked of the value of a field holds for a row where its condition does
-pub value_holds-holds : (now : ℤ) (row : Row) (name : List ℕ) (asked : ValueTest)
-    → value_holds asked (value_of row name) ≡ holds now (condition_on name asked) row
-value_holds-holds now row name test.Filled = refl
-value_holds-holds now row name test.Missing = refl
-value_holds-holds now row name (test.Phrase text) = refl
-value_holds-holds now row name (test.Prefix text) = refl
-value_holds-holds now row name (test.Exact text) = refl
-value_holds-holds now row name (test.ExactPrefix text) = refl
-value_holds-holds now row name (test.OneOf texts) = refl
-value_holds-holds now row name (test.Pattern text) = refl
-value_holds-holds now row name (test.Folded text) = refl
-value_holds-holds now row name (test.Sequence texts) = refl
-value_holds-holds now row name (test.Length low high) = refl
-value_holds-holds now row name (test.Between low high) = refl
-value_holds-holds now row name (test.Number low high) = refl
+-- what is asked of the value of a field is so where its condition is met
+pub value_holds-is_met : (s : Subject) (name : List ℕ) (asked : ValueTest)
+    → value_holds asked (s.value name) ≡ is_met (condition_on name asked) s
+value_holds-is_met s name test.Filled = refl
+value_holds-is_met s name test.Missing = refl
+value_holds-is_met s name (test.Phrase text) = refl
+value_holds-is_met s name (test.Prefix text) = refl
+value_holds-is_met s name (test.Exact text) = refl
+value_holds-is_met s name (test.ExactPrefix text) = refl
+value_holds-is_met s name (test.OneOf texts) = refl
+value_holds-is_met s name (test.Pattern text) = refl
+value_holds-is_met s name (test.Folded text) = refl
+value_holds-is_met s name (test.Sequence texts) = refl
+value_holds-is_met s name (test.Length low high) = refl
+value_holds-is_met s name (test.Between low high) = refl
+value_holds-is_met s name (test.Number low high) = refl

@@ -1,6 +1,7 @@
+pub mod Inner
 pub mod Labels
 pub mod Reads
 pub mod Refusal
-pub mod Search
+pub mod Subject
 pub mod Tree
 pub mod Value

@@ -7,10 +7,10 @@ ghost use Rattle.lq_filter.specs.Value.{condition_of_field, condition_on};
 
 use crate::fault::PrepareFault;
 use crate::pattern::Pattern;
-use crate::phrase::Phrase;
 use crate::value::{FieldTest, Folded, ValueTest};
 use std::alloc::{AllocError, Global};
 use vl_row::Text;
+use word_tokens::Finder;
 
 fn on(alloc: Global, field: &Text, test: ValueTest) -> Result<FieldTest, AllocError>
     ensures { IfOk result (λ made. condition_of_field made ≡ condition_on field.now test) }
@@ -34,14 +34,14 @@ pub(crate) fn missing(alloc: Global, field: &Text) -> Result<FieldTest, AllocErr
 pub(crate) fn phrase(alloc: Global, field: &Text, text: &Text) -> Result<FieldTest, AllocError>
     ensures { IfOk result (λ made. condition_of_field made ≡ is.phrase field.now text.now) }
 {
-    let phrase = Phrase::new(alloc, text.as_str())?;
+    let phrase = Finder::new(text.as_str()).into_owned(alloc)?;
     on(alloc, field, ValueTest::Phrase(phrase))
 }
 
 pub(crate) fn prefix(alloc: Global, field: &Text, text: &Text) -> Result<FieldTest, AllocError>
     ensures { IfOk result (λ made. condition_of_field made ≡ is.prefix field.now text.now) }
 {
-    let phrase = Phrase::new(alloc, text.as_str())?;
+    let phrase = Finder::new(text.as_str()).into_owned(alloc)?;
     on(alloc, field, ValueTest::Prefix(phrase))
 }
 
@@ -112,12 +112,12 @@ pub(crate) fn sequence(alloc: Global, field: &Text, texts: &[Text]) -> Result<Fi
     on(alloc, field, ValueTest::Sequence(phrases))
 }
 
-fn phrases(alloc: Global, texts: &[Text]) -> Result<Vec<Phrase>, AllocError>
+fn phrases(alloc: Global, texts: &[Text]) -> Result<Vec<Finder<'static>>, AllocError>
     ensures { IfOk result (λ all. all.items ≡ texts.now) }
 {
     let mut all = Vec::with_capacity(alloc, texts.len())?;
     for text in texts {
-        all.push(Phrase::new(alloc, text.as_str())?)?;
+        all.push(Finder::new(text.as_str()).into_owned(alloc)?)?;
     }
     Ok(all)
 }

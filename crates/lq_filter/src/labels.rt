@@ -7,8 +7,8 @@ ghost use Rattle.lq_filter.specs.Labels.{groups_of as prepared_groups, how_of, t
 ghost use Rattle.lq_filter.specs.Labels.{tests_of as prepared_tests, text_of};
 ghost use Rattle.lq_filter.specs.Refusal.{IsRefusal};
 
+use crate::asking::Asking;
 use crate::fault::PrepareFault;
-use crate::matchers::Matchers;
 use crate::pattern::Pattern;
 use lq_ast::{Group, How, LabelTest, Select};
 use std::alloc::{AllocError, Global};
@@ -101,8 +101,7 @@ impl Selector {
     /// Whether some group has all its tests true. Without groups every stream is selected.
     pub(crate) fn selects<'p>(
         &'p self,
-        alloc: Global,
-        matchers: &mut Matchers<'p>,
+        asking: &mut Asking<'p>,
         stream: &Stream,
     ) -> Result<bool, AllocError>
         ensures { IfOk result (λ found. found ≡ selects (prepared_groups self.now) stream.now) }
@@ -111,7 +110,7 @@ impl Selector {
             return Ok(true);
         }
         for group in &self.groups {
-            let found = group.selects(alloc, matchers, stream)?;
+            let found = group.selects(asking, stream)?;
             if found {
                 return Ok(true);
             }
@@ -151,16 +150,11 @@ impl PreparedGroup {
         true
     }
 
-    fn selects<'p>(
-        &'p self,
-        alloc: Global,
-        matchers: &mut Matchers<'p>,
-        stream: &Stream,
-    ) -> Result<bool, AllocError>
+    fn selects<'p>(&'p self, asking: &mut Asking<'p>, stream: &Stream) -> Result<bool, AllocError>
         ensures { IfOk result (λ found. found ≡ list_all (passes stream.now) (prepared_tests self.now)) }
     {
         for test in &self.tests {
-            let found = test.holds(alloc, matchers, stream)?;
+            let found = test.holds(asking, stream)?;
             if !found {
                 return Ok(false);
             }
@@ -187,20 +181,15 @@ impl PreparedTest {
         self.name.as_str() == test.name.as_str() && self.asked.is_of(test.how, test.text.as_str())
     }
 
-    fn holds<'p>(
-        &'p self,
-        alloc: Global,
-        matchers: &mut Matchers<'p>,
-        stream: &Stream,
-    ) -> Result<bool, AllocError>
+    fn holds<'p>(&'p self, asking: &mut Asking<'p>, stream: &Stream) -> Result<bool, AllocError>
         ensures { IfOk result (λ found. found ≡ passes stream.now (prepared_test self.now)) }
     {
         let value = stream.value(self.name.as_str());
         match &self.asked {
             Asked::Is(text) => Ok(value == text.as_str()),
             Asked::IsNot(text) => Ok(value != text.as_str()),
-            Asked::Matches(pattern) => pattern.is_found(alloc, matchers, value),
-            Asked::MatchesNot(pattern) => Ok(!pattern.is_found(alloc, matchers, value)?),
+            Asked::Matches(pattern) => pattern.is_found(asking, value),
+            Asked::MatchesNot(pattern) => Ok(!pattern.is_found(asking, value)?),
         }
     }
 }
@@ -255,14 +244,9 @@ impl WholePattern {
     }
 
     /// Whether the whole value matches.
-    fn is_found<'p>(
-        &'p self,
-        alloc: Global,
-        matchers: &mut Matchers<'p>,
-        value: &str,
-    ) -> Result<bool, AllocError>
+    fn is_found<'p>(&'p self, asking: &mut Asking<'p>, value: &str) -> Result<bool, AllocError>
         ensures { IfOk result (λ found. found ≡ is_found (whole self.now) value.now) }
     {
-        matchers.is_found(alloc, &self.pattern, value)
+        asking.is_found(&self.pattern, value)
     }
 }

@@ -1,15 +1,18 @@
-//! Filters of rows (LogsQL, "Filters"): prepared once, and then asked of many rows.
+//! Filters of rows and of records (LogsQL, "Filters"): prepared once, and then asked of many.
 #![tactic(auto)]
 
+mod asking;
 mod fault;
 mod forms;
+mod inner;
 mod labels;
-mod matchers;
 mod pattern;
-mod phrase;
+mod pipes;
 mod prepared;
+mod subject;
 mod tree;
 mod value;
 
 pub use fault::PrepareFault;
+pub use inner::{Inner, RecordScan, prepare_inner, prepare_inner_from};
 pub use prepared::{Prepared, Scan, prepare};

@@ -9,10 +9,11 @@ use regex::{Error, Matcher, Regex};
 use std::alloc::{AllocError, Global};
 use std::marker::Model;
 
-/// A regular expression that was read from its text.
+/// A regular expression that was read from its text, with its number among those of its filter.
 #[derive(Drop)]
 pub(crate) struct Pattern {
     regex: Regex,
+    pub(crate) nth: u32,
 }
 
 impl Model for Pattern {
@@ -36,7 +37,7 @@ impl Pattern {
             → IfErr result (IsRefusal nth (tried ∷ [])) }
     {
         match Regex::new(alloc, text) {
-            Ok(regex) => Ok(Pattern { regex }),
+            Ok(regex) => Ok(Pattern { regex, nth }),
             Err(Error::Syntax(_)) => Err(PrepareFault::RegexRefused { nth }),
             Err(_) => Err(PrepareFault::Memory),
         }

@@ -1,15 +1,18 @@
 ghost use Rattle.std.specs.Prelude.{◌≡◌, IfOk, IfErr};
 ghost use Rattle.std.specs.List.{AllByRecursion};
 ghost use Rattle.lq_ast.specs.Holds.{holds, selects};
-ghost use Rattle.lq_ast.specs.Patterns.{CanBeRead, patterns_of};
+ghost use Rattle.lq_ast.specs.Patterns.{CanBeRead, all_patterns};
+ghost use Rattle.lq_ast.specs.Question.{question};
 ghost use Rattle.lq_ast.specs.View.{condition, groups_of};
 ghost use Rattle.lq_filter.specs.Labels.{groups_of as prepared_groups};
 ghost use Rattle.lq_filter.specs.Refusal.{IsRefusal};
 ghost use Rattle.lq_filter.specs.Tree.{condition_of, moment_of, scanned};
 
+use crate::asking::Asking;
 use crate::fault::PrepareFault;
 use crate::labels::Selector;
-use crate::matchers::Matchers;
+use crate::pipes::read_pipes;
+use crate::subject::Subject;
 use crate::tree::Tree;
 use lq_ast::{Query, Select};
 use std::alloc::{AllocError, Global};
@@ -21,16 +24,17 @@ pub struct Prepared {
     filter: Tree,
 }
 
-/// Prepares a query: each regular expression is read, and all that does not depend on a row is done. A query is
-/// prepared only where each of its regular expressions can be read, and `RegexRefused` comes only where the one with
-/// that number cannot be; numbers count from 0 in the order of the text.
+/// Prepares a query: each regular expression is read, those of its pipes too, and all that does not depend on a row is
+/// done. A query is prepared only where each of its regular expressions can be read, and `RegexRefused` comes only
+/// where the one with that number cannot be; numbers count from 0 in the order of the text.
 pub fn prepare(alloc: Global, q: &Query) -> Result<Prepared, PrepareFault>
     ensures same { IfOk result (λ prepared. condition_of prepared ≡ condition q.now.filter) }
-    ensures readable { IfOk result (λ _. AllByRecursion CanBeRead (patterns_of (condition q.now.filter))) }
-    ensures refused { IfErr result (IsRefusal 0 (patterns_of (condition q.now.filter))) }
+    ensures readable { IfOk result (λ _. AllByRecursion CanBeRead (all_patterns (question q.now))) }
+    ensures refused { IfErr result (IsRefusal 0 (all_patterns (question q.now))) }
 {
     let mut nth = 0;
     let filter = Tree::new(alloc, &q.filter, &mut nth)?;
+    read_pipes(alloc, q.pipes.as_slice(), &mut nth)?;
     Ok(Prepared { filter })
 }
 
@@ -60,10 +64,9 @@ impl Prepared {
         ensures moment { moment_of result ≡ now }
     {
         Scan {
-            alloc,
             now,
             filter: &self.filter,
-            matchers: Matchers::new(alloc),
+            asking: Asking::new(alloc),
         }
     }
 }
@@ -89,17 +92,16 @@ fn selector_of(alloc: Global, group: &Select) -> Result<Selector, AllocError>
 fn selects_by<'p>(selector: &'p Selector, alloc: Global, s: &Stream) -> Result<bool, AllocError>
     ensures { IfOk result (λ found. found ≡ selects (prepared_groups selector.now) s.now) }
 {
-    let mut matchers: Matchers<'p> = Matchers::new(alloc);
-    selector.selects(alloc, &mut matchers, s)
+    let mut asking: Asking<'p> = Asking::new(alloc);
+    selector.selects(&mut asking, s)
 }
 
 /// A scan of many rows, which makes the matcher of a pattern once.
 #[derive(Drop)]
 pub struct Scan<'p> {
-    alloc: Global,
     now: i64,
     filter: &'p Tree,
-    matchers: Matchers<'p>,
+    asking: Asking<'p>,
 }
 
 impl<'p> Scan<'p> {
@@ -109,7 +111,7 @@ impl<'p> Scan<'p> {
         ensures filter { scanned self.new ≡ scanned self.old }
         ensures moment { moment_of self.new ≡ moment_of self.old }
     {
-        self.filter
-            .holds(self.alloc, &mut self.matchers, self.now, row)
+        let subject = Subject::Row { now: self.now, row };
+        self.filter.holds(&mut self.asking, &subject)
     }
 }

@@ -1,24 +1,26 @@
-ghost use Rattle.std.specs.Prelude.{◌≡◌, ◌+◌, ◌-ℤ◌, ◌&&◌, ℕ, List, [], ◌∷◌, pos, int_le, int_lt, length, map};
+ghost use Rattle.std.specs.Prelude.{◌≡◌, ◌+◌, ℕ, List, [], ◌∷◌, length, map};
 ghost use Rattle.std.specs.Prelude.{IfOk, IfErr, IfSome, IsOk};
 ghost use Rattle.std.specs.List.{AllByRecursion};
 ghost use Rattle.lq_ast.specs.Condition as is;
 ghost use Rattle.lq_ast.specs.Condition.{conditions};
-ghost use Rattle.lq_ast.specs.Holds.{all_hold, holds, is_within, some_holds};
+ghost use Rattle.lq_ast.specs.Holds.{are_all_met, is_met, is_some_met, selects};
 ghost use Rattle.lq_ast.specs.Patterns.{CanBeRead, IsReadable, Pattern, patterns_among, patterns_of};
 ghost use Rattle.lq_ast.specs.View.{condition, groups_of};
 ghost use Rattle.lq_filter.specs.Labels.{groups_of as prepared_groups};
 ghost use Rattle.lq_filter.specs.Refusal.{IsRefusal};
+ghost use Rattle.lq_filter.specs.Subject.{subject_of};
 ghost use Rattle.lq_filter.specs.Tree.{condition_of_tree};
 ghost use Rattle.lq_filter.specs.Value.{condition_of_field};
 
+use crate::asking::Asking;
 use crate::fault::PrepareFault;
 use crate::forms;
 use crate::labels::Selector;
-use crate::matchers::Matchers;
+use crate::subject::Subject;
 use crate::value::FieldTest;
 use lq_ast::{Filter, Select};
 use std::alloc::{AllocError, Global};
-use vl_row::{Row, Text};
+use vl_row::{Stream, Text};
 
 /// A filter for which everything that does not depend on a row is done.
 #[derive(Drop)]
@@ -162,28 +164,40 @@ fn of_selector(alloc: Global, select: &Select, nth: &mut u32) -> Result<Tree, Pr
 }
 
 impl Tree {
-    /// Whether the filter holds for the row, at the moment `now`. The filters of an AND or an OR are asked in their
-    /// order, up to the first that settles it.
+    /// Whether the filter holds for the subject. The filters of an AND or an OR are asked in their order, up to the
+    /// first that settles it.
     #[cycle(holding)]
     pub(crate) fn holds<'p>(
         &'p self,
-        alloc: Global,
-        matchers: &mut Matchers<'p>,
-        now: i64,
-        row: &Row,
+        asking: &mut Asking<'p>,
+        subject: &Subject<'_>,
     ) -> Result<bool, AllocError>
-        ensures { IfOk result (λ found. found ≡ holds now (condition_of_tree self.now) row.now) }
+        ensures { IfOk result (λ found. found ≡ is_met (condition_of_tree self.now) (subject_of subject.now)) }
     {
         match self {
             Tree::Always => Ok(true),
-            Tree::Field(field) => field.holds(alloc, matchers, row),
-            Tree::Last { span } => Ok(is_recent(now, *span, row)),
-            Tree::Times { from, to } => Ok(is_during(*from, *to, row)),
-            Tree::Selected(selector) => selector.selects(alloc, matchers, row.stream()),
-            Tree::Not(tree) => Ok(!tree.holds(alloc, matchers, now, row)?),
-            Tree::All(trees) => all_hold(trees.as_slice(), alloc, matchers, now, row),
-            Tree::Any(trees) => some_holds(trees.as_slice(), alloc, matchers, now, row),
+            Tree::Field(field) => field.holds(asking, subject),
+            Tree::Last { span } => Ok(subject.is_recent(*span)),
+            Tree::Times { from, to } => Ok(subject.is_during(*from, *to)),
+            Tree::Selected(selector) => selects(selector, asking, subject),
+            Tree::Not(tree) => Ok(!tree.holds(asking, subject)?),
+            Tree::All(trees) => all_hold(trees.as_slice(), asking, subject),
+            Tree::Any(trees) => some_holds(trees.as_slice(), asking, subject),
         }
+    }
+}
+
+// A record is of the stream without labels.
+fn selects<'p>(
+    selector: &'p Selector,
+    asking: &mut Asking<'p>,
+    subject: &Subject<'_>,
+) -> Result<bool, AllocError>
+    ensures { IfOk result (λ found. found ≡ selects (prepared_groups selector.now) (subject_of subject.now).labels) }
+{
+    match subject {
+        Subject::Row { row, .. } => selector.selects(asking, row.stream()),
+        Subject::Record(_) => selector.selects(asking, &Stream::new(asking.alloc)),
     }
 }
 
@@ -218,15 +232,14 @@ fn selector_among<'t>(trees: &'t [Tree], select: &Select) -> Option<&'t Selector
 #[cycle(holding)]
 fn all_hold<'p>(
     trees: &'p [Tree],
-    alloc: Global,
-    matchers: &mut Matchers<'p>,
-    now: i64,
-    row: &Row,
+    asking: &mut Asking<'p>,
+    subject: &Subject<'_>,
 ) -> Result<bool, AllocError>
-    ensures { IfOk result (λ found. found ≡ all_hold now (conditions (map condition_of_tree trees.now)) row.now) }
+    ensures { IfOk result
+        (λ found. found ≡ are_all_met (conditions (map condition_of_tree trees.now)) (subject_of subject.now)) }
 {
     for tree in trees {
-        let found = tree.holds(alloc, matchers, now, row)?;
+        let found = tree.holds(asking, subject)?;
         if !found {
             return Ok(false);
         }
@@ -237,33 +250,17 @@ fn all_hold<'p>(
 #[cycle(holding)]
 fn some_holds<'p>(
     trees: &'p [Tree],
-    alloc: Global,
-    matchers: &mut Matchers<'p>,
-    now: i64,
-    row: &Row,
+    asking: &mut Asking<'p>,
+    subject: &Subject<'_>,
 ) -> Result<bool, AllocError>
-    ensures { IfOk result (λ found. found ≡ some_holds now (conditions (map condition_of_tree trees.now)) row.now) }
+    ensures { IfOk result
+        (λ found. found ≡ is_some_met (conditions (map condition_of_tree trees.now)) (subject_of subject.now)) }
 {
     for tree in trees {
-        let found = tree.holds(alloc, matchers, now, row)?;
+        let found = tree.holds(asking, subject)?;
         if found {
             return Ok(true);
         }
     }
     Ok(false)
-}
-
-// Whether the row is younger than so many nanoseconds, and not of the future.
-fn is_recent(now: i64, span: i64, row: &Row) -> bool
-    ensures { result ≡ (int_lt (now -ℤ span) (pos row.now.moment) && int_le (pos row.now.moment) now) }
-{
-    let time = row.time();
-    now as i128 - (span as i128) < time as i128 && time <= now
-}
-
-fn is_during(from: i128, to: i128, row: &Row) -> bool
-    ensures { result ≡ is_within from to (pos row.now.moment) }
-{
-    let time = row.time() as i128;
-    from <= time && time <= to
 }

@@ -11,29 +11,30 @@ ghost use Rattle.lq_ast.specs.Holds.{is_within};
 ghost use Rattle.lq_ast.specs.Phrases.{case_folded, in_order};
 ghost use Rattle.word_tokens.specs.Prefix.{occurs_as_prefix};
 
-use crate::matchers::Matchers;
+use crate::asking::Asking;
 use crate::pattern::Pattern;
-use crate::phrase::Phrase;
+use crate::subject::Subject;
 use caseless::Caseless;
 use std::alloc::{AllocError, Global};
 use std::marker::Model;
 use stream_label::{label_text, stream_id};
 use time_text::write_moment;
 use vl_row::{Row, Text, number};
+use word_tokens::Finder;
 
 /// What is asked of the value of a field.
 #[derive(Drop)]
 pub(crate) enum ValueTest {
     Filled,
     Missing,
-    Phrase(Phrase),
-    Prefix(Phrase),
+    Phrase(Finder<'static>),
+    Prefix(Finder<'static>),
     Exact(Text),
     ExactPrefix(Text),
     OneOf(Vec<Text>),
     Pattern(Pattern),
     Folded(Folded),
-    Sequence(Vec<Phrase>),
+    Sequence(Vec<Finder<'static>>),
     Length { low: u64, high: u64 },
     Between { low: Text, high: Text },
     Number { low: i128, high: i128 },
@@ -42,26 +43,21 @@ pub(crate) enum ValueTest {
 impl ValueTest {
     ghost use Rattle.lq_filter.specs.Value.{value_holds};
 
-    fn holds<'p>(
-        &'p self,
-        alloc: Global,
-        matchers: &mut Matchers<'p>,
-        value: &str,
-    ) -> Result<bool, AllocError>
+    fn holds<'p>(&'p self, asking: &mut Asking<'p>, value: &str) -> Result<bool, AllocError>
         ensures { IfOk result (λ found. found ≡ value_holds self.now value.now) }
     {
         match self {
             ValueTest::Filled => Ok(!value.is_empty()),
             ValueTest::Missing => Ok(value.is_empty()),
-            ValueTest::Phrase(phrase) => Ok(phrase.occurs_in(value)),
-            ValueTest::Prefix(phrase) => Ok(has_prefix(phrase, value)),
+            ValueTest::Phrase(phrase) => Ok(phrase.has_phrase(value)),
+            ValueTest::Prefix(prefix) => Ok(has_prefix(prefix, value)),
             ValueTest::Exact(text) => Ok(value == text.as_str()),
             ValueTest::ExactPrefix(text) => Ok(
                 value.as_bytes().starts_with(text.as_str().as_bytes()),
             ),
             ValueTest::OneOf(texts) => Ok(is_one_of(texts.as_slice(), value)),
-            ValueTest::Pattern(pattern) => matchers.is_found(alloc, pattern, value),
-            ValueTest::Folded(folded) => folded.is_in(alloc, value),
+            ValueTest::Pattern(pattern) => asking.is_found(pattern, value),
+            ValueTest::Folded(folded) => folded.is_in(asking.alloc, value),
             ValueTest::Sequence(phrases) => Ok(are_in_order(phrases.as_slice(), value)),
             ValueTest::Length { low, high } => Ok(has_length(value, *low, *high)),
             ValueTest::Between { low, high } => Ok(is_between(value, low.as_str(), high.as_str())),
@@ -78,22 +74,33 @@ pub(crate) struct FieldTest {
 }
 
 impl FieldTest {
+    ghost use Rattle.lq_filter.specs.Subject.{subject_of};
     ghost use Rattle.lq_filter.specs.Value.{value_holds};
 
+    /// Whether the value of the field is as asked.
     pub(crate) fn holds<'p>(
         &'p self,
-        alloc: Global,
-        matchers: &mut Matchers<'p>,
-        row: &Row,
+        asking: &mut Asking<'p>,
+        subject: &Subject<'_>,
     ) -> Result<bool, AllocError>
+        ensures { IfOk result
+            (λ found. found ≡ value_holds self.now.test ((subject_of subject.now).value self.now.name)) }
+    {
+        match subject {
+            Subject::Row { row, .. } => self.holds_of_row(asking, row),
+            Subject::Record(fields) => self.test.holds(asking, fields.get(self.name.as_str())),
+        }
+    }
+
+    fn holds_of_row<'p>(&'p self, asking: &mut Asking<'p>, row: &Row) -> Result<bool, AllocError>
         ensures { IfOk result (λ found. found ≡ value_holds self.now.test (value_of row.now self.now.name)) }
     {
         let name = self.name.as_str();
         if !is_computed(name) {
-            return self.test.holds(alloc, matchers, row.value(name));
+            return self.test.holds(asking, row.value(name));
         }
-        let text = computed(alloc, name, row)?;
-        self.test.holds(alloc, matchers, text.as_str())
+        let text = computed(asking.alloc, name, row)?;
+        self.test.holds(asking, text.as_str())
     }
 }
 
@@ -121,14 +128,14 @@ fn computed(alloc: Global, name: &str, row: &Row) -> Result<Text, AllocError>
     Ok(text)
 }
 
-fn has_prefix(phrase: &Phrase, value: &str) -> bool
-    ensures { result ≡ (if is_empty phrase.now then not (is_empty value.now)
-        else occurs_as_prefix value.now phrase.now) }
+fn has_prefix(prefix: &Finder<'static>, value: &str) -> bool
+    ensures { result ≡ (if is_empty prefix.now then not (is_empty value.now)
+        else occurs_as_prefix value.now prefix.now) }
 {
-    if phrase.is_empty() {
+    if prefix.is_empty() {
         !value.is_empty()
     } else {
-        phrase.occurs_as_prefix_in(value)
+        prefix.has_prefix(value)
     }
 }
 
@@ -142,7 +149,7 @@ fn is_one_of(texts: &[Text], value: &str) -> bool
 #[derive(Drop)]
 pub(crate) struct Folded {
     text: Text,
-    phrase: Phrase,
+    phrase: Finder<'static>,
 }
 
 impl Model for Folded {
@@ -161,7 +168,7 @@ impl Folded {
         ensures { IfOk result (λ folded. folded ≡ text.now) }
     {
         let folded = case_folded(alloc, text)?;
-        let phrase = Phrase::new(alloc, folded.as_str())?;
+        let phrase = Finder::new(folded.as_str()).into_owned(alloc)?;
         let text = Text::try_of(alloc, text)?;
         Ok(Folded { text, phrase })
     }
@@ -174,7 +181,7 @@ impl Folded {
             return Ok(value.is_empty());
         }
         let folded = case_folded(alloc, value)?;
-        Ok(self.phrase.occurs_in(folded.as_str()))
+        Ok(self.phrase.has_phrase(folded.as_str()))
     }
 }
 
@@ -189,7 +196,7 @@ fn case_folded(alloc: Global, text: &str) -> Result<String, AllocError>
 }
 
 // Whether the phrases stand in the value in this order, each from the end of the one before or later.
-fn are_in_order(phrases: &[Phrase], value: &str) -> bool
+fn are_in_order(phrases: &[Finder<'static>], value: &str) -> bool
     ensures { result ≡ in_order value.now 0 phrases.now }
 {
     let mut from = 0;
@@ -204,7 +211,7 @@ fn are_in_order(phrases: &[Phrase], value: &str) -> bool
 
 // The end of the first place from `from` on at which the phrase stands, which leaves most room for others; an empty
 // one is passed over.
-fn end_from(phrase: &Phrase, value: &str, from: usize) -> Option<usize>
+fn end_from(phrase: &Finder<'static>, value: &str, from: usize) -> Option<usize>
     requires { from ≤ length value.now }
     ensures found { IfSome result (λ end. end ≤ length value.now) }
     ensures others { (more : List (List ℕ)) → MatchOption result (in_order value.now from (phrase.now ∷ more) ≡ false)

@@ -1,6 +1,6 @@
-// The filter and the row of a line of the table.
+// The filter and the row, or the record, of a line of the table.
 use lq_ast::{Filter, Group, How, LabelTest, Query, Select};
-use lq_filter::{Prepared, prepare};
+use lq_filter::{Inner, Prepared, prepare, prepare_inner};
 use std::alloc::{AllocError, Global};
 use vl_row::{FieldList, Items, Row, Text};
 
@@ -15,9 +15,16 @@ struct Case<'l> {
 }
 
 pub(crate) fn answer(alloc: Global, line: &str) -> Result<String, AllocError> {
-    let case = Case::new(line);
+    match line.strip_prefix("record ") {
+        Some(line) => answer_of_record(alloc, Case::new(line)),
+        None => answer_of_row(alloc, Case::new(line)),
+    }
+}
+
+fn answer_of_row(alloc: Global, case: Case<'_>) -> Result<String, AllocError> {
     let query = Query {
         filter: case.filter(alloc)?,
+        pipes: Items::of(Vec::new(alloc)),
     };
     match prepare(alloc, &query) {
         Ok(prepared) => held(alloc, &prepared, case.value),
@@ -28,6 +35,23 @@ pub(crate) fn answer(alloc: Global, line: &str) -> Result<String, AllocError> {
 fn held(alloc: Global, prepared: &Prepared, value: &str) -> Result<String, AllocError> {
     let row = row_of(alloc, value)?;
     let holds = prepared.holds(alloc, 0, &row)?;
+    format!(in alloc; "{holds}")
+}
+
+fn answer_of_record(alloc: Global, case: Case<'_>) -> Result<String, AllocError> {
+    match prepare_inner(alloc, &case.filter(alloc)?) {
+        Ok(inner) => held_of_record(alloc, &inner, case),
+        Err(fault) => format!(in alloc; "{fault:?}"),
+    }
+}
+
+fn held_of_record(alloc: Global, inner: &Inner, case: Case<'_>) -> Result<String, AllocError> {
+    let mut record = FieldList::new(alloc);
+    record.set(alloc, "a", "x")?;
+    if !case.field.is_empty() {
+        record.set(alloc, case.field, case.value)?;
+    }
+    let holds = inner.holds(alloc, &record)?;
     format!(in alloc; "{holds}")
 }
 

@@ -1,5 +1,8 @@
 use lq_ast::{Filter, Group, How, LabelTest, Query, Select};
-use lq_filter::{PrepareFault, Prepared, Scan, prepare};
+use lq_filter::{
+    Inner, PrepareFault, Prepared, RecordScan, Scan, prepare, prepare_inner, prepare_inner_from,
+};
+use lq_parse::parse;
 use std::alloc::{AllocError, Global};
 use std::test::Fail;
 use vl_row::{FieldList, Items, Row, Text};
@@ -15,7 +18,10 @@ fn row_of(alloc: Global, time: i64, app: &str) -> Result<Row, AllocError> {
 }
 
 fn holds(alloc: Global, filter: Filter, now: i64, row: &Row) -> Result<bool, AllocError> {
-    let query = Query { filter };
+    let query = Query {
+        filter,
+        pipes: Items::of(Vec::new(alloc)),
+    };
     match prepare(alloc, &query) {
         Ok(prepared) => prepared.holds(alloc, now, row),
         Err(_) => Err(AllocError),
@@ -159,6 +165,7 @@ fn no_group_has_all_its_tests_true(rt: HostRuntime) -> Result<(), Fail> {
 fn stream_is_selected(alloc: Global, app: &str) -> Result<bool, AllocError> {
     let query = Query {
         filter: Filter::Not(Box::new(alloc, of_two_groups(alloc)?)?),
+        pipes: Items::of(Vec::new(alloc)),
     };
     match prepare(alloc, &query) {
         Ok(prepared) => selects_stream(alloc, &prepared, app),
@@ -194,6 +201,7 @@ fn selects_no_labels(alloc: Global, prepared: &Prepared) -> Result<bool, AllocEr
 fn no_labels_are_selected(alloc: Global) -> Result<bool, AllocError> {
     let query = Query {
         filter: Filter::Select(selector(alloc, How::IsNot, "dev")?),
+        pipes: Items::of(Vec::new(alloc)),
     };
     match prepare(alloc, &query) {
         Ok(prepared) => selects_no_labels(alloc, &prepared),
@@ -207,31 +215,28 @@ fn a_stream_without_labels_is_selected(rt: HostRuntime) -> Result<(), Fail> {
     Ok(())
 }
 
-fn pattern(alloc: Global, text: &str) -> Result<Filter, AllocError> {
-    let field = Text::try_of(alloc, "v")?;
-    let pattern = Text::try_of(alloc, text)?;
-    Ok(Filter::Regex { field, pattern })
+/// What a text asks.
+fn query(alloc: Global, text: &str) -> Result<Query, AllocError> {
+    parse(alloc, text).map_err(|_| AllocError)
+}
+
+/// Whether the query of a text holds for a row in which `v` is `x`.
+fn holds_for_x(alloc: Global, text: &str) -> Result<bool, AllocError> {
+    let row = row_of(alloc, 0, "")?;
+    let query = query(alloc, text)?;
+    holds(alloc, query.filter, 0, &row)
 }
 
 #[test]
 fn one_of_no_texts_never_holds(rt: HostRuntime) -> Result<(), Fail> {
-    let field = Text::try_of(rt.alloc(), "v")?;
-    let texts = Vec::new(rt.alloc());
-    assert!(rt; !holds_for_x(rt.alloc(), Filter::OneOf { field, texts })?);
+    assert!(rt; !holds_for_x(rt.alloc(), "v:in()")?);
     Ok(())
 }
 
 #[test]
-fn no_phrases_are_in_order(rt: HostRuntime) -> Result<(), Fail> {
-    let field = Text::try_of(rt.alloc(), "v")?;
-    let texts = Vec::new(rt.alloc());
-    assert!(rt; holds_for_x(rt.alloc(), Filter::Seq { field, texts })?);
+fn empty_phrases_are_passed_over(rt: HostRuntime) -> Result<(), Fail> {
+    assert!(rt; holds_for_x(rt.alloc(), "v:seq('', '')")?);
     Ok(())
-}
-
-fn holds_for_x(alloc: Global, filter: Filter) -> Result<bool, AllocError> {
-    let row = row_of(alloc, 0, "")?;
-    holds(alloc, filter, 0, &row)
 }
 
 fn next_holds(alloc: Global, scan: &mut Scan, app: &str) -> Result<bool, AllocError> {
@@ -247,10 +252,8 @@ fn scan_goes_on(alloc: Global, prepared: &Prepared) -> Result<bool, AllocError> 
     Ok(with_label && !without)
 }
 
-fn scan_of(alloc: Global, filters: Vec<Filter>) -> Result<bool, AllocError> {
-    let query = Query {
-        filter: Filter::All2(filters),
-    };
+fn scan_of(alloc: Global, text: &str) -> Result<bool, AllocError> {
+    let query = query(alloc, text)?;
     match prepare(alloc, &query) {
         Ok(prepared) => scan_goes_on(alloc, &prepared),
         Err(_) => Err(AllocError),
@@ -259,36 +262,150 @@ fn scan_of(alloc: Global, filters: Vec<Filter>) -> Result<bool, AllocError> {
 
 #[test]
 fn a_scan_tells_its_patterns_apart(rt: HostRuntime) -> Result<(), Fail> {
-    let mut filters = Vec::new(rt.alloc());
-    filters.push(pattern(rt.alloc(), "^x")?)?;
-    filters.push(Filter::Select(selector(rt.alloc(), How::Matches, "a.")?))?;
-    assert!(rt; scan_of(rt.alloc(), filters)?);
+    assert!(rt; scan_of(rt.alloc(), "v:~'^x' {app=~'a.'}")?);
     Ok(())
 }
 
-fn second_is_refused(alloc: Global, second: Filter) -> Result<bool, AllocError> {
-    let mut filters = Vec::new(alloc);
-    filters.push(pattern(alloc, "a")?)?;
-    filters.push(second)?;
-    let query = Query {
-        filter: Filter::Any2(filters),
-    };
+/// The number of the pattern for which the query of a text is refused.
+fn refused_in(alloc: Global, text: &str) -> Result<Option<u32>, AllocError> {
+    let query = query(alloc, text)?;
     match prepare(alloc, &query) {
-        Err(fault) => Ok(fault == PrepareFault::RegexRefused { nth: 1 }),
-        Ok(_) => Ok(false),
+        Ok(_) => Ok(None),
+        Err(PrepareFault::RegexRefused { nth }) => Ok(Some(nth)),
+        Err(PrepareFault::Memory) => Err(AllocError),
     }
 }
 
 #[test]
 fn patterns_count_from_the_left(rt: HostRuntime) -> Result<(), Fail> {
-    let second = pattern(rt.alloc(), "(")?;
-    assert!(rt; second_is_refused(rt.alloc(), second)?);
+    assert!(rt; refused_in(rt.alloc(), "v:~a or v:~'('")? == Some(1));
     Ok(())
 }
 
 #[test]
 fn a_label_has_to_be_readable_alone(rt: HostRuntime) -> Result<(), Fail> {
-    let select = selector(rt.alloc(), How::Matches, "a)(b")?;
-    assert!(rt; second_is_refused(rt.alloc(), Filter::Select(select))?);
+    assert!(rt; refused_in(rt.alloc(), "v:~a or {app=~'a)(b'}")? == Some(1));
+    Ok(())
+}
+
+#[test]
+fn patterns_of_pipes_are_read(rt: HostRuntime) -> Result<(), Fail> {
+    let text = "v:~a | limit 1 | filter v:~b | stats count(), count() if (v:~c)";
+    assert!(rt; refused_in(rt.alloc(), text)? == None);
+    Ok(())
+}
+
+#[test]
+fn a_pattern_of_a_filter_pipe_is_refused(rt: HostRuntime) -> Result<(), Fail> {
+    let text = "v:~a | limit 1 | filter v:~'(' | stats count(), count() if (v:~c)";
+    assert!(rt; refused_in(rt.alloc(), text)? == Some(1));
+    Ok(())
+}
+
+#[test]
+fn a_pattern_of_a_function_is_refused(rt: HostRuntime) -> Result<(), Fail> {
+    let text = "v:~a | limit 1 | filter v:~b | stats count(), count() if (v:~'(')";
+    assert!(rt; refused_in(rt.alloc(), text)? == Some(2));
+    Ok(())
+}
+
+#[test]
+fn the_first_pattern_is_refused_first(rt: HostRuntime) -> Result<(), Fail> {
+    let text = "v:~a | limit 1 | filter v:~'[' | stats count(), count() if (v:~'(')";
+    assert!(rt; refused_in(rt.alloc(), text)? == Some(1));
+    Ok(())
+}
+
+/// A record in which `v` and `_time` have this value.
+fn record_of(alloc: Global, value: &str) -> Result<FieldList, AllocError> {
+    let mut record = FieldList::new(alloc);
+    record.set(alloc, "v", value)?;
+    record.set(alloc, "_time", value)?;
+    Ok(record)
+}
+
+fn record_holds(alloc: Global, filter: &Filter) -> Result<bool, AllocError> {
+    let record = record_of(alloc, "1970-01-01T00:00:00Z")?;
+    match prepare_inner(alloc, filter) {
+        Ok(inner) => inner.holds(alloc, &record),
+        Err(_) => Err(AllocError),
+    }
+}
+
+fn text_holds(alloc: Global, text: &str) -> Result<bool, AllocError> {
+    let query = query(alloc, text)?;
+    record_holds(alloc, &query.filter)
+}
+
+#[test]
+fn a_record_is_of_no_moment(rt: HostRuntime) -> Result<(), Fail> {
+    assert!(rt; !text_holds(rt.alloc(), "_time:1h")?);
+    assert!(rt; !text_holds(rt.alloc(), "_time:1970-01-01")?);
+    Ok(())
+}
+
+#[test]
+fn the_time_of_a_record_is_a_field(rt: HostRuntime) -> Result<(), Fail> {
+    let field = Text::try_of(rt.alloc(), "_time")?;
+    let text = Text::try_of(rt.alloc(), "1970")?;
+    assert!(rt; record_holds(rt.alloc(), &Filter::Phrase { field, text })?);
+    Ok(())
+}
+
+fn next_record_holds(
+    alloc: Global,
+    scan: &mut RecordScan,
+    value: &str,
+) -> Result<bool, AllocError> {
+    let record = record_of(alloc, value)?;
+    scan.holds(&record)
+}
+
+/// Whether, in one scan, `ab` does not hold, `abc` does, and `bc` does not.
+fn records_are_scanned(alloc: Global, inner: &Inner) -> Result<bool, AllocError> {
+    let mut scan = inner.scan(alloc);
+    let first = next_record_holds(alloc, &mut scan, "ab")?;
+    let second = next_record_holds(alloc, &mut scan, "abc")?;
+    let third = next_record_holds(alloc, &mut scan, "bc")?;
+    Ok(!first && second && !third)
+}
+
+fn scan_of_records(alloc: Global, text: &str) -> Result<bool, AllocError> {
+    let query = query(alloc, text)?;
+    match prepare_inner(alloc, &query.filter) {
+        Ok(inner) => records_are_scanned(alloc, &inner),
+        Err(_) => Err(AllocError),
+    }
+}
+
+#[test]
+fn a_scan_of_records_tells_its_patterns_apart(rt: HostRuntime) -> Result<(), Fail> {
+    assert!(rt; scan_of_records(rt.alloc(), "v:~'^a' v:~'c$'")?);
+    Ok(())
+}
+
+#[test]
+fn patterns_of_a_filter_of_records_count_from_0(rt: HostRuntime) -> Result<(), Fail> {
+    let query = query(rt.alloc(), "v:~a or v:~'('")?;
+    let fault = prepare_inner(rt.alloc(), &query.filter).err();
+    assert!(rt; fault == Some(PrepareFault::RegexRefused { nth: 1 }));
+    Ok(())
+}
+
+/// The number for which the filter of a text is refused among others, or the next number.
+fn number_behind(alloc: Global, text: &str, nth: u32) -> Result<u32, AllocError> {
+    let query = query(alloc, text)?;
+    let mut next = nth;
+    match prepare_inner_from(alloc, &query.filter, &mut next) {
+        Ok(_) => Ok(next),
+        Err(PrepareFault::RegexRefused { nth }) => Ok(nth),
+        Err(PrepareFault::Memory) => Err(AllocError),
+    }
+}
+
+#[test]
+fn patterns_of_filters_of_records_count_on(rt: HostRuntime) -> Result<(), Fail> {
+    assert!(rt; number_behind(rt.alloc(), "v:~a v:~b", 3)? == 5);
+    assert!(rt; number_behind(rt.alloc(), "v:~a v:~'('", 3)? == 4);
     Ok(())
 }

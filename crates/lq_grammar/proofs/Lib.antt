@@ -1,8 +1,9 @@
 pub mod Numbers
 pub mod Codes
+pub mod Keywords
 pub mod Listing
 pub mod Passing
 pub mod Answered
-pub mod Bars
 pub mod Moments
+pub mod Order
 pub mod Outcomes

@@ -1,9 +1,11 @@
 -- What the functions answer, in the words of the grammar's reader.
-use Rattle.std.specs.Prelude.{◌≡◌, ℕ, true, false, List, ◌∷◌, Result, Ok, Err, Option, Some, None}
+use Rattle.std.specs.Prelude.{◌≡◌, ℕ, true, false, ◌&&◌, List, [], ◌∷◌, drop, Result, Ok, Err, Option, Some, None}
 use denote.Ref.{Bor}
 use Rattle.grammar.specs.Rule.{Token, Class, has, next}
 use Rattle.grammar.specs.Spelling.{too_deep, refused}
 use Rattle.grammar.specs.Reading.{Stop, stuck, flawed, Answer, reads, read_at, items_at}
+use Rattle.lq_grammar.specs.declared.role.Role.TheVariants.{Colon}
+use Rattle.lq_grammar.specs.Roles.{any}
 use Rattle.lq_grammar.specs.Values.{Bytes, Reason, Filtering, bad_number, bad_time, bad_duration}
 use Rattle.lq_grammar.specs.LogsQL.{Parse, Name, heads, rules, logsql}
 use Rattle.lq_grammar.specs.declared.fault.Stop.{Stop as Halt}
@@ -48,6 +50,13 @@ Takes class u (Some rest) = (t : Token Bytes) × (u ≡ t ∷ rest.now) × (has 
 abbrev pub TakesText : Class → List (Token Bytes) → Option (Bor Bytes × Bor (List (Token Bytes))) → Type 0
 TakesText class u None = next class u ≡ false
 TakesText class u (Some x) = (t : Token Bytes) × (u ≡ t ∷ x.1.now) × (has class t ≡ true) × (x.0.now ≡ t.content)
+
+-- the text of that token, where a colon stands behind it, and what follows the colon
+abbrev pub TakesName : Class → List (Token Bytes) → Option (Bor Bytes × Bor (List (Token Bytes))) → Type 0
+TakesName class u None = (next class u && next (any (Colon ∷ [])) (drop 1 u)) ≡ false
+TakesName class u (Some x) =
+    (t : Token Bytes) × (c : Token Bytes) × (u ≡ t ∷ c ∷ x.1.now) × (has class t ≡ true)
+    × (has (any (Colon ∷ [])) c ≡ true) × (x.0.now ≡ t.content)
 
 -- what becomes of a fault of a text's tokens
 abbrev pub lex_fault : LexFault → QueryFault

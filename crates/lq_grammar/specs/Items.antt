@@ -1,40 +1,56 @@
 -- What each token of a text is to the grammar.
-use Rattle.std.specs.Prelude.{ℕ, ◌+◌, ◌==◌, Bool, bytes_eq, codes, if◌then◌else◌}
+use Rattle.std.specs.Prelude.{ℕ, ◌+◌, ◌==◌, List, [], ◌∷◌, bytes_eq, codes, if◌then◌else◌}
 use Rattle.std.specs.Str.{str_to_ascii_lowercase}
+use denote.Ref.{Bor}
 use Rattle.grammar.specs.Rule.{Token}
 use Rattle.lq_lex.specs.Token.{Token as Piece}
 use Rattle.lq_lex.specs.Texts.{text_of}
 use Rattle.lq_lex.specs.declared.token.Kind.{Kind}
 use Rattle.lq_lex.specs.declared.token.Kind.TheVariants.{Bare as BareKind, Quoted as QuotedKind, Mark}
 use Rattle.lq_grammar.specs.declared.role.Role.{Role}
-use Rattle.lq_grammar.specs.declared.role.Role.TheVariants.{And, Or, Not, In, I, Seq, LenRange, StringRange, Range}
-use Rattle.lq_grammar.specs.declared.role.Role.TheVariants.{Time, Stream, Bare, QuotedTime, Quoted, Bar, Open, Close}
-use Rattle.lq_grammar.specs.declared.role.Role.TheVariants.{SquareOpen, SquareClose, CurlyOpen, CurlyClose, Comma}
-use Rattle.lq_grammar.specs.declared.role.Role.TheVariants.{Colon, Equals, Bang, Tilde, Star, Less, Greater, Minus}
-use Rattle.lq_grammar.specs.declared.role.Role.TheVariants.{Plus}
+use Rattle.lq_grammar.specs.declared.role.Role.TheVariants.{And, Or, Not, Asc, Desc, As, If, Fields, Delete, Rename}
+use Rattle.lq_grammar.specs.declared.role.Role.TheVariants.{Copy, Limit, Head, Offset, Skip, Sort, Uniq, Stats}
+use Rattle.lq_grammar.specs.declared.role.Role.TheVariants.{Filter, Top, By, With, Hits, Count, CountEmpty, CountUniq}
+use Rattle.lq_grammar.specs.declared.role.Role.TheVariants.{Sum, Min, Max, UniqValues, Bare, In, I, Seq, LenRange}
+use Rattle.lq_grammar.specs.declared.role.Role.TheVariants.{StringRange, Range, Time, Stream, QuotedTime, Quoted, Bar}
+use Rattle.lq_grammar.specs.declared.role.Role.TheVariants.{Open, Close, SquareOpen, SquareClose, CurlyOpen}
+use Rattle.lq_grammar.specs.declared.role.Role.TheVariants.{CurlyClose, Comma, Colon, Equals, Bang, Tilde, Star, Less}
+use Rattle.lq_grammar.specs.declared.role.Role.TheVariants.{Greater, Minus, Plus}
 use Rattle.lq_grammar.specs.Roles.{number, apart_by}
 use Rattle.lq_grammar.specs.Values.{Bytes}
 
--- the text in any case of its ASCII letters
-abbrev pub is_keyword : Bytes → Bytes → Bool
-is_keyword span keyword = bytes_eq (str_to_ascii_lowercase span) keyword
+-- words in lower case, and what each is
+abbrev pub keywords : List (Bytes × Role)
+keywords =
+    (codes "and", And) ∷ (codes "or", Or) ∷ (codes "not", Not) ∷ (codes "in", In) ∷ (codes "i", I) ∷
+    (codes "seq", Seq) ∷ (codes "len_range", LenRange) ∷ (codes "string_range", StringRange) ∷
+    (codes "range", Range) ∷ (codes "fields", Fields) ∷ (codes "keep", Fields) ∷ (codes "delete", Delete) ∷
+    (codes "del", Delete) ∷ (codes "rm", Delete) ∷ (codes "drop", Delete) ∷ (codes "rename", Rename) ∷
+    (codes "mv", Rename) ∷ (codes "copy", Copy) ∷ (codes "cp", Copy) ∷ (codes "limit", Limit) ∷
+    (codes "head", Head) ∷ (codes "offset", Offset) ∷ (codes "skip", Skip) ∷ (codes "sort", Sort) ∷
+    (codes "order", Sort) ∷ (codes "uniq", Uniq) ∷ (codes "stats", Stats) ∷ (codes "filter", Filter) ∷
+    (codes "where", Filter) ∷ (codes "top", Top) ∷ (codes "by", By) ∷ (codes "asc", Asc) ∷ (codes "desc", Desc) ∷
+    (codes "as", As) ∷ (codes "with", With) ∷ (codes "hits", Hits) ∷ (codes "if", If) ∷ (codes "count", Count) ∷
+    (codes "count_empty", CountEmpty) ∷ (codes "count_uniq", CountUniq) ∷ (codes "sum", Sum) ∷ (codes "min", Min) ∷
+    (codes "max", Max) ∷ (codes "uniq_values", UniqValues) ∷ []
 
-abbrev pub call_role : Bytes → Role
-call_role span =
-    if is_keyword span (codes "in") then In
-    else (if is_keyword span (codes "i") then I
-    else (if is_keyword span (codes "seq") then Seq
-    else (if is_keyword span (codes "len_range") then LenRange
-    else (if is_keyword span (codes "string_range") then StringRange
-    else (if is_keyword span (codes "range") then Range else Bare)))))
+-- an entry with its word in lower case
+abbrev pub entry_of : Bor Bytes × Role → Bytes × Role
+entry_of entry = (str_to_ascii_lowercase entry.0.now, entry.1)
+
+-- what is said of a word in a list, of which the first entry counts
+abbrev pub role_in : List (Bytes × Role) → Bytes → Role
+role_in [] word = Bare
+role_in (entry ∷ entries) word = if bytes_eq word entry.0 then entry.1 else role_in entries word
+
+-- in any case of its ASCII letters
+abbrev pub keyword_role : Bytes → Role
+keyword_role span = role_in keywords (str_to_ascii_lowercase span)
 
 abbrev pub word_role : Bytes → Role
 word_role span =
     if bytes_eq span (codes "_time") then Time
-    else (if bytes_eq span (codes "_stream") then Stream
-    else (if is_keyword span (codes "and") then And
-    else (if is_keyword span (codes "or") then Or
-    else (if is_keyword span (codes "not") then Not else call_role span))))
+    else (if bytes_eq span (codes "_stream") then Stream else keyword_role span)
 
 abbrev pub quoted_role : Bytes → Role
 quoted_role text = if bytes_eq text (codes "_time") then QuotedTime else Quoted

@@ -1,6 +1,7 @@
 pub mod Roles
 pub mod Values
 pub mod Moments
+pub mod Stages
 pub mod LogsQL
 pub mod Items
 pub mod Query

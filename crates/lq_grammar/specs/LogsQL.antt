@@ -1,31 +1,45 @@
--- The grammar of LogsQL's filters ("Query syntax"), a rule for each line of its EBNF, which stands above the rule.
+-- The grammar of LogsQL ("Query syntax"), a rule for each line of its EBNF, which stands above the rule.
 -- Words in capitals are Bare tokens in any case of their letters, and `^` says that a token is glued to the one before
 -- it.
-use Rattle.std.specs.Prelude.{ℕ, Bool, true, false, List, [], ◌∷◌, ◌++◌, flat_map, ℤ, None}
+use Rattle.std.specs.Prelude.{ℕ, Bool, true, false, List, [], ◌∷◌, ◌++◌, flat_map, ℤ, Option, Some, None}
 use Rattle.grammar.specs.Rule.{Class, Rule, empty, one, unless, both, either, many, checked, deeper, Grammar}
+use Rattle.lq_ast.specs.declared.pipe.Call.{Call}
+use Rattle.lq_ast.specs.declared.pipe.Call.TheVariants as is_call
 use Rattle.lq_ast.specs.declared.select.How.{How}
 use Rattle.lq_ast.specs.declared.select.How.TheVariants.{Is, IsNot, Matches, MatchesNot}
 use Rattle.lq_ast.specs.Condition.{Condition, Test, Tests}
-use Rattle.lq_grammar.specs.declared.role.Role.TheVariants.{And, Or, In, I, Seq, LenRange, StringRange, Range, Time}
-use Rattle.lq_grammar.specs.declared.role.Role.TheVariants.{Stream, Bare, QuotedTime, Quoted, Open, Close, SquareOpen}
-use Rattle.lq_grammar.specs.declared.role.Role.TheVariants.{SquareClose, CurlyOpen, CurlyClose, Comma, Colon, Equals}
-use Rattle.lq_grammar.specs.declared.role.Role.TheVariants.{Bang, Tilde, Star, Less, Greater, Minus}
+use Rattle.lq_ast.specs.Question.{Question}
+use Rattle.lq_ast.specs.Stage.{GroupBy, NamePair, SortBy, Stage, Statistic}
+use Rattle.lq_ast.specs.Stage as is
+use Rattle.lq_grammar.specs.declared.scope.Scope.{Scope}
+use Rattle.lq_grammar.specs.declared.scope.Scope.TheVariants.{Rows, Records}
 use Rattle.lq_grammar.specs.declared.role.Role.{Role}
-use Rattle.lq_grammar.specs.Roles.{glued, any, bares, quoted, words, negations, run_parts}
-use Rattle.lq_grammar.specs.Values.{Bytes, Reason, Filtering, End, field_named, named, everything, phrased, prefixed}
-use Rattle.lq_grammar.specs.Values.{exactly, exactly_prefixed, matching, one_of_texts, in_any_case, in_sequence}
-use Rattle.lq_grammar.specs.Values.{of_length, text_between, denied, on_streams, all_hold, any_holds, number_value}
-use Rattle.lq_grammar.specs.Values.{size_value, high_size_value, end_value, in_range}
+use Rattle.lq_grammar.specs.declared.role.Role.TheVariants.{And, Or, Not, Asc, Desc, As, If, Fields, Delete, Rename}
+use Rattle.lq_grammar.specs.declared.role.Role.TheVariants.{Copy, Limit, Head, Offset, Skip, Sort, Uniq, Stats}
+use Rattle.lq_grammar.specs.declared.role.Role.TheVariants.{Filter, Top, By, With, Hits, Count, CountEmpty, CountUniq}
+use Rattle.lq_grammar.specs.declared.role.Role.TheVariants.{Sum, Min, Max, UniqValues, Bare, In, I, Seq, LenRange}
+use Rattle.lq_grammar.specs.declared.role.Role.TheVariants.{StringRange, Range, Time, Stream, QuotedTime, Quoted, Bar}
+use Rattle.lq_grammar.specs.declared.role.Role.TheVariants.{Open, Close, SquareOpen, SquareClose, CurlyOpen}
+use Rattle.lq_grammar.specs.declared.role.Role.TheVariants.{CurlyClose, Comma, Colon, Equals, Bang, Tilde, Star, Less}
+use Rattle.lq_grammar.specs.declared.role.Role.TheVariants.{Greater, Minus, Plus}
+use Rattle.lq_grammar.specs.Roles.{glued, any, bares, quoted, words, texts as text_roles, plain_words, negations}
+use Rattle.lq_grammar.specs.Roles.{run_parts, list_names, value_names, key_names, other_bares}
+use Rattle.lq_grammar.specs.Values.{Bytes, Reason, Filtering, End as RangeEnd, field_named, named, everything, phrased}
+use Rattle.lq_grammar.specs.Values.{prefixed, exactly, exactly_prefixed, matching, one_of_texts, in_any_case}
+use Rattle.lq_grammar.specs.Values.{in_sequence, of_length, text_between, denied, on_streams, all_hold, any_holds}
+use Rattle.lq_grammar.specs.Values.{number_value, size_value, high_size_value, end_value, in_range}
 use Rattle.lq_grammar.specs.Values.{above, at_least, below, at_most}
 use Rattle.lq_grammar.specs.Moments.{run_value, bound_value, in_interval}
+use Rattle.lq_grammar.specs.Stages.{Calling, Cut, asked, by_value, distinct, grouped, ranked, sorted, statistic_of}
+use Rattle.lq_grammar.specs.Stages.{step_value}
 
 -- ---- words for rules
 
 -- the rules that lead back to themselves: parentheses, and negations of a unary and of an inner filter
 pub data Name : Type 0 where
-  group : Name
-  negation : Name
-  inner_negation : Name
+  group : Scope → Name
+  negation : Scope → Name
+  inner_negation : Scope → Name
 
 abbrev pub Parse : Type 0 → Type 1
 Parse A = Rule Bytes Reason Name Filtering A
@@ -55,6 +69,10 @@ ended {A} {B} rule end = both (λ (x : A) (f : A → B). f x) rule end
 -- what a rule's value is made into
 abbrev pub made : {A B : Type 0} → (A → B) → Parse A → Parse B
 made {A} {B} f rule = both (λ (x : A) (_ : Unit {0}). f x) rule (empty tt)
+
+-- "(" .. ")"
+abbrev pub enclosed : {A : Type 0} → Parse A → Parse A
+enclosed rule = behind (any (Open ∷ [])) (closed rule (any (Close ∷ [])))
 
 -- a rule, and others of it behind a token
 abbrev pub others : {A : Type 0} → Role → Parse A → Parse (List A)
@@ -86,7 +104,7 @@ unfoldable pub num : Parse ℤ
 num = checked number_value arg
 
 -- an end of RANGE: a num, or inf or -inf
-unfoldable pub end : Parse End
+unfoldable pub end : Parse RangeEnd
 end = checked end_value arg
 
 -- size = arg
@@ -136,7 +154,7 @@ unfoldable pub closing : Parse Bool
 closing = one (any (SquareClose ∷ [])) (λ _. true) ||| one (any (Close ∷ [])) (λ _. false)
 
 -- num (")" or "]")
-unfoldable pub last_end : Parse (End × Bool)
+unfoldable pub last_end : Parse (RangeEnd × Bool)
 last_end = both (λ high included. (high, included)) end closing
 
 -- num "," num (")" or "]")      The value is made of whether the first end is included.
@@ -160,7 +178,7 @@ exact =
 
 -- "~" text                      text = Bare | Quoted
 unfoldable pub regex : Parse Filtering
-regex = behind (any (Tilde ∷ [])) (made matching (text (any (bares ++ quoted))))
+regex = behind (any (Tilde ∷ [])) (made matching (text (any text_roles)))
 
 -- ">" [^"="] num
 unfoldable pub greater : Parse Filtering
@@ -174,30 +192,43 @@ less = behind (any (Less ∷ [])) (both (λ _ number. at_most number) (mark (glu
 
 -- "*", with no glued word behind it
 unfoldable pub star : Parse Filtering
-star = behind (any (Star ∷ [])) (unless (glued (bares ++ quoted)) everything)
+star = behind (any (Star ∷ [])) (unless (glued text_roles) everything)
 
 unfoldable pub mark_leaf : Parse Filtering
 mark_leaf = exact ||| regex ||| greater ||| less ||| star
 
-unfoldable pub word_leaf : Parse Filtering
-word_leaf =
-    ended (text (any (Bare ∷ Time ∷ Stream ∷ []))) bare_end ||| ended (text (any quoted)) quoted_end ||| mark_leaf
+-- A word, and what its end makes of it. A function says what else may stand behind the word.
+abbrev pub End : Type 1
+End = Parse (Bytes → Filtering) → Parse (Bytes → Filtering)
 
-unfoldable pub range_leaf : Parse Filtering
-range_leaf =
-    ended (text (any (LenRange ∷ []))) len_range_end
-    ||| ended (text (any (StringRange ∷ []))) string_range_end
-    ||| ended (text (any (Range ∷ []))) range_end
-    ||| word_leaf
+unfoldable pub word_led : End → Parse Filtering
+word_led end =
+    ended (text (any plain_words)) (end bare_end) ||| ended (text (any (Quoted ∷ []))) (end quoted_end) ||| mark_leaf
+
+unfoldable pub range_led : End → Parse Filtering
+range_led end =
+    ended (text (any (LenRange ∷ []))) (end len_range_end)
+    ||| ended (text (any (StringRange ∷ []))) (end string_range_end)
+    ||| ended (text (any (Range ∷ []))) (end range_end)
+    ||| word_led end
+
+unfoldable pub led : End → Parse Filtering
+led end =
+    ended (text (any (In ∷ []))) (end in_end)
+    ||| ended (text (any (I ∷ []))) (end i_end)
+    ||| ended (text (any (Seq ∷ []))) (end seq_end)
+    ||| range_led end
+
+abbrev pub alone : End
+alone end = end
 
 -- leaf = "*" | word [^"*"] | "=" arg [^"*"] | "~" text | IN .. | I .. | SEQ .. | LEN_RANGE .. | STRING_RANGE ..
 --      | RANGE .. | ">" [^"="] num | "<" [^"="] num
 unfoldable pub leaf : Parse Filtering
 leaf =
-    ended (text (any (In ∷ []))) in_end
-    ||| ended (text (any (I ∷ []))) i_end
-    ||| ended (text (any (Seq ∷ []))) seq_end
-    ||| range_leaf
+    ended (text (any (Time ∷ Stream ∷ []))) bare_end
+    ||| ended (text (any (QuotedTime ∷ []))) quoted_end
+    ||| led alone
 
 -- ---- streams and times
 
@@ -265,88 +296,315 @@ time =
 -- ---- filters
 
 -- inner = neg inner | "(" or ")" | leaf
-unfoldable pub inner : Parse Filtering
-inner = deeper inner_negation denied ||| deeper group (λ filter. filter) ||| leaf
+unfoldable pub inner : Scope → Parse Filtering
+inner scope = deeper (inner_negation scope) denied ||| deeper (group scope) (λ filter. filter) ||| leaf
 
 -- ":" inner, or what else may stand behind a word
-abbrev pub colon : Parse (Bytes → Filtering) → Parse (Bytes → Filtering)
-colon end = both (λ _ filter name. named name filter) (mark (any (Colon ∷ []))) inner ||| end
+abbrev pub colon : Scope → End
+colon scope end = both (λ _ filter name. named name filter) (mark (any (Colon ∷ []))) (inner scope) ||| end
 
 abbrev pub always_so : Condition → Bytes → Filtering
 always_so condition word field = condition
 
 -- "_time" ":" time
-unfoldable pub time_end : Parse (Bytes → Filtering) → Parse (Bytes → Filtering)
+unfoldable pub time_end : End
 time_end end = both (λ _ condition. always_so condition) (mark (any (Colon ∷ []))) time ||| end
 
 -- selector, or an inner filter of the field
 unfoldable pub stream_value : Parse (Bytes → Filtering)
-stream_value = made (λ filter word. filter) selector ||| made (λ filter name. named name filter) inner
+stream_value = made (λ filter word. filter) selector ||| made (λ filter name. named name filter) (inner Rows)
 
 -- "_stream" ":" selector
 unfoldable pub stream_end : Parse (Bytes → Filtering)
 stream_end = both (λ _ filter. filter) (mark (any (Colon ∷ []))) stream_value ||| bare_end
 
-unfoldable pub word_unit : Parse Filtering
-word_unit =
-    ended (text (any (Bare ∷ []))) (colon bare_end) ||| ended (text (any (Quoted ∷ []))) (colon quoted_end)
-    ||| mark_leaf
+-- name ":" inner | leaf, but for the names `_time` and `_stream`
+unfoldable pub word_unit : Scope → Parse Filtering
+word_unit scope = led (colon scope)
 
-unfoldable pub range_unit : Parse Filtering
-range_unit =
-    ended (text (any (LenRange ∷ []))) (colon len_range_end)
-    ||| ended (text (any (StringRange ∷ []))) (colon string_range_end)
-    ||| ended (text (any (Range ∷ []))) (colon range_end)
-    ||| word_unit
-
-unfoldable pub call_unit : Parse Filtering
-call_unit =
-    ended (text (any (In ∷ []))) (colon in_end)
-    ||| ended (text (any (I ∷ []))) (colon i_end)
-    ||| ended (text (any (Seq ∷ []))) (colon seq_end)
-    ||| range_unit
-
--- unit = "(" or ")" | selector | "_time" ":" time | "_stream" ":" selector | name ":" inner | leaf
-unfoldable pub unit : Parse Filtering
-unit =
-    deeper group (λ filter. filter)
-    ||| selector
+-- selector | "_time" ":" time | "_stream" ":" selector | name ":" inner | leaf
+unfoldable pub row_unit : Parse Filtering
+row_unit =
+    selector
     ||| ended (text (any (Time ∷ []))) (time_end bare_end)
     ||| ended (text (any (QuotedTime ∷ []))) (time_end quoted_end)
     ||| ended (text (any (Stream ∷ []))) stream_end
-    ||| call_unit
+    ||| word_unit Rows
+
+-- name ":" inner | leaf
+-- In the `or` of FILTER, WHERE and IF neither selector nor `time` may stand, and `_time` is no name.
+unfoldable pub record_unit : Parse Filtering
+record_unit =
+    ended (text (any (Time ∷ []))) bare_end
+    ||| ended (text (any (QuotedTime ∷ []))) quoted_end
+    ||| ended (text (any (Stream ∷ []))) (colon Records bare_end)
+    ||| word_unit Records
+
+abbrev pub other_unit : Scope → Parse Filtering
+other_unit Rows = row_unit
+other_unit Records = record_unit
+
+-- unit = "(" or ")" | selector | "_time" ":" time | "_stream" ":" selector | name ":" inner | leaf
+unfoldable pub unit : Scope → Parse Filtering
+unit scope = deeper (group scope) (λ filter. filter) ||| other_unit scope
 
 -- unary = neg unary | unit      neg = NOT | "!" | "-"
-unfoldable pub unary : Parse Filtering
-unary = deeper negation denied ||| unit
+unfoldable pub unary : Scope → Parse Filtering
+unary scope = deeper (negation scope) denied ||| unit scope
 
 -- [AND] unary
-unfoldable pub next_unary : Parse Filtering
-next_unary = behind (any (And ∷ [])) unary ||| unary
+unfoldable pub next_unary : Scope → Parse Filtering
+next_unary scope = behind (any (And ∷ [])) (unary scope) ||| unary scope
 
 -- and = unary { [AND] unary }
-unfoldable pub and : Parse Filtering
-and = both all_hold unary (many (λ filters. filters) next_unary)
+unfoldable pub and : Scope → Parse Filtering
+and scope = both all_hold (unary scope) (many (λ filters. filters) (next_unary scope))
 
 -- or = and { OR and }
-unfoldable pub or : Parse Filtering
-or = both any_holds and (others Or and)
+unfoldable pub or : Scope → Parse Filtering
+or scope = both any_holds (and scope) (others Or (and scope))
 
--- query = or
-unfoldable pub query : Parse Condition
-query = made (λ filter. filter None) or
+-- ---- names and numbers of pipes
+
+-- names = name {"," name}
+unfoldable pub names : Parse (List Bytes)
+names = listed Comma name
+
+-- "(" names ")"
+unfoldable pub name_list : Parse (List Bytes)
+name_list = enclosed names
+
+-- A name in a list in which a Bare `asc`, `desc` and `as` are keywords.
+abbrev pub list_name : Parse Bytes
+list_name = one (any list_names) (λ t. field_named t.content)
+
+-- [AS] name
+unfoldable pub new_name : Parse Bytes
+new_name = behind (any (As ∷ [])) list_name ||| list_name
+
+-- name [AS] name
+unfoldable pub pair : Parse NamePair
+pair = both (λ from to. (from, to)) list_name new_name
+
+-- pairs = name [AS] name {"," name [AS] name}
+unfoldable pub pairs : Parse (List NamePair)
+pairs = listed Comma pair
+
+-- [BY], and then a rule
+abbrev pub by : {A : Type 0} → Parse A → Parse A
+by rule = behind (any (By ∷ [])) rule ||| rule
+
+-- N = Bare
+unfoldable pub count : Parse ℕ
+count = checked size_value (text (any bares))
+
+-- [LIMIT N]
+unfoldable pub limit : Parse (Option ℕ)
+limit = behind (any (Limit ∷ [])) (made Some count) ||| empty None
+
+-- ---- SORT
+
+-- [ASC|DESC]                    The value says whether it is DESC.
+unfoldable pub direction : Parse Bool
+direction = one (any (Desc ∷ [])) (λ _. true) ||| one (any (Asc ∷ [])) (λ _. false) ||| empty false
+
+-- skey = name [ASC|DESC]
+unfoldable pub sort_key : Parse SortBy
+sort_key = both (λ name descending. (name, descending)) list_name direction
+
+-- skey {"," skey}
+unfoldable pub sort_keys : Parse (List SortBy)
+sort_keys = listed Comma sort_key
+
+-- [OFFSET N]
+unfoldable pub offset : Parse ℕ
+offset = behind (any (Offset ∷ [])) count ||| empty 0
+
+-- {LIMIT N | OFFSET N}, each at most once
+unfoldable pub cut : Parse Cut
+cut =
+    behind (any (Limit ∷ [])) (both (λ limit offset. (Some limit, offset)) count offset)
+    ||| behind (any (Offset ∷ [])) (both (λ offset limit. (limit, offset)) count limit)
+    ||| empty (None, 0)
+
+-- [ASC|DESC] {LIMIT N | OFFSET N}
+unfoldable pub sort_end : Parse (List SortBy → Stage)
+sort_end = both (λ descending cut keys. sorted keys descending cut) direction cut
+
+-- "(" skey {"," skey} ")" [ASC|DESC] {LIMIT N | OFFSET N}
+unfoldable pub sort_rest : Parse Stage
+sort_rest = ended (enclosed sort_keys) sort_end
+
+-- [BY] "(" skey {"," skey} ")" [ASC|DESC] {LIMIT N | OFFSET N}
+unfoldable pub sort_pipe : Parse Stage
+sort_pipe = by sort_rest
+
+-- ---- UNIQ and TOP
+
+-- [WITH HITS]
+unfoldable pub hits : Parse Bool
+hits = behind (any (With ∷ [])) (one (any (Hits ∷ [])) (λ _. true)) ||| empty false
+
+-- [WITH HITS] [LIMIT N]
+unfoldable pub uniq_end : Parse (List Bytes → Stage)
+uniq_end = both (λ hits limit names. distinct names hits limit) hits limit
+
+-- "(" names ")" [WITH HITS] [LIMIT N]
+unfoldable pub uniq_rest : Parse Stage
+uniq_rest = ended name_list uniq_end
+
+-- [BY] "(" names ")" [WITH HITS] [LIMIT N]
+unfoldable pub uniq_pipe : Parse Stage
+uniq_pipe = by uniq_rest
+
+-- [BY], behind N
+unfoldable pub most_end : Parse Bool
+most_end = one (any (By ∷ [])) (λ _. true) ||| unless (any (By ∷ [])) false
+
+-- BY, or another one behind it: then the first is an N, which is no number.
+unfoldable pub by_most : Parse ℕ
+by_most = checked by_value (both (λ word again. (word, again)) (text (any (By ∷ []))) most_end)
+
+-- N [BY]
+unfoldable pub word_most : Parse ℕ
+word_most = checked size_value (both (λ word by. word) (text (any other_bares)) most_end)
+
+-- [N] [BY]
+unfoldable pub most : Parse ℕ
+most = by_most ||| word_most ||| empty 10
+
+-- [N] [BY] "(" names ")"
+unfoldable pub top_pipe : Parse Stage
+top_pipe = both ranked most name_list
+
+-- ---- STATS
+
+-- A key's Bare.
+unfoldable pub step : Parse ℤ
+step = checked step_value (text (any bares))
+
+-- [":" Bare]
+unfoldable pub step_end : Parse (Option ℤ)
+step_end = behind (any (Colon ∷ [])) (made Some step) ||| empty None
+
+-- key = name | "_time" ":" Bare
+unfoldable pub key : Parse GroupBy
+key =
+    both (λ name step. (name, step)) (text (any (Time ∷ []))) step_end
+    ||| one (any key_names) (λ t. (field_named t.content, None))
+
+-- key {"," key}
+unfoldable pub keys : Parse (List GroupBy)
+keys = listed Comma key
+
+-- "(" key {"," key} ")"
+unfoldable pub key_list : Parse (List GroupBy)
+key_list = enclosed keys
+
+-- [[BY] "(" key {"," key} ")"]
+unfoldable pub groups_by : Parse (List GroupBy)
+groups_by = behind (any (By ∷ [])) key_list ||| key_list ||| empty []
+
+-- COUNT "(" ["*" | names] ")"
+unfoldable pub counted : Parse (List Bytes)
+counted = one (any (Star ∷ [])) (λ _. []) ||| names ||| empty []
+
+-- SUM | MIN | MAX | UNIQ_VALUES
+unfoldable pub name_call : Parse Call
+name_call =
+    one (any (Sum ∷ [])) (λ _. is_call.Sum)
+    ||| one (any (Min ∷ [])) (λ _. is_call.Min)
+    ||| one (any (Max ∷ [])) (λ _. is_call.Max)
+    ||| one (any (UniqValues ∷ [])) (λ _. is_call.UniqValues)
+
+-- (SUM | MIN | MAX | UNIQ_VALUES) "(" name ")"
+unfoldable pub call_of_one : Parse Calling
+call_of_one = both (λ call name. (call, name ∷ [])) name_call (enclosed name)
+
+-- call = COUNT "(" ["*" | names] ")" | COUNT_EMPTY "(" names ")" | COUNT_UNIQ "(" names ")" | SUM "(" name ")"
+--      | MIN "(" name ")" | MAX "(" name ")" | UNIQ_VALUES "(" name ")"
+unfoldable pub call : Parse Calling
+call =
+    behind (any (Count ∷ [])) (made (λ names. (is_call.Count, names)) (enclosed counted))
+    ||| behind (any (CountEmpty ∷ [])) (made (λ names. (is_call.CountEmpty, names)) name_list)
+    ||| behind (any (CountUniq ∷ [])) (made (λ names. (is_call.CountUniq, names)) name_list)
+    ||| call_of_one
+
+-- [[AS] name], where a name behind nothing is of these roles
+unfoldable pub naming : List Role → Parse (Option Bytes)
+naming roles =
+    behind (any (As ∷ [])) (made Some list_name) ||| one (any roles) (λ t. Some (field_named t.content)) ||| empty None
+
+-- "(" or ")" [[AS] name], behind IF, or the word as a name
+unfoldable pub if_end : Parse (Bytes → Option Condition × Option Bytes)
+if_end =
+    both (λ filter name word. (Some (filter None), name)) (deeper (group Records) (λ filter. filter))
+    (naming list_names)
+    ||| empty (λ word. (None, Some word))
+
+-- [IF "(" or ")"] [[AS] name]
+unfoldable pub func_end : Parse (Option Condition × Option Bytes)
+func_end = ended (text (any (If ∷ []))) if_end ||| made (λ name. (None, name)) (naming value_names)
+
+-- func = call [IF "(" or ")"] [[AS] name]
+unfoldable pub func : Parse Statistic
+func = both statistic_of call func_end
+
+-- func {"," func}
+unfoldable pub funcs : Parse (List Statistic)
+funcs = listed Comma func
+
+-- [[BY] "(" key {"," key} ")"] func {"," func}
+unfoldable pub stats_pipe : Parse Stage
+stats_pipe = both grouped groups_by funcs
+
+-- ---- pipes
+
+-- (SORT|ORDER) .. | UNIQ .. | STATS .. | TOP ..
+unfoldable pub group_pipe : Parse Stage
+group_pipe =
+    behind (any (Sort ∷ [])) sort_pipe
+    ||| behind (any (Uniq ∷ [])) uniq_pipe
+    ||| behind (any (Stats ∷ [])) stats_pipe
+    ||| behind (any (Top ∷ [])) top_pipe
+
+-- (LIMIT|HEAD) N | (OFFSET|SKIP) N | (FILTER|WHERE) or
+unfoldable pub record_pipe : Parse Stage
+record_pipe =
+    behind (any (Limit ∷ Head ∷ [])) (made is.limit count)
+    ||| behind (any (Offset ∷ Skip ∷ [])) (made is.offset count)
+    ||| behind (any (Filter ∷ [])) (made (λ filter. is.keep (filter None)) (or Records))
+    ||| group_pipe
+
+-- pipe = (FIELDS|KEEP) names | (DELETE|DEL|RM|DROP) names | (RENAME|MV) pairs | (COPY|CP) pairs | (LIMIT|HEAD) N
+--      | (OFFSET|SKIP) N | (SORT|ORDER) .. | UNIQ .. | STATS .. | (FILTER|WHERE) or | TOP ..
+unfoldable pub pipe : Parse Stage
+pipe =
+    behind (any (Fields ∷ [])) (made is.fields names)
+    ||| behind (any (Delete ∷ [])) (made is.delete names)
+    ||| behind (any (Rename ∷ [])) (made is.rename pairs)
+    ||| behind (any (Copy ∷ [])) (made is.copy pairs)
+    ||| record_pipe
+
+-- { "|" pipe }
+unfoldable pub pipes : Parse (List Stage)
+pipes = others Bar pipe
+
+-- query = or { "|" pipe }
+unfoldable pub query : Parse Question
+query = both asked (or Rows) pipes
 
 -- ---- the grammar
 
 abbrev pub heads : Name → Class
-heads group = any (Open ∷ [])
-heads negation = any negations
-heads inner_negation = any negations
+heads (group scope) = any (Open ∷ [])
+heads (negation scope) = any negations
+heads (inner_negation scope) = any negations
 
 abbrev pub rules : Name → Parse Filtering
-rules group = closed or (any (Close ∷ []))
-rules negation = unary
-rules inner_negation = inner
+rules (group scope) = closed (or scope) (any (Close ∷ []))
+rules (negation scope) = unary scope
+rules (inner_negation scope) = inner scope
 
 abbrev pub logsql : Grammar Bytes Reason Name Filtering
 logsql = record { heads = heads; rules = rules }

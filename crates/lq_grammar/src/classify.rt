@@ -1,7 +1,8 @@
 // What tokens are to the grammar.
-ghost use Rattle.std.specs.Prelude.{◌≡◌};
-ghost use Rattle.lq_grammar.specs.Items.{call_role, word_role, quoted_role, bracket_role, sign_role, mark_role};
-ghost use Rattle.lq_grammar.specs.Items.{role_of};
+ghost use Rattle.std.specs.Prelude.{◌≡◌, map};
+ghost use Rattle.std.specs.Str.{str_to_ascii_lowercase};
+ghost use Rattle.lq_grammar.specs.Items.{keyword_role, word_role, quoted_role, bracket_role, sign_role, mark_role};
+ghost use Rattle.lq_grammar.specs.Items.{role_of, role_in, entry_of};
 
 use crate::role::Role;
 use lq_lex::Kind;
@@ -25,36 +26,76 @@ fn word_role(span: &str) -> Role
         Role::Time
     } else if span == "_stream" {
         Role::Stream
-    } else if span.eq_ignore_ascii_case("and") {
-        Role::And
-    } else if span.eq_ignore_ascii_case("or") {
-        Role::Or
-    } else if span.eq_ignore_ascii_case("not") {
-        Role::Not
     } else {
-        call_role(span)
+        keyword_role(span)
     }
 }
 
-/// The role of a word that is no conjunction and no name that the grammar knows.
-fn call_role(span: &str) -> Role
-    ensures { result ≡ call_role span.now }
+/// Words in any case, and what each is.
+const KEYWORDS: &[(&str, Role)] = &[
+    ("and", Role::And),
+    ("or", Role::Or),
+    ("not", Role::Not),
+    ("in", Role::In),
+    ("i", Role::I),
+    ("seq", Role::Seq),
+    ("len_range", Role::LenRange),
+    ("string_range", Role::StringRange),
+    ("range", Role::Range),
+    ("fields", Role::Fields),
+    ("keep", Role::Fields),
+    ("delete", Role::Delete),
+    ("del", Role::Delete),
+    ("rm", Role::Delete),
+    ("drop", Role::Delete),
+    ("rename", Role::Rename),
+    ("mv", Role::Rename),
+    ("copy", Role::Copy),
+    ("cp", Role::Copy),
+    ("limit", Role::Limit),
+    ("head", Role::Head),
+    ("offset", Role::Offset),
+    ("skip", Role::Skip),
+    ("sort", Role::Sort),
+    ("order", Role::Sort),
+    ("uniq", Role::Uniq),
+    ("stats", Role::Stats),
+    ("filter", Role::Filter),
+    ("where", Role::Filter),
+    ("top", Role::Top),
+    ("by", Role::By),
+    ("asc", Role::Asc),
+    ("desc", Role::Desc),
+    ("as", Role::As),
+    ("with", Role::With),
+    ("hits", Role::Hits),
+    ("if", Role::If),
+    ("count", Role::Count),
+    ("count_empty", Role::CountEmpty),
+    ("count_uniq", Role::CountUniq),
+    ("sum", Role::Sum),
+    ("min", Role::Min),
+    ("max", Role::Max),
+    ("uniq_values", Role::UniqValues),
+];
+
+/// What a word is that is not `_time` or `_stream`.
+fn keyword_role(span: &str) -> Role
+    ensures { result ≡ keyword_role span.now }
 {
-    if span.eq_ignore_ascii_case("in") {
-        Role::In
-    } else if span.eq_ignore_ascii_case("i") {
-        Role::I
-    } else if span.eq_ignore_ascii_case("seq") {
-        Role::Seq
-    } else if span.eq_ignore_ascii_case("len_range") {
-        Role::LenRange
-    } else if span.eq_ignore_ascii_case("string_range") {
-        Role::StringRange
-    } else if span.eq_ignore_ascii_case("range") {
-        Role::Range
-    } else {
-        Role::Bare
+    role_in(KEYWORDS, span)
+}
+
+/// What is said of a word, in any case, by the first entry that has it.
+fn role_in(entries: &[(&str, Role)], span: &str) -> Role
+    ensures { result ≡ role_in (map entry_of entries.now) (str_to_ascii_lowercase span.now) }
+{
+    for (word, role) in entries {
+        if span.eq_ignore_ascii_case(word) {
+            return *role;
+        }
     }
+    Role::Bare
 }
 
 fn mark_role(mark: u8) -> Role

@@ -9,8 +9,9 @@ use std::alloc::{AllocError, AllocFailed};
 use std::error::Error;
 use std::fmt;
 
-/// Why a text is no query (LogsQL, "Query syntax"). A text that has tokens and no mark `|` has the leftmost of the
-/// faults of its grammar, which name the first token of their item. Places count bytes.
+/// Why a text is no query (LogsQL, "Query syntax"). A text that has tokens is refused for the leftmost of the faults of
+/// its grammar, which name the first token of their item; of two at one place it is the one that stands first here.
+/// Places count bytes.
 #[derive(Clone, Copy, Debug, PartialEq, Eq)]
 pub enum QueryFault {
     /// The text has no tokens.
@@ -27,8 +28,6 @@ pub enum QueryFault {
     BadDuration { at: usize },
     /// Memory ran out.
     Memory,
-    /// The mark `|` there begins a pipe, and pipes are not built yet.
-    NotBuilt { at: usize },
 }
 
 impl fmt::Display for QueryFault {
@@ -46,7 +45,6 @@ impl fmt::Display for QueryFault {
             QueryFault::BadTime { at } => write!(f, "BadTime at {at}"),
             QueryFault::BadDuration { at } => write!(f, "BadDuration at {at}"),
             QueryFault::Memory => f.write_str("no memory"),
-            QueryFault::NotBuilt { at } => write!(f, "NotBuilt at {at}"),
         }
     }
 }

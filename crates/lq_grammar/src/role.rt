@@ -3,11 +3,55 @@ ghost use Rattle.std.specs.Prelude.{◌≡◌, ◌<◌};
 ghost use Rattle.lq_grammar.specs.Roles.{number as number_of, apart_by};
 
 /// A word that the grammar names, another word, a quoted text or a mark.
+///
+/// They stand in an order in which each class of words lies together.
 #[derive(Clone, Copy, PartialEq, Eq)]
 pub enum Role {
+    // Words that are no names.
     And,
     Or,
     Not,
+    // Words that are no names in the lists of some pipes.
+    Asc,
+    Desc,
+    As,
+    /// The word `if`, which is no name before a parenthesis.
+    If,
+    // Words that begin pipes.
+    /// `fields` or `keep`.
+    Fields,
+    /// `delete`, `del`, `rm` or `drop`.
+    Delete,
+    /// `rename` or `mv`.
+    Rename,
+    /// `copy` or `cp`.
+    Copy,
+    Limit,
+    Head,
+    Offset,
+    Skip,
+    /// `sort` or `order`.
+    Sort,
+    Uniq,
+    Stats,
+    /// `filter` or `where`.
+    Filter,
+    Top,
+    // Words inside pipes.
+    By,
+    With,
+    Hits,
+    // Functions of `stats`.
+    Count,
+    CountEmpty,
+    CountUniq,
+    Sum,
+    Min,
+    Max,
+    UniqValues,
+    /// A word that the grammar does not name.
+    Bare,
+    // Words that call a filter.
     In,
     I,
     Seq,
@@ -18,8 +62,6 @@ pub enum Role {
     Time,
     /// The word `_stream`.
     Stream,
-    /// Any other word.
-    Bare,
     /// The text `_time` in quotation marks.
     QuotedTime,
     /// Any other quoted text.
@@ -48,137 +90,107 @@ pub(crate) fn number(role: Role) -> u8
     ensures value { result ≡ number_of role }
     ensures bound { number_of role < apart_by }
 {
-    match role {
-        Role::And => 0,
-        Role::Or => 1,
-        Role::Not => 2,
-        Role::In => 3,
-        Role::I => 4,
-        Role::Seq => 5,
-        Role::LenRange => 6,
-        Role::StringRange => 7,
-        Role::Range => 8,
-        Role::Time => 9,
-        Role::Stream => 10,
-        Role::Bare => 11,
-        Role::QuotedTime => 12,
-        Role::Quoted => 13,
-        Role::Bar => 14,
-        Role::Open => 15,
-        Role::Close => 16,
-        Role::SquareOpen => 17,
-        Role::SquareClose => 18,
-        Role::CurlyOpen => 19,
-        Role::CurlyClose => 20,
-        Role::Comma => 21,
-        Role::Colon => 22,
-        Role::Equals => 23,
-        Role::Bang => 24,
-        Role::Tilde => 25,
-        Role::Star => 26,
-        Role::Less => 27,
-        Role::Greater => 28,
-        Role::Minus => 29,
-        Role::Plus => 30,
-    }
+    role as u8
 }
 
-/// Bare tokens.
-pub const BARES: &[Role] = &[
-    Role::Bare,
-    Role::And,
-    Role::Or,
-    Role::Not,
-    Role::Time,
-    Role::Stream,
-    Role::In,
-    Role::I,
-    Role::Seq,
-    Role::LenRange,
-    Role::StringRange,
-    Role::Range,
-];
+/// A list of roles in which the words stand that are names wherever a name may, but for BY.
+macro_rules! with_other_names {
+    ($($before:ident)*; $($behind:ident)*) => {
+        &[
+            $(Role::$before,)*
+            Role::Fields,
+            Role::Delete,
+            Role::Rename,
+            Role::Copy,
+            Role::Limit,
+            Role::Head,
+            Role::Offset,
+            Role::Skip,
+            Role::Sort,
+            Role::Uniq,
+            Role::Stats,
+            Role::Filter,
+            Role::Top,
+            Role::With,
+            Role::Hits,
+            Role::Count,
+            Role::CountEmpty,
+            Role::CountUniq,
+            Role::Sum,
+            Role::Min,
+            Role::Max,
+            Role::UniqValues,
+            Role::Bare,
+            $(Role::$behind,)*
+        ]
+    };
+}
+
+/// Words that call nothing in a filter, but for `_time` and `_stream`.
+pub const PLAIN_WORDS: &[Role] = with_other_names!(Asc Desc As If By;);
 
 /// What may be a word, a name or an argument.
-pub const WORDS: &[Role] = &[
-    Role::Bare,
-    Role::Time,
-    Role::Stream,
-    Role::In,
-    Role::I,
-    Role::Seq,
-    Role::LenRange,
-    Role::StringRange,
-    Role::Range,
-    Role::Quoted,
-    Role::QuotedTime,
-];
+pub const WORDS: &[Role] = with_other_names!(
+    Asc Desc As If By;
+    In I Seq LenRange StringRange Range Time Stream QuotedTime Quoted
+);
+
+/// Bare tokens.
+pub const BARES: &[Role] = with_other_names!(
+    And Or Not Asc Desc As If By;
+    In I Seq LenRange StringRange Range Time Stream
+);
+
+/// Bare tokens, but for BY.
+pub const OTHER_BARES: &[Role] = with_other_names!(
+    And Or Not Asc Desc As If;
+    In I Seq LenRange StringRange Range Time Stream
+);
 
 /// Any Bare or Quoted token.
-pub const TEXTS: &[Role] = &[
-    Role::Bare,
-    Role::And,
-    Role::Or,
-    Role::Not,
-    Role::Time,
-    Role::Stream,
-    Role::In,
-    Role::I,
-    Role::Seq,
-    Role::LenRange,
-    Role::StringRange,
-    Role::Range,
-    Role::Quoted,
-    Role::QuotedTime,
-];
+pub const TEXTS: &[Role] = with_other_names!(
+    And Or Not Asc Desc As If By;
+    In I Seq LenRange StringRange Range Time Stream QuotedTime Quoted
+);
+
+/// Names in a list in which `asc`, `desc` and `as` are keywords.
+pub const LIST_NAMES: &[Role] = with_other_names!(
+    If By;
+    In I Seq LenRange StringRange Range Time Stream QuotedTime Quoted
+);
+
+/// The same where `if` may be a keyword, too.
+pub const VALUE_NAMES: &[Role] = with_other_names!(
+    By;
+    In I Seq LenRange StringRange Range Time Stream QuotedTime Quoted
+);
+
+/// Names but for `_time`.
+pub const KEY_NAMES: &[Role] = with_other_names!(
+    Asc Desc As If By;
+    In I Seq LenRange StringRange Range Stream QuotedTime Quoted
+);
+
+/// Names but for `_time` and `_stream`.
+pub const COMMON_NAMES: &[Role] = with_other_names!(
+    Asc Desc As If By;
+    In I Seq LenRange StringRange Range Quoted
+);
 
 /// Quoted tokens.
-pub const QUOTED: &[Role] = &[Role::Quoted, Role::QuotedTime];
+pub const QUOTED: &[Role] = &[Role::QuotedTime, Role::Quoted];
 
 /// What a run goes on with.
-pub const RUN_PARTS: &[Role] = &[
-    Role::Colon,
-    Role::Minus,
-    Role::Plus,
-    Role::Bare,
-    Role::And,
-    Role::Or,
-    Role::Not,
-    Role::Time,
-    Role::Stream,
-    Role::In,
-    Role::I,
-    Role::Seq,
-    Role::LenRange,
-    Role::StringRange,
-    Role::Range,
-];
+pub const RUN_PARTS: &[Role] = with_other_names!(
+    Colon Minus Plus And Or Not Asc Desc As If By;
+    In I Seq LenRange StringRange Range Time Stream
+);
 
 /// What denies a filter.
 pub const NEGATIONS: &[Role] = &[Role::Not, Role::Bang, Role::Minus];
 
-/// What begins a filter behind another one.
-pub const UNARY: &[Role] = &[
-    Role::And,
-    Role::Not,
-    Role::Bang,
-    Role::Minus,
-    Role::Open,
-    Role::CurlyOpen,
-    Role::Bare,
-    Role::Time,
-    Role::Stream,
-    Role::In,
-    Role::I,
-    Role::Seq,
-    Role::LenRange,
-    Role::StringRange,
-    Role::Range,
-    Role::Quoted,
-    Role::QuotedTime,
-    Role::Equals,
-    Role::Tilde,
-    Role::Greater,
-    Role::Less,
-    Role::Star,
-];
+/// What begins a filter behind another one, but for the bracket of a selector.
+pub const UNARY: &[Role] = with_other_names!(
+    And Not Bang Minus Open Asc Desc As If By;
+    In I Seq LenRange StringRange Range Time Stream QuotedTime Quoted Equals Tilde Greater Less Star
+);

@@ -1,13 +1,11 @@
 //! The steps of a reader: single tokens, at the front of those that are left.
 ghost use Rattle.std.specs.Prelude.{◌≡◌, ◌≤◌, ◌-◌, length, drop};
-ghost use Rattle.std.specs.List.{find};
-ghost use Rattle.std.specs.Option.{option_map};
 ghost use Rattle.grammar.specs.Rule.{next};
 ghost use Rattle.grammar.specs.Reading.{one_at};
 ghost use Rattle.grammar.specs.Spelling.{place as place_of};
 ghost use Rattle.lq_grammar.specs.Roles.{any, glued};
-ghost use Rattle.lq_grammar.specs.Clauses.{Gives, Takes, TakesText};
-ghost use Rattle.lq_grammar.specs.Query.{is_bar, first_bar, place_or_end};
+ghost use Rattle.lq_grammar.specs.Clauses.{Gives, Takes, TakesText, TakesName};
+ghost use Rattle.lq_grammar.specs.Query.{place_or_end};
 
 use crate::fault::Stop;
 use crate::item::Item;
@@ -113,6 +111,18 @@ pub fn glued_text_past<'t>(tokens: &'t [Item], roles: &[Role]) -> Option<(&'t st
     }
 }
 
+/// The text of a token of one of these roles with a colon behind it, and what follows the colon.
+pub fn name_past<'t>(tokens: &'t [Item], roles: &[Role]) -> Option<(&'t str, &'t [Item])>
+    ensures { TakesName (any roles.now) tokens.now result }
+{
+    match tokens {
+        [name, colon, rest @ ..] if name.is(roles) && colon.is(&[Role::Colon]) => {
+            Some((name.text(), rest))
+        }
+        _ => None,
+    }
+}
+
 /// The place of the next token.
 pub fn place(tokens: &[Item]) -> usize
     ensures { result ≡ place_of tokens.now }
@@ -121,20 +131,6 @@ pub fn place(tokens: &[Item]) -> usize
         [token, ..] => token.start(),
         _ => 0,
     }
-}
-
-/// The place of the first mark `|`.
-pub fn first_bar(tokens: &[Item]) -> Option<usize>
-    ensures { result ≡ first_bar tokens.now }
-{
-    let bar = bar_of(tokens)?;
-    Some(bar.start())
-}
-
-fn bar_of(tokens: &[Item]) -> Option<&Item>
-    ensures { option_map (λ token. token.now) result ≡ find is_bar tokens.now }
-{
-    tokens.iter().find(|token| token.is(&[Role::Bar]))
 }
 
 /// The place of the first of so many tokens that are left at the end of a text, or the text's end.

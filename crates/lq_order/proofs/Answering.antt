@@ -9,7 +9,7 @@ use Rattle.lq_ast.proofs.Sorted.{map_sorted}
 use Rattle.lq_ast.specs.Records.{Record}
 use Rattle.lq_ast.specs.Tuples.{Tuple, sorted_by}
 use Rattle.lq_order.specs.Groups.{group_of, group_record}
-use Rattle.lq_order.specs.Sorting.{at_most, counted_record, hits, tuple_record}
+use Rattle.lq_ast.specs.Sorting.{at_most, counted_record, hits, tuple_record}
 use Rattle.lq_order.specs.declared.group.Group.{Group}
 use Rattle.lq_order.proofs.Grouping.{map_twice}
 use Rattle.lq_order.proofs.Picked.{map_at_most}

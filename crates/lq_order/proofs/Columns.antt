@@ -15,7 +15,7 @@ use Rattle.lq_ast.specs.Stage.{SortBy}
 use Rattle.lq_ast.specs.declared.pipe.SortKey.{SortKey}
 use Rattle.lq_order.specs.Column.{column_cmp, columns_cmp}
 use Rattle.lq_order.specs.Mirror.{Mirrors}
-use Rattle.lq_order.specs.Sorting.{field_cmp, record_cmp}
+use Rattle.lq_ast.specs.Sorting.{field_cmp, record_cmp}
 use Rattle.lq_order.specs.declared.column.Column.{Column}
 
 pub mirrors_field : (column : Column) (key : SortBy) (records : List Record) → column.desc ≡ key.1

@@ -18,7 +18,7 @@ use Rattle.lq_order.specs.Groups.{group_of, runs}
 use Rattle.lq_order.specs.declared.group.Group.{Group}
 use Rattle.lq_order.specs.Mirror.{Mirrors}
 use Rattle.lq_order.specs.Placed.{placed_of}
-use Rattle.lq_order.specs.Sorting.{hits, record_cmp, tuples}
+use Rattle.lq_ast.specs.Sorting.{hits, record_cmp, tuples}
 use Rattle.lq_order.specs.declared.column.Column.{Column}
 use Rattle.lq_order.specs.declared.placed.Placed.{Placed}
 use Rattle.lq_order.proofs.Columns.{take_whole}

@@ -12,7 +12,7 @@ use Rattle.lq_ast.specs.Tuples.{sorted_by}
 use Rattle.lq_order.specs.Mirror.{Mirrors}
 use Rattle.lq_order.specs.Placed.{ArePlaces, placed_of}
 use Rattle.lq_order.specs.declared.placed.Placed.{Placed}
-use Rattle.lq_order.specs.Sorting.{at_most}
+use Rattle.lq_ast.specs.Sorting.{at_most}
 use Rattle.lq_order.proofs.Places.{enumerate_apart, enumerate_each, enumerate_items}
 
 -- ---- parts of a list

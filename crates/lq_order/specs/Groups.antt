@@ -3,7 +3,7 @@ use Rattle.std.specs.Prelude.{ℕ, ◌+◌, Bool, List, [], ◌∷◌, codes, de
 use Rattle.log_model.specs.Field.{set_field}
 use Rattle.lq_ast.specs.Records.{Record}
 use Rattle.lq_ast.specs.Tuples.{Tuple, tuple_of}
-use Rattle.lq_order.specs.Sorting.{tuple_record}
+use Rattle.lq_ast.specs.Sorting.{tuple_record}
 use Rattle.lq_order.specs.declared.group.Group.{Group}
 
 -- Each run's first item and how many the run has, where one has begun with the first and has n items so far.

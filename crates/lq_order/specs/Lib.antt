@@ -4,4 +4,3 @@ pub mod Groups
 pub mod Mirror
 pub mod Placed
 pub mod Ranks
-pub mod Sorting

@@ -4,7 +4,7 @@ ghost use Rattle.log_model.specs.Field.{field_value};
 ghost use Rattle.lq_ast.specs.PipeView.{sort_by};
 ghost use Rattle.lq_order.specs.Column.{column_cmp, columns_cmp};
 ghost use Rattle.lq_order.specs.Mirror.{Mirrors};
-ghost use Rattle.lq_order.specs.Sorting.{field_cmp, record_cmp};
+ghost use Rattle.lq_ast.specs.Sorting.{field_cmp, record_cmp};
 
 use crate::ranks::ranks;
 use lq_ast::SortKey;

@@ -7,7 +7,7 @@ ghost use Rattle.lq_ast.specs.PipeView.{sort_by};
 ghost use Rattle.lq_ast.specs.Tuples.{tuple_of};
 ghost use Rattle.lq_order.specs.Column.{columns_cmp};
 ghost use Rattle.lq_order.specs.Groups.{group_of, group_record};
-ghost use Rattle.lq_order.specs.Sorting.{hits, tuple_record, tuples};
+ghost use Rattle.lq_ast.specs.Sorting.{hits, tuple_record, tuples};
 
 use crate::column::{Column, columns, compare};
 use crate::placed::{Placed, in_order};

@@ -5,7 +5,7 @@ ghost use Rattle.std.specs.Ordering.{on};
 ghost use Rattle.lq_ast.specs.PipeView.{sort_by, sorting};
 ghost use Rattle.lq_ast.specs.Tuples.{sorted_by};
 ghost use Rattle.lq_order.specs.Placed.{ArePlaces};
-ghost use Rattle.lq_order.specs.Sorting.{at_most, record_cmp, sorted};
+ghost use Rattle.lq_ast.specs.Sorting.{at_most, record_cmp, sorted};
 
 use crate::column::columns;
 use crate::placed::in_order;

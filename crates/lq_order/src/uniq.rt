@@ -1,7 +1,7 @@
 //! The `uniq` pipe.
 ghost use Rattle.std.specs.Prelude.{◌≡◌, IfOk};
 ghost use Rattle.lq_ast.specs.PipeView.{distinct};
-ghost use Rattle.lq_order.specs.Sorting as sorting;
+ghost use Rattle.lq_ast.specs.Sorting as sorting;
 
 use crate::group::{groups, records_of};
 use crate::sort::kept;

@@ -1,58 +1,23 @@
--- Which tokens a rule begins with.
-use Rattle.std.proofs.Common.{◌≡◌, ℕ, Ok, ◌||◌, List, [], ◌∷◌, ◌++◌, refl, ap, ◌∙◌, Bool, true, false}
-use Rattle.grammar.specs.Reading.{first}
-use Rattle.lq_grammar.specs.declared.role.Role.TheVariants.{Minus}
-use Rattle.lq_grammar.specs.Roles.{any, words, starts}
-use Rattle.lq_grammar.specs.Values.{Bytes}
-use Rattle.lq_grammar.specs.LogsQL.{heads, arg, args, texts, optional_groups, groups, labels, label, next_unary, unary}
-use Rattle.lq_grammar.specs.LogsQL.{unit, selector, call_unit, range_unit, word_unit, mark_leaf, exact, regex, greater}
-use Rattle.lq_grammar.specs.LogsQL.{less, star}
-use Rattle.grammar.proofs.Sets.{inside, inside_next}
-use Rattle.std.proofs.Common.{sym}
-use Rattle.lq_grammar.specs.Clauses.{at}
+-- Which tokens the fields of COUNT begin with.
+use Rattle.std.proofs.Common.{◌≡◌, ℕ, Ok, List, [], ◌∷◌, ◌∙◌, Bool, true, false}
 use Rattle.std.proofs.lemmas.Bool.{cond-true, cond-false}
-use Rattle.grammar.specs.Rule.{Token, Class, next}
-use Rattle.lq_grammar.proofs.Codes.{member-append}
+use Rattle.grammar.specs.Rule.{Token, empty, next}
+use Rattle.lq_grammar.specs.Clauses.{at}
+use Rattle.lq_grammar.specs.LogsQL.{counted, names, ◌|||◌}
+use Rattle.lq_grammar.specs.Roles.{any, words}
+use Rattle.lq_grammar.specs.Values.{Bytes}
+use Rattle.lq_grammar.specs.declared.role.Role.TheVariants.{Star}
 
-pub next_append : {X : Type 0} → (a b : Class) (u : List (Token X)) → next (a ++ b) u ≡ (next a u || next b u)
-next_append a b [] = refl
-next_append a b (t ∷ ts) = member-append t.kind a b
+pub counted_some : (depth : ℕ) (u : List (Token Bytes)) → next (any (Star ∷ [])) u ≡ false → next (any words) u ≡ true
+    → at depth counted u ≡ at depth names u
+unfolding counted names
+counted_some depth u out e =
+    cond-false (next (any (Star ∷ [])) u) _ (at depth (names ||| empty []) u) out
+    ∙ cond-true (next (any words) u) (at depth names u) (Ok ([], u)) e
 
-pub arg_first : (u : List (Token Bytes)) → next (any (Minus ∷ [])) u ≡ false
-    → next (first heads arg) u ≡ next (any words) u
-unfolding arg
-arg_first u e = next_append (any (Minus ∷ [])) (any words) u ∙ ap (λ (b : Bool). b || next (any words) u) e
-
-pub texts_some : (depth : ℕ) (u : List (Token Bytes)) → next (first heads arg) u ≡ true
-    → at depth texts u ≡ at depth args u
-unfolding texts args arg
-texts_some depth u e = cond-true (next (first heads arg) u) (at depth args u) (Ok ([], u)) e
-
-pub texts_none : (depth : ℕ) (u : List (Token Bytes)) → next (first heads arg) u ≡ false
-    → at depth texts u ≡ Ok ([], u)
-unfolding texts args arg
-texts_none depth u e = cond-false (next (first heads arg) u) (at depth args u) (Ok ([], u)) e
-
-pub groups_some : (depth : ℕ) (u : List (Token Bytes)) → next (any words) u ≡ true
-    → at depth optional_groups u ≡ at depth groups u
-unfolding optional_groups groups labels label
-groups_some depth u e = cond-true (next (any words) u) (at depth groups u) (Ok ([], u)) e
-
-pub groups_none : (depth : ℕ) (u : List (Token Bytes)) → next (any words) u ≡ false
-    → at depth optional_groups u ≡ Ok ([], u)
-unfolding optional_groups groups labels label
-groups_none depth u e = cond-false (next (any words) u) (at depth groups u) (Ok ([], u)) e
-
--- what begins a filter behind another one
-within : (a b : Class) (u : List (Token Bytes)) → inside a b ≡ true → inside b a ≡ true → next a u ≡ next b u
-within a b u there back = by_test (next a u) refl (next b u) refl
-  where
-    by_test : (x : Bool) → next a u ≡ x → (y : Bool) → next b u ≡ y → x ≡ y
-    by_test true e true f = refl
-    by_test false e false f = refl
-    by_test true e false f = sym (inside_next a b u there e) ∙ f
-    by_test false e true f = sym e ∙ inside_next b a u back f
-
-pub unary_first : (u : List (Token Bytes)) → next (any starts) u ≡ next (first heads next_unary) u
-unfolding next_unary unary unit selector call_unit range_unit word_unit mark_leaf exact regex greater less star
-unary_first u = within (any starts) (first heads next_unary) u refl refl
+pub counted_none : (depth : ℕ) (u : List (Token Bytes)) → next (any (Star ∷ [])) u ≡ false → next (any words) u ≡ false
+    → at depth counted u ≡ Ok ([], u)
+unfolding counted names
+counted_none depth u out e =
+    cond-false (next (any (Star ∷ [])) u) _ (at depth (names ||| empty []) u) out
+    ∙ cond-false (next (any words) u) (at depth names u) (Ok ([], u)) e

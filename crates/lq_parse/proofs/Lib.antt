@@ -1,7 +1,4 @@
 pub mod Firsts
-pub mod Behind
-pub mod Parts
-pub mod Turning
-pub mod Denied
+pub mod Joined
 pub mod Stops
-pub mod Times
+pub mod Turned

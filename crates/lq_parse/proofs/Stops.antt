@@ -1,11 +1,12 @@
 -- Where reading stops, as a fault with its place.
-use Rattle.std.proofs.Common.{◌≡◌, ◌≢◌, ℕ, ◌≤◌, List, length, Option, Some, None, Result, Ok, Err, IfOk}
+use Rattle.std.proofs.Common.{◌≡◌, ◌≢◌, ℕ, ◌≤◌, List, length, Result, Ok, Err, IfOk}
 use Rattle.std.proofs.Common.{sym, ap, ◌∙◌, subst, refl, arith}
 use Rattle.std.proofs.lemmas.List.{length-append}
-use Rattle.grammar.specs.Rule.{Token}
 use Rattle.grammar.specs.Spelling.{IsStuck}
-use Rattle.grammar.specs.Reading.{Answers, Stop, stuck}
-use Rattle.lq_ast.specs.Condition.{Condition}
+use Rattle.grammar.specs.Reading.{Stop, stuck}
+use Rattle.grammar.proofs.Names.{Answers}
+use Rattle.lq_ast.specs.Question.{Question, question}
+use Rattle.lq_ast.specs.declared.query.Query.{Query}
 use Rattle.lq_lex.specs.Token.{Token as Piece}
 use Rattle.lq_lex.specs.Lexing.{HasLexed}
 use Rattle.lq_lex.specs.declared.fault.LexFault.{LexFault}
@@ -14,40 +15,31 @@ use Rattle.lq_lex.specs.declared.fault.LexFault.TheVariants.{Memory as LexMemory
 use Rattle.lq_grammar.specs.declared.fault.Stop.{Stop as Halt}
 use Rattle.lq_grammar.specs.declared.fault.QueryFault.{QueryFault}
 use Rattle.lq_grammar.specs.declared.fault.QueryFault.TheVariants.{Lex, Syntax, TooDeep, BadNumber, BadTime}
-use Rattle.lq_grammar.specs.declared.fault.QueryFault.TheVariants.{BadDuration}
-use Rattle.lq_grammar.specs.declared.fault.QueryFault.TheVariants.{Memory, NotBuilt}
-use Rattle.lq_ast.specs.View.{condition}
-use Rattle.lq_ast.specs.declared.query.Query.{Query}
-use Rattle.lq_parse.specs.Outcome.{NamesStop, outcome}
+use Rattle.lq_grammar.specs.declared.fault.QueryFault.TheVariants.{BadDuration, Memory}
 use Rattle.lq_grammar.specs.Values.{Bytes, Reason}
 use Rattle.lq_grammar.specs.Clauses.{Fails, lex_fault}
-use Rattle.lq_grammar.specs.Query.{HasItems, first_bar, IsQuery, IsQueryText, reading, OutcomeOf, QueryOf}
+use Rattle.lq_grammar.specs.Query.{Items, HasItems, IsQuery, IsQueryText, QueryOf}
 use Rattle.lq_grammar.proofs.Answered.{answered_query}
-use Rattle.lq_grammar.proofs.Outcomes.{named, named_outcome, stop_place, one_outcome, query_named}
-
-abbrev Items : Type 0
-Items = List (Token Bytes)
-
-abbrev Outcome : Type 0
-Outcome = Result Condition QueryFault
+use Rattle.lq_grammar.proofs.Outcomes.{Outcome, OutcomeOf, named, named_outcome, stop_place, one_outcome, query_named}
+use Rattle.lq_parse.specs.Outcome.{NamesStop, outcome, reading}
 
 -- the outcome where reading comes to this
-pub outcome_when : (text : Bytes) (items : Items) (r : Result Condition (Stop Reason)) → reading items ≡ r
-    → OutcomeOf text items (named text items r)
-outcome_when text items r e =
-    subst (λ (q : Result Condition (Stop Reason)). OutcomeOf text items (named text items q)) e
-    (named_outcome text items)
+pub outcome_when : (text : Bytes) (items : Items) → HasItems text items → (r : Result Question (Stop Reason))
+    → reading items ≡ r → OutcomeOf text items (named text items r)
+outcome_when text items has r e =
+    subst (λ (q : Result Question (Stop Reason)). OutcomeOf text items (named text items q)) e
+    (named_outcome text items has)
 
 pub few_left : (items : Items) (left : ℕ) → reading items ≡ Err (stuck left) → left ≤ length items
 few_left items left e = by_answer (subst (Answers IsQuery items) e (answered_query items))
   where
-    by_answer : IsStuck IsQuery items left → left ≤ length items
-    by_answer s = omega (arith, s.left_is, ap length s.parts, length-append s.before s.rest)
+    by_answer : (rest : Items) × (left ≡ length rest) × IsStuck IsQuery items rest → left ≤ length items
+    by_answer (rest, same, s) = omega (arith, same, ap length s.parts, length-append s.before rest)
 
-pub syntax_at : (text : Bytes) (items : Items) (left at : ℕ) → reading items ≡ Err (stuck left)
-    → at ≡ stop_place text items left → OutcomeOf text items (Err (Syntax at))
-syntax_at text items left at e is =
-    subst (λ (n : ℕ). OutcomeOf text items (Err (Syntax n))) (sym is) (outcome_when text items (Err (stuck left)) e)
+pub syntax_at : (text : Bytes) (items : Items) → HasItems text items → (left at : ℕ)
+    → reading items ≡ Err (stuck left) → at ≡ stop_place text items left → OutcomeOf text items (Err (Syntax at))
+syntax_at text items has left at e is =
+    subst (λ (n : ℕ). OutcomeOf text items (Err (Syntax n))) (sym is) (outcome_when text items has (Err (stuck left)) e)
 
 abbrev failed : QueryFault → Outcome
 failed fault = Err fault
@@ -75,31 +67,23 @@ pub fails_so : (items : Items) (halt other : Halt) → halt ≡ other → Fails 
 fails_so items halt other e h = subst (λ (k : Halt). Fails k (reading items)) e h
 
 -- a text whose tokens were read to their end
-pub read_found : (text : Bytes) (items : Items) (c : Condition) → HasItems text items → first_bar items ≡ None
-    → reading items ≡ Ok c → QueryOf text (Ok c)
-unfolding QueryOf
-read_found text items c has none e =
-    query_named text items has none (Ok c) (ap (named text items) e)
+pub read_found : (text : Bytes) (items : Items) (asked : Question) → HasItems text items → reading items ≡ Ok asked
+    → QueryOf text (Ok asked)
+read_found text items asked has e = query_named text items has (Ok asked) (ap (named text items) e)
 
-pub bar_found : (text : Bytes) (items : Items) (at : ℕ) → HasItems text items → first_bar items ≡ Some at
-    → QueryOf text (Err (NotBuilt at))
-unfolding QueryOf
-bar_found text items at has some = (items, has, some)
-
-pub stop_found : (text : Bytes) (items : Items) (fault : QueryFault) → HasItems text items → first_bar items ≡ None
+pub stop_found : (text : Bytes) (items : Items) (fault : QueryFault) → HasItems text items
     → NamesStop text items fault → refused fault ≢ refused Memory → QueryOf text (Err fault)
 unfolding QueryOf
-stop_found text items (Lex fault) has none out some = absurd out
-stop_found text items (Syntax at) has none out some = (items, has, none, out)
-stop_found text items (TooDeep at) has none out some = (items, has, none, out)
-stop_found text items (BadNumber at) has none out some = (items, has, none, out)
-stop_found text items (BadTime at) has none out some = (items, has, none, out)
-stop_found text items (BadDuration at) has none out some = (items, has, none, out)
-stop_found text items Memory has none out some = absurd (some refl)
-stop_found text items (NotBuilt at) has none out some = absurd out
+stop_found text items (Lex fault) has out some = absurd out.has_fault
+stop_found text items (Syntax at) has out some = (items, has, out)
+stop_found text items (TooDeep at) has out some = (items, has, out)
+stop_found text items (BadNumber at) has out some = (items, has, out)
+stop_found text items (BadTime at) has out some = (items, has, out)
+stop_found text items (BadDuration at) has out some = (items, has, out)
+stop_found text items Memory has out some = absurd (some refl)
 
 pub spelled_when : (text : Bytes) (r : Result Query QueryFault) → (r ≢ refused Memory → QueryOf text (outcome r))
-    → IfOk r (λ query. IsQueryText text (condition query.filter))
+    → IfOk r (λ query. IsQueryText text (question query))
 unfolding QueryOf
 spelled_when text (Ok query) found = found (λ e. cc)
 spelled_when text (Err fault) found = tt
@@ -109,9 +93,9 @@ pub only_when : (text : Bytes) (r : Result Query QueryFault) → (r ≢ refused 
 only_when text r found other h some = one_outcome text (outcome r) other (found some) h
 
 pub complete_when : (text : Bytes) (r : Result Query QueryFault) → (r ≢ refused Memory → QueryOf text (outcome r))
-    → (c : Condition) → IsQueryText text c → r ≢ refused Memory → outcome r ≡ Ok c
+    → (asked : Question) → IsQueryText text asked → r ≢ refused Memory → outcome r ≡ Ok asked
 unfolding QueryOf
-complete_when text r found c spelled some = only_when text r found (Ok c) spelled some
+complete_when text r found asked spelled some = only_when text r found (Ok asked) spelled some
 
 -- a text whose tokens were not found
 pub lex_when : (text : Bytes) (r : Result Query QueryFault) (fault : LexFault)
@@ -123,8 +107,3 @@ lex_when text r fault lexed (e, is, be) some =
   where
     err_is : {a b : QueryFault} → failed a ≡ failed b → a ≡ b
     err_is same = cc
-
-pub no_bar : (items : Items) (bar : Option ℕ) → bar ≡ first_bar items → ((at : ℕ) → bar ≡ Some at → ⊥)
-    → first_bar items ≡ None
-no_bar items None e none = sym e
-no_bar items (Some at) e none = absurd (none at refl)

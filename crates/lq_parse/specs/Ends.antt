@@ -1,15 +1,10 @@
--- The ends of ranges, and of what bounds name, as values.
-use Rattle.std.specs.Prelude.{ℤ}
-use Rattle.time_text.specs.declared.bound.Span.{Span}
-use Rattle.lq_grammar.specs.Values as value
-use Rattle.lq_parse.specs.declared.number.Bound.{Bound}
-use Rattle.lq_parse.specs.declared.number.Bound.TheVariants.{Number, Infinite, MinusInfinite}
+-- What follows a function, as a value.
+use Rattle.std.specs.Prelude.{List, ℕ, Option}
+use Rattle.std.specs.Option.{option_map}
+use Rattle.lq_ast.specs.Condition.{Condition}
+use Rattle.lq_ast.specs.View.{condition}
+use Rattle.lq_parse.specs.declared.stats.FuncEnd.{FuncEnd}
 
-abbrev pub end_of : Bound → value.End
-end_of (Number z) = value.number z
-end_of Infinite = value.infinite
-end_of MinusInfinite = value.minus_infinite
-
--- the first and the last moment
-abbrev pub ends_of : Span → ℤ × ℤ
-ends_of span = (span.from, span.to)
+-- for which records a function is, and the name of its value
+abbrev pub func_end_of : FuncEnd → Option Condition × Option (List ℕ)
+func_end_of end = (option_map condition end.only, end.name)

@@ -1,16 +1,13 @@
 //! Queries of LogsQL, read from their texts.
 #![tactic(auto)]
 
-mod args;
-mod filter;
-mod label;
-mod leaf;
-mod leaves;
-mod make;
-mod number;
+mod call;
+mod names;
+mod pipes;
 mod query;
-mod run;
-mod time;
+mod sort;
+mod stats;
+mod uniq;
 
 pub use lq_grammar::QueryFault;
 pub use query::parse;

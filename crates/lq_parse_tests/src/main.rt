@@ -5,17 +5,16 @@
 //! derivations of the grammar at once, token by token, and finds the faults along them afterwards.
 #![tactic(auto)]
 
+mod pipes_tests;
 mod shown_tests;
 #[cfg(test)]
 mod tests;
 
 use lq_parse::parse;
-use shown_tests::{push_filter, with_controls};
+use pipes_tests::push_pipes;
+use shown_tests::{DEPTH, push_filter, with_controls};
 use std::alloc::{AllocError, Global};
 use std::io;
-
-/// Filters lie at most so deep in each other, and lists in them.
-const DEPTH: u32 = 300;
 
 fn main(rt: HostRuntime) -> io::Result<()> {
     for line in rt.lines(rt.alloc()) {
@@ -31,6 +30,7 @@ fn answer(alloc: Global, query: &str) -> Result<String, AllocError> {
         Ok(query) => {
             let mut answer = String::new(alloc);
             push_filter(&query.filter, DEPTH, &mut answer)?;
+            push_pipes(query.pipes.as_slice(), &mut answer)?;
             Ok(answer)
         }
         Err(fault) => format!(in alloc; "{fault}"),

@@ -3,6 +3,9 @@ use lq_ast::{Filter, Group, How, Select};
 use std::alloc::{AllocError, Global};
 use vl_row::Text;
 
+/// Filters lie at most so deep in each other, and lists in them.
+pub(crate) const DEPTH: u32 = 300;
+
 /// Appends a filter, with filters inside it down to a depth.
 #[cycle(shown)]
 pub(crate) fn push_filter(filter: &Filter, depth: u32, out: &mut String) -> Result<(), AllocError> {
@@ -108,7 +111,7 @@ fn push_texts(
 }
 
 /// Appends a text between angle brackets, with pictures in the places of its control characters.
-fn push_text(text: &Text, out: &mut String) -> Result<(), AllocError> {
+pub(crate) fn push_text(text: &Text, out: &mut String) -> Result<(), AllocError> {
     out.push_str(" <")?;
     for c in text.as_str().chars() {
         match c {

@@ -1,2 +1,11 @@
+pub mod Alike
+pub mod Among
+pub mod Enough
+pub mod Fewer
 pub mod Merged
+pub mod Narrowed
+pub mod Piping
 pub mod Printed
+pub mod Projected
+pub mod Refusing
+pub mod Walked

@@ -1,9 +1,25 @@
-//! Printed records: rows as lines of compact JSON.
+//! Records of rows, what pipes make of them, and their lines (LogsQL, "Pipes").
 #![tactic(auto)]
 
+mod fault;
+mod fields;
+mod kept;
 mod members;
+mod needed;
+mod output;
+mod patterns;
+mod pipes;
 pub mod plain;
 mod printed_stream;
+mod projector;
 mod record;
+mod row_record;
+mod step;
 
+pub use fault::PipeFault;
+pub use needed::Needs;
+pub use output::lines;
+pub use pipes::apply;
+pub use projector::Projector;
 pub use record::Printer;
+pub use row_record::rec_of;

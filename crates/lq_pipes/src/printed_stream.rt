@@ -1,5 +1,5 @@
 //! A stream as it is printed: its text and its id.
-ghost use Rattle.std.specs.Prelude.{◌≡◌, IfOk};
+ghost use Rattle.std.specs.Prelude.{◌≡◌, IfOk, OnOk};
 ghost use Rattle.log_model.specs.Stream.{label_text, stream_id};
 
 use std::alloc::{AllocError, Global};
@@ -56,5 +56,16 @@ impl PrintedStream {
         ensures { result.now ≡ stream_id self.now }
     {
         self.id.as_str()
+    }
+
+    /// Becomes this stream, with its text and its id.
+    pub(crate) fn turn_to(&mut self, alloc: Global, stream: &Stream) -> Result<(), AllocError>
+        ensures { OnOk result (self.new ≡ stream.now) }
+    {
+        if self.labels.is_same(stream) {
+            return Ok(());
+        }
+        *self = PrintedStream::of(alloc, stream.try_copy(alloc)?)?;
+        Ok(())
     }
 }

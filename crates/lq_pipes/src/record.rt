@@ -1,5 +1,5 @@
 //! The record of a row: its fields, and the fields that are computed from it.
-ghost use Rattle.std.specs.Prelude.{◌≡◌, [], ◌++◌, OnOk, OnErr, IfOk};
+ghost use Rattle.std.specs.Prelude.{◌≡◌, [], ◌++◌, OnOk, OnErr, IfOk, string_bytes};
 ghost use Rattle.log_model.specs.Moment.{moment_text};
 ghost use Rattle.log_model.specs.Print.{line_text};
 ghost use Rattle.log_model.specs.Row.{record_of};
@@ -14,7 +14,7 @@ use time_text::write_moment;
 use vl_row::{Row, Stream, Text};
 
 /// Room for most lines.
-const LINE_BYTES: usize = 1024;
+pub(crate) const LINE_BYTES: usize = 1024;
 
 /// Prints rows. It keeps the text and the id of the last row's stream, since the next row is mostly of the same one.
 ///
@@ -44,45 +44,29 @@ impl Printer {
 
     /// Appends the row's record as one JSON object with its keys in byte order, and a line feed. If allocation fails,
     /// `out` is unchanged, and the printer may be used again.
-    pub fn write_row(
-        &mut self,
-        alloc: Global,
-        row: &Row,
-        out: &mut Vec<u8>,
-    ) -> Result<(), AllocError>
-        ensures ok { OnOk result (out.new.items ≡ out.old.items ++ line_text (record_of row.now)) }
-        ensures err { OnErr result (out.new.items ≡ out.old.items) }
+    pub fn write_row(&mut self, alloc: Global, row: &Row, out: &mut Text) -> Result<(), AllocError>
+        ensures ok { OnOk result (out.new ≡ out.old ++ line_text (record_of row.now)) }
+        ensures err { OnErr result (out.new ≡ out.old) }
         ensures kept { OnOk result (self.new ≡ row.now.labels) }
     {
-        self.turn_to(alloc, row.stream())?;
+        self.stream.turn_to(alloc, row.stream())?;
         let line = line(alloc, row, &self.stream)?;
-        out.extend_from_slice(&line)
-    }
-
-    /// Has the text and the id of this stream.
-    fn turn_to(&mut self, alloc: Global, stream: &Stream) -> Result<(), AllocError>
-        ensures { OnOk result (self.new ≡ stream.now) }
-    {
-        if self.stream.labels().is_same(stream) {
-            return Ok(());
-        }
-        self.stream = PrintedStream::of(alloc, stream.try_copy(alloc)?)?;
-        Ok(())
+        out.push_str(alloc, line.as_str())
     }
 }
 
 /// The row's record as a line.
 // It has a buffer of its own, since a writer zeroes room ahead in proportion to what its buffer holds.
-fn line(alloc: Global, row: &Row, stream: &PrintedStream) -> Result<Vec<u8>, AllocError>
+fn line(alloc: Global, row: &Row, stream: &PrintedStream) -> Result<String, AllocError>
     requires { stream.now ≡ row.now.labels }
-    ensures { IfOk result (λ line. line.items ≡ line_text (record_of row.now)) }
+    ensures { IfOk result (λ line. string_bytes line ≡ line_text (record_of row.now)) }
 {
     let mut moment = Text::try_of(alloc, "")?;
     write_moment(alloc, row.time(), &mut moment)?;
     let mut writer = Writer::new(Vec::with_capacity(alloc, LINE_BYTES)?);
     write_object(&mut writer, row, stream, moment.as_str())?;
-    let mut line = writer.into_inner();
-    line.push(b'\n')?;
+    let mut line = unsafe { String::from_utf8_unchecked(writer.into_inner()) };
+    line.push('\n')?;
     Ok(line)
 }
 

@@ -1,21 +1,49 @@
 //! Tests of `lq_pipes`.
 //!
-//! The program answers a table. A case is a row: its time, the names of its stream's labels, with commas between them,
-//! and its fields, with tabs between all; the line `---` stands between cases. The answer is the lines of all rows,
-//! first those of one printer, and then those of the plain program. They are from Python's `json`, `hashlib` and
-//! `datetime`.
+//! The program answers a table of three parts, with the line `===` between them.
+//!
+//! A case of the first part is a row: its time, the names of its stream's labels, with commas between them, and its
+//! fields, with tabs between all; the line `---` stands between cases. The answer is the lines of all rows: those of
+//! one printer, those of the plain program, and those of the rows' records. They are from Python's `json`, `hashlib`
+//! and `datetime`.
+//!
+//! A case of the second part is a line: pipes with `|` between them, and behind them records, with tabs between all. A
+//! pipe is its name and its parts in words. A record is its fields as `name=value`, with `&` between them. The answer
+//! repeats the pipes, and has the lines of the records that they make, or the fault.
+//!
+//! A case of the third part is a line of pipes. The answer repeats them, and has the lines of what they make of the
+//! rows' records. It is computed of records of the fields alone that matter, and of whole ones.
+//!
+//! The answers to pipes are those of a Python program of its own.
 #![tactic(auto)]
 
+mod narrowed_tests;
+mod notation_tests;
+mod pipe_tests;
 mod printed_tests;
 
-use lq_pipes::plain;
-use printed_tests::{plainly_printed, printed, rows_of};
+use narrowed_tests::answer_of_rows;
+use pipe_tests::answer;
+use printed_tests::{of_records, plainly_printed, printed, rows_of};
 use std::io::{self, Write};
 
 fn main(rt: HostRuntime) -> io::Result<()> {
-    let cases = io::read_to_string(rt.alloc(), rt.stdin())?;
-    let rows = rows_of(rt.alloc(), cases.as_str())?;
+    let input = io::read_to_string(rt.alloc(), rt.stdin())?;
+    let (rows, cases) = input.split_once("\n===\n").unwrap_or(("", ""));
+    let (cases, pipes) = cases.split_once("\n===\n").unwrap_or((cases, ""));
+    let rows = rows_of(rt.alloc(), rows)?;
     let mut out = rt.stdout();
-    out.write_all(&printed(rt.alloc(), &rows)?)?;
-    out.write_all(&plainly_printed(rt.alloc(), &rows)?)
+    out.write_all(printed(rt.alloc(), &rows)?.as_str().as_bytes())?;
+    out.write_all(&plainly_printed(rt.alloc(), &rows)?)?;
+    out.write_all(of_records(rt.alloc(), &rows)?.as_str().as_bytes())?;
+    for case in cases.lines() {
+        let pipes = case.split('\t').next().unwrap_or("");
+        let answer = answer(rt.alloc(), case)?;
+        print!(rt; "== {pipes}\n{}", answer.as_str())?;
+    }
+    for pipes in pipes.lines() {
+        let answer = answer_of_rows(rt.alloc(), pipes, &rows)?;
+        print!(rt; "== {pipes}\n{}", answer.as_str())?;
+    }
+    Ok(())
 }

@@ -1,11 +1,11 @@
-//! The lines of rows, by the printer and by the plain program.
-use lq_pipes::{Printer, plain};
+//! The lines of rows: by the printer, by the plain program, and of their records.
+use lq_pipes::{Printer, lines, plain, rec_of};
 use std::alloc::{AllocError, Global};
-use vl_row::{FieldList, Row, Text, number};
+use vl_row::{FieldList, Recs, Row, Text, number};
 
-pub fn printed(alloc: Global, rows: &[Row]) -> Result<Vec<u8>, AllocError> {
+pub fn printed(alloc: Global, rows: &[Row]) -> Result<Text, AllocError> {
     let mut printer = Printer::new(alloc)?;
-    let mut out = Vec::from_slice(alloc, b"printed\n")?;
+    let mut out = Text::try_of(alloc, "printed\n")?;
     for row in rows {
         printer.write_row(alloc, row, &mut out)?;
     }
@@ -17,6 +17,19 @@ pub fn plainly_printed(alloc: Global, rows: &[Row]) -> Result<Vec<u8>, AllocErro
     for row in rows {
         plain::write_row(alloc, row, &mut out)?;
     }
+    Ok(out)
+}
+
+pub fn of_records(alloc: Global, rows: &[Row]) -> Result<Text, AllocError> {
+    let mut records = Recs::new(alloc);
+    for row in rows {
+        let record = rec_of(alloc, row)?;
+        if records.push(record).is_err() {
+            return Err(AllocError);
+        }
+    }
+    let mut out = Text::try_of(alloc, "of records\n")?;
+    lines(alloc, &records, &mut out)?;
     Ok(out)
 }
 

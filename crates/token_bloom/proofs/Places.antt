@@ -1,5 +1,6 @@
 -- Places without a division.
-use Rattle.std.proofs.Common.{◌≡◌, ℕ, Bool, true, false, inl, inr, ◌+◌, ◌*◌, ◌/◌, ◌%◌, ◌<◌, ◌≤◌, ◌-◌, ◌^◌, refl, sym, ap, ◌∙◌, arith}
+use Rattle.std.proofs.Common.{◌≡◌, ℕ, Bool, true, false, inl, inr, ◌+◌, ◌*◌, ◌/◌, ◌%◌, ◌<◌, ◌≤◌, ◌-◌, ◌^◌, refl, sym}
+use Rattle.std.proofs.Common.{ap, ◌∙◌, arith}
 use Rattle.std.specs.Bool.{FalseIff}
 use Rattle.std.proofs.lemmas.Bool.{cases_lt}
 use Rattle.std.proofs.lemmas.Nat.{mod-mul-add, div-add-mod', mod_below}
@@ -12,12 +13,23 @@ same : (n x y a b : ℕ) → x + a * n ≡ y + b * n → x % n ≡ y % n
 same n x y a b e = sym (add-mul-mod_self_right x a n) ∙ ap (λ (m : ℕ). m % n) e ∙ add-mul-mod_self_right y b n
 
 pub place-plain : (n s t : ℕ) → (s % n + t % n) % n ≡ (s + t) % n
-place-plain n s t = same n (s % n + t % n) (s + t) (s / n + t / n) 0 (omega (arith, div-add-mod' s n, div-add-mod' t n, add-mul (s / n) (t / n) n))
+place-plain n s t = same n (s % n + t % n) (s + t) (s / n + t / n) 0 (omega
+    (arith, div-add-mod' s n, div-add-mod' t n, add-mul (s / n) (t / n) n))
 
 pub place-over : (n s t y w : ℕ) → 0 < n → y + w ≡ s + t → (s % n + t % n + (n - w % n)) % n ≡ y % n
 place-over n s t y w lt over =
     same n (s % n + t % n + (n - w % n)) y (s / n + t / n) (w / n + 1)
-    (omega (arith, over, mod_below w n lt, div-add-mod' s n, div-add-mod' t n, div-add-mod' w n, add-mul (s / n) (t / n) n, add-mul (w / n) 1 n))
+    (omega (
+      arith,
+      over,
+      mod_below w n lt,
+      div-add-mod' s n,
+      div-add-mod' t n,
+      div-add-mod' w n,
+      add-mul (s / n)
+          (t / n) n,
+      add-mul (w / n) 1 n,
+    ))
 
 pub overflowed : {P : Type 0} (b : Bool) → b ≡ true → FalseIff b P → P → ⊥
 overflowed true e h p = h p

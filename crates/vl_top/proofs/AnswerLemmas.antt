@@ -1,31 +1,36 @@
--- The answer over one part after another.
-use Rattle.std.proofs.Common.{◌≡◌, ℕ, ℤ, zero, suc, ◌+◌, ◌<◌, List, [], ◌∷◌, ◌++◌, map, flat_map, take, drop, length, get_or, Some, true, ◌≤◌, arith, sym, ap, subst, ◌∙◌, add-one, below_more, refl}
+-- The rows that hold, over one part after another.
+use Rattle.std.proofs.Common.{◌≡◌, ℕ, ℤ, zero, suc, ◌+◌, ◌<◌, List, [], ◌∷◌, ◌++◌, map, flat_map, take, drop, length}
+use Rattle.std.specs.Prelude.{Option, Result, Ok, Err, IfOk, IfErr}
+use Rattle.std.proofs.Common.{get_or, Some, true, ◌≤◌, arith, sym, ap, subst, ◌∙◌, add-one, below_more, refl}
 use Rattle.std.proofs.lemmas.Grind.{flat_map-append}
-use Rattle.std.proofs.lemmas.List.{length-append, map-append, take-append-drop}
+use denote.Ref.{Bor}
+use Rattle.std.proofs.lemmas.Bool.{le-ltb, lt-ltb}
+use Rattle.std.proofs.lemmas.List.{length-append, length-map, take-append-drop}
 use Rattle.std.proofs.lemmas.List.Elements.{filter-append}
 use Rattle.std.proofs.lemmas.Option.{none-some}
-use Rattle.std.specs.List.{slice_get}
+use Rattle.std.specs.List.{AllByRecursion, slice_get}
+use Rattle.log_model.specs.Field.{IsFieldList}
 use Rattle.log_model.specs.History.{AreInOrder, Numbered, rows_in}
-use Rattle.log_model.specs.Print.{line_text}
 use Rattle.log_model.specs.Row.{Row, record_of}
 use Rattle.lq_ast.specs.Condition.{Condition}
-use Rattle.lq_ast.specs.Evaluation.{rows_that_hold}
+use Rattle.lq_ast.specs.Evaluation.{evaluate, piped_outcome, row_limit, rows_that_hold}
 use Rattle.lq_ast.specs.Holds.{holds}
-use Rattle.vl_top.specs.Answer.{AreLinesOf, FailsFor, WritesRows, held_in, lines_of}
+use Rattle.lq_ast.specs.Pipes.{all_piped}
+use Rattle.lq_ast.specs.PipeView.{stage}
+use Rattle.lq_ast.specs.Records.{Record}
+use Rattle.lq_ast.specs.Stage.{Stage}
+use Rattle.lq_filter.specs.Tree.{condition_of}
+use Rattle.lq_pipes.specs.Needs.{narrowed}
+use Rattle.vl_top.specs.Answer.{FailsFor, FailsOver, FailsPiped, IsAnswerOver, PrintsPiped, asked_by, held_in}
+use Rattle.vl_top.specs.declared.search.Search.{Search}
 use Rattle.vl_top.specs.declared.answer.AnswerFault.{AnswerFault}
-use Rattle.vl_top.specs.declared.answer.AnswerFault.TheVariants.{ManyRows, Memory}
-use Rattle.vl_top.specs.declared.answer.Lines.{Lines}
+use Rattle.vl_top.specs.declared.answer.AnswerFault.TheVariants.{ManyRows, Overflow, Memory}
 
 take-part : {X : Type 0} (parts : List X) (i : ℕ) (part : X) → slice_get parts i ≡ Some part → take (suc i) parts
     ≡ take i parts ++ part ∷ []
 take-part [] i part is = absurd (none-some part is)
 take-part (p ∷ ps) zero part is = let same : Some p ≡ Some part = is in cc
 take-part (p ∷ ps) (suc i) part is = ap (λ l. p ∷ l) (take-part ps i part is)
-
-pub lines-append : (rows others : List Row) → lines_of (rows ++ others) ≡ lines_of rows ++ lines_of others
-lines-append rows others =
-    ap (flat_map line_text) (map-append record_of rows others)
-    ∙ flat_map-append line_text (map record_of rows) (map record_of others)
 
 pub held-append : (condition : Condition) (now : ℤ) (rows others : List Row)
     → rows_that_hold condition now (rows ++ others)
@@ -59,24 +64,14 @@ held-part condition now parts i part is =
     ap (rows_that_hold condition now) (rows-part parts i part is)
     ∙ held-append condition now (flat_map rows_in (take i parts)) (rows_in part)
 
--- what was written, with one part more
-pub written-part : (condition : Condition) (now : ℤ) (parts : List (List Numbered)) (i : ℕ) (part : List Numbered)
-    (rows : List Row) (old new : Lines) → slice_get parts i ≡ Some part → rows ≡ rows_in part
-    → AreLinesOf old (held_in condition now (take i parts)) → WritesRows old new (rows_that_hold condition now rows)
-    → AreLinesOf new (held_in condition now (take (i + 1) parts))
-written-part condition now parts i part rows old new is same before written =
-    subst (AreLinesOf new)
-    (ap (λ rs. held_in condition now (take i parts) ++ rows_that_hold condition now rs) same
-    ∙ sym (held-part condition now parts i part is))
-    (written (held_in condition now (take i parts)) before)
-
 -- too many rows of one part more are too many of all
 pub fails-part : (condition : Condition) (now : ℤ) (parts : List (List Numbered)) (i : ℕ) (part : List Numbered)
-    (rows : List Row) (old : Lines) → slice_get parts i ≡ Some part → rows ≡ rows_in part
-    → AreLinesOf old (held_in condition now (take i parts)) → (fault : AnswerFault)
-    → FailsFor old.rows (rows_that_hold condition now rows) fault → FailsFor 0 (held_in condition now parts) fault
-fails-part condition now parts i part rows old is same before Memory h = tt
-fails-part condition now parts i part rows old is same before ManyRows h =
+    (rows before : List Row) → slice_get parts i ≡ Some part → rows ≡ rows_in part
+    → before ≡ held_in condition now (take i parts) → (fault : AnswerFault)
+    → FailsFor (before ++ rows_that_hold condition now rows) fault → FailsFor (held_in condition now parts) fault
+fails-part condition now parts i part rows before is same held Memory h = tt
+fails-part condition now parts i part rows before is same held (Overflow name) h = absurd h
+fails-part condition now parts i part rows before is same held ManyRows h =
     let all : held_in condition now parts
     ≡ held_in condition now (take (i + 1) parts)
     ++ rows_that_hold condition now (flat_map rows_in (drop (i + 1) parts)) =
@@ -86,7 +81,8 @@ fails-part condition now parts i part rows old is same before ManyRows h =
     omega (
       arith,
       h,
-      before.count,
+      ap length held,
+      length-append before (rows_that_hold condition now rows),
       ap (λ rs. length (rows_that_hold condition now rs)) same,
       ap length all,
       ap length (held-part condition now parts i part is),
@@ -94,6 +90,15 @@ fails-part condition now parts i part rows old is same before ManyRows h =
           (rows_that_hold condition now (flat_map rows_in (drop (i + 1) parts))),
       length-append (held_in condition now (take i parts)) (rows_that_hold condition now (rows_in part)),
     )
+
+-- the rows that hold of one part more, in the rows' own form
+pub held-parts : (condition : Condition) (now : ℤ) (parts : List (List Numbered)) (i : ℕ) (part : List Numbered)
+    (rows before after : List Row) → slice_get parts i ≡ Some part → rows ≡ rows_in part
+    → before ≡ held_in condition now (take i parts) → after ≡ before ++ rows_that_hold condition now rows
+    → after ≡ held_in condition now (take (i + 1) parts)
+held-parts condition now parts i part rows before after is same held pushed =
+    pushed ∙ ap (λ rs. before ++ rows_that_hold condition now rs) same
+    ∙ ap (λ b. b ++ rows_that_hold condition now (rows_in part)) held ∙ sym (held-part condition now parts i part is)
 
 -- the rows that hold among the first ones and one more, which holds too, are no more than all that hold
 module _ (condition : Condition) (now : ℤ) (rows : List Row) (k : ℕ) (row : Row) where
@@ -118,20 +123,96 @@ module _ (condition : Condition) (now : ℤ) (rows : List Row) (k : ℕ) (row : 
         ap length one,
       )
 
-  pub fails-more : (initial lines : Lines) (before : List Row) → AreLinesOf initial before
-      → WritesRows initial lines (rows_that_hold condition now (take k rows))
-      → k < length rows → row ≡ get_or rows k row → holds now condition row ≡ true → (fault : AnswerFault)
-      → FailsFor lines.rows (row ∷ []) fault → FailsFor initial.rows (rows_that_hold condition now rows) fault
-  fails-more initial lines before old written below is true_of Memory h = tt
-  fails-more initial lines before old written below is true_of ManyRows h =
+  pub fails-more : (before so_far : List Row) → so_far ≡ before ++ rows_that_hold condition now (take k rows)
+      → k < length rows → row ≡ get_or rows k row → holds now condition row ≡ true → row_limit ≤ length so_far + 1
+      → FailsFor (before ++ rows_that_hold condition now rows) ManyRows
+  fails-more before so_far is below row_is true_of many =
       omega (
         arith,
-        h,
-        held-more below is true_of,
-        old.count,
-        (written before old).count,
+        many,
+        held-more below row_is true_of,
+        ap length is,
         length-append before (rows_that_hold condition now (take k rows)),
+        length-append before (rows_that_hold condition now rows),
       )
+
+pub ok_so : {T E : Type 0} (result : Result T E) (P Q : T → Type 0) → IfOk result P → ((x : T) → P x → Q x)
+    → IfOk result Q
+ok_so (Ok x) P Q h f = f x h
+ok_so (Err e) P Q h f = tt
+
+pub err_so : {T E : Type 0} (result : Result T E) (P Q : E → Type 0) → IfErr result P → ((e : E) → P e → Q e)
+    → IfErr result Q
+err_so (Ok x) P Q h f = tt
+err_so (Err e) P Q h f = f e h
+
+map_twice : {X Y Z : Type 0} (g : Y → Z) (f : X → Y) (xs : List X) → map g (map f xs) ≡ map (λ x. g (f x)) xs
+map_twice g f [] = refl
+map_twice g f (x ∷ xs) = ap (λ ys. g (f x) ∷ ys) (map_twice g f xs)
+
+module _ (search : Search) (now : ℤ) (parts : List (List Numbered)) where
+  -- there are too many rows, or memory was wanting
+  pub fails-gathering : (fault : AnswerFault) → FailsFor (held_in (condition_of search.filter) now parts) fault
+      → FailsOver (asked_by search) now parts fault
+  fails-gathering ManyRows h = rw (le-ltb (length (held_in (condition_of search.filter) now parts)) row_limit h) refl
+  fails-gathering (Overflow name) h = absurd h
+  fails-gathering Memory h = tt
+
+  module _ (rows : List (Bor Row))
+      (held : map (λ row. row.now) rows ≡ held_in (condition_of search.filter) now parts)
+      (few : length rows < row_limit) where
+    all_piped_of : evaluate (asked_by search) now (flat_map rows_in parts)
+        ≡ piped_outcome (all_piped (map stage search.pipes) (map (λ row. record_of row.now) rows))
+    all_piped_of =
+        let held_few : length (held_in (condition_of search.filter) now parts) < row_limit =
+        omega (arith, few, ap length held, length-map rows (λ row. row.now)) in
+        rw (lt-ltb (length (held_in (condition_of search.filter) now parts)) row_limit held_few)
+        (ap (λ rs. piped_outcome (all_piped (map stage search.pipes) (map record_of rs))) (sym held)
+        ∙ ap (λ rs. piped_outcome (all_piped (map stage search.pipes) rs)) (map_twice record_of (λ row. row.now) rows))
+
+    pub answers : (text : List ℕ)
+        → PrintsPiped (map stage search.pipes) (map (λ row. record_of row.now) rows) text
+        → IsAnswerOver (asked_by search) now parts text
+    answers text (found, made, printed) =
+        record { found = found; evaluated = all_piped_of ∙ ap piped_outcome made; printed = printed }
+
+    pub fails : (fault : AnswerFault)
+        → FailsPiped (map stage search.pipes) (map (λ row. record_of row.now) rows) fault
+        → FailsOver (asked_by search) now parts fault
+    fails ManyRows h = absurd h
+    fails (Overflow name) h = all_piped_of ∙ ap piped_outcome h
+    fails Memory h = tt
+
+-- ---- records of the fields that matter
+
+rules_next : {X : Type 0} (P : Record → Type 0) (f : X → Record) (xs : List X) (i : ℕ) (x : X) → i < length xs
+    → x ≡ get_or xs i x → AllByRecursion P (map f (take i xs)) → P (f x) → AllByRecursion P (map f (take (suc i) xs))
+rules_next P f [] i x below is rules one = absurd (let none : ⊥ = omega (arith, below) in none)
+rules_next P f (y ∷ ys) zero x below is rules one = (subst (λ z. P (f z)) is one, tt)
+rules_next P f (y ∷ ys) (suc i) x below is rules one =
+    (rules.0, rules_next P f ys i x (omega (arith, below)) is rules.1 one)
+
+-- one more of them keeps the rules
+pub rules_more : {X : Type 0} (P : Record → Type 0) (f : X → Record) (xs : List X) (i : ℕ) (x : X) → i < length xs
+    → x ≡ get_or xs i x → AllByRecursion P (map f (take i xs)) → P (f x) → AllByRecursion P (map f (take (i + 1) xs))
+rules_more P f xs i x below is rules one =
+    subst (λ n. AllByRecursion P (map f (take n xs))) (sym (add-one i)) (rules_next P f xs i x below is rules one)
+
+module _ (stages : List Stage) (needs : Option (List (List ℕ))) (whole fewer : List Record)
+    (made : fewer ≡ map (narrowed needs) whole) (rules : AllByRecursion IsFieldList whole)
+    (enough : (records : List Record) → AllByRecursion IsFieldList records
+    → all_piped stages (map (narrowed needs) records) ≡ all_piped stages records) where
+  -- the pipes make of them what they make of whole ones
+  same_piped : all_piped stages fewer ≡ all_piped stages whole
+  same_piped = ap (all_piped stages) made ∙ enough whole rules
+
+  pub prints_whole : (text : List ℕ) → PrintsPiped stages fewer text → PrintsPiped stages whole text
+  prints_whole text (found, piped, printed) = (found, sym same_piped ∙ piped, printed)
+
+  pub fails_whole : (fault : AnswerFault) → FailsPiped stages fewer fault → FailsPiped stages whole fault
+  fails_whole ManyRows h = h
+  fails_whole (Overflow name) h = sym same_piped ∙ h
+  fails_whole Memory h = tt
 
 -- the first parts are in order
 abbrev pub OrderedBelow : ℕ → List (List Numbered) → Type 0

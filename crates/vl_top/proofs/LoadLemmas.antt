@@ -25,7 +25,7 @@ use Rattle.vl_io.specs.declared.transfer.ReadFault.TheVariants as faults
 use Rattle.vl_top.specs.declared.interrupt.Limit.{Limit}
 use Rattle.vl_top.specs.declared.interrupt.Limit.TheVariants.{Long, Large, Full}
 use Rattle.vl_top.specs.declared.interrupt.Interrupt.{Interrupt}
-use Rattle.vl_top.specs.declared.interrupt.Interrupt.TheVariants.{Unreadable, Unwritable, Beyond, ManyRows, NoMemory}
+use Rattle.vl_top.specs.declared.interrupt.Interrupt.TheVariants.{Unreadable, Unwritable, Beyond, NoAnswer, NoMemory}
 use Rattle.vl_top.proofs.GroupLemmas.{append_nil, AllByRecursion-more, AllZip-length, AreGroups-more, AreGroups-weaken, AreGroups-whole, AreWhole, batches-more, intake-more, outcomes-more, refusals-more}
 use Rattle.vl_top.proofs.HeldLemmas.{held_all, held_few}
 use Rattle.vl_top.proofs.LineLemmas.{length-lines_of, lines_few, lines_some}
@@ -329,7 +329,7 @@ module _ (now : ℕ) (left0 left1 left2 : Option (List ℕ)) (s0 s1 s2 : ℕ) (e
       → StopsLoad now (change left0 left2 s0 s2) (change err0 err2 f0 f2) interrupt
   unfolding begins_with begins_before begins_whole
   stops_at_group l goes_on advanced few is_group at_end Unreadable h = absurd h
-  stops_at_group l goes_on advanced few is_group at_end ManyRows h = absurd h
+  stops_at_group l goes_on advanced few is_group at_end (NoAnswer overflow) h = absurd h
   stops_at_group l goes_on advanced few is_group at_end Unwritable (group, takes, cut) =
       let before : lines ≡ length (outcomes_in l.groups) = l.open_lines goes_on in
       let held = held_group l.groups group l.held takes in

@@ -9,22 +9,22 @@ use Rattle.vl_io.proofs.Laws.{Appends-trans, Rose-earlier}
 use Rattle.log_model.specs.Core.{Contents, parts_of}
 use Rattle.log_model.specs.History.{AreInOrder, Numbered, rows_in, rows_of}
 use Rattle.log_model.specs.Row.{Row, record_of}
-use Rattle.lq_ast.specs.Condition.{Condition}
-use Rattle.lq_ast.specs.Evaluation.{evaluate, many_rows, outcome_of, records, row_limit, rows_that_hold}
-use Rattle.vl_top.specs.Answer.{FailsFor, held_in, lines_of}
+use Rattle.lq_ast.specs.Question.{Question}
+use Rattle.lq_ast.specs.Evaluation.{evaluate}
+use Rattle.vl_top.specs.Answer.{FailsOver, IsAnswerOver}
 use Rattle.vl_top.specs.declared.answer.AnswerFault.{AnswerFault}
 use Rattle.vl_top.specs.declared.answer.AnswerFault.TheVariants as answers
 use Rattle.vl_top.specs.Groups.{batches_of, refusals_of}
 use Rattle.vl_top.specs.Program as model
-use Rattle.vl_top.specs.Program.{AreFew, IsAnswer, IsTakenIn, refused_text, stop_text, too_many_rows}
+use Rattle.vl_top.specs.Program.{AreFew, IsAnswer, IsTakenIn, overflow_text, overflowing, said_of_query, stop_text}
 use Rattle.vl_top.specs.Load.{IsLoaded, StopsUntold}
-use Rattle.vl_top.specs.Interrupt.{interrupt_of, limit_of}
-use Rattle.vl_top.specs.Pipe.{EndsPipe, ReportsInterrupt, StopsPipe}
+use Rattle.vl_top.specs.Interrupt.{interrupt_of, limit_of, overflow_of}
+use Rattle.vl_top.specs.Pipe.{EndsPipe, OverflowsUntold, ReportsInterrupt, StopsPipe}
 use Rattle.vl_top.specs.Run.{IsAnswerCut, IsAnswered, IsStopped}
 use Rattle.vl_top.specs.declared.status.Status.{Status}
 use Rattle.vl_top.specs.declared.status.Status.TheVariants as statuses
 use Rattle.vl_top.specs.declared.interrupt.Interrupt.{Interrupt}
-use Rattle.vl_top.specs.declared.interrupt.Interrupt.TheVariants.{Unreadable, Unwritable, Beyond, ManyRows, NoMemory}
+use Rattle.vl_top.specs.declared.interrupt.Interrupt.TheVariants.{Unreadable, Unwritable, Beyond, NoAnswer, NoMemory}
 use Rattle.vl_top.proofs.GroupLemmas.{append_nil, AreGroups-weaken}
 use Rattle.vl_top.proofs.HeldLemmas.{held_rows}
 use Rattle.vl_top.proofs.LoadLemmas.{change}
@@ -44,14 +44,7 @@ stops_loaded now source errors shelf l = record {
   named = l.named;
 }
 
--- few rows have an answer, and too many have none
-few_rows : (rows : List Row) → length rows < row_limit → outcome_of rows ≡ records (map record_of rows)
-few_rows rows few = rw (lt-ltb (length rows) row_limit few) refl
-
-too_many : (rows : List Row) → row_limit ≤ length rows → outcome_of rows ≡ many_rows
-too_many rows many = rw (le-ltb (length rows) row_limit many) refl
-
-module _ (query : Condition) (now : ℕ) (source output errors : Change) (shelf snapshot : Contents (List Numbered)) where
+module _ (query : Question) (now : ℕ) (source output errors : Change) (shelf snapshot : Contents (List Numbered)) where
   -- what the input becomes
   taken : (l : IsLoaded now source errors shelf)
       → IsTakenIn now l.begins.taken (refusals_of l.groups) l.holding.history
@@ -79,66 +72,62 @@ module _ (query : Condition) (now : ℕ) (source output errors : Change) (shelf 
         ∙ held_rows shelf (batches_of l.groups) l.holding
         (subst (λ (s : Contents (List Numbered)). All AreInOrder (parts_of s)) same ordered)
 
-    evaluated : outcome_of (held_in query (pos now) (parts_of snapshot))
+    evaluated : evaluate query (pos now) (flat_map rows_in (parts_of snapshot))
         ≡ evaluate query (pos now) (rows_of l.holding.history)
-    evaluated = ap (λ rows. outcome_of (rows_that_hold query (pos now) rows)) all_rows
+    evaluated = ap (evaluate query (pos now)) all_rows
 
-    answer : (text : List ℕ) → length (held_in query (pos now) (parts_of snapshot)) < row_limit
-        → text ≡ lines_of (held_in query (pos now) (parts_of snapshot))
+    answer : (text : List ℕ) → IsAnswerOver query (pos now) (parts_of snapshot) text
         → IsAnswer query now l.begins.taken text (refusals_of l.groups)
-    answer text few is = record {
+    answer text is = record {
       history = l.holding.history;
       taken = taken l;
-      found = map record_of (held_in query (pos now) (parts_of snapshot));
-      evaluated = sym evaluated ∙ few_rows (held_in query (pos now) (parts_of snapshot)) few;
-      answered = is;
+      found = is.found;
+      evaluated = sym evaluated ∙ is.evaluated;
+      answered = is.printed;
     }
 
-    pub answered : (text : List ℕ) → length (held_in query (pos now) (parts_of snapshot)) < row_limit
-        → text ≡ lines_of (held_in query (pos now) (parts_of snapshot)) → Took output text
+    pub answered : (text : List ℕ) → IsAnswerOver query (pos now) (parts_of snapshot) text → Took output text
         → IsAnswered query now source output errors
-    answered text few is written = record {
+    answered text is written = record {
       input = l.begins.taken;
       answer = text;
       refusals = refusals_of l.groups;
       gave = gave_all l;
       spent = l.spent;
-      answered = answer text few is;
+      answered = answer text is;
       written = written;
       named = l.named;
     }
 
-    pub answer_cut : (text : List ℕ) → length (held_in query (pos now) (parts_of snapshot)) < row_limit
-        → text ≡ lines_of (held_in query (pos now) (parts_of snapshot)) → IsCut output [] text
+    pub answer_cut : (text : List ℕ) → IsAnswerOver query (pos now) (parts_of snapshot) text → IsCut output [] text
         → IsAnswerCut query now source output errors
-    answer_cut text few is cut = record {
+    answer_cut text is cut = record {
       input = l.begins.taken;
       answer = text;
       refusals = refusals_of l.groups;
       gave = gave_all l;
       spent = l.spent;
-      answered = answer text few is;
+      answered = answer text is;
       written = cut;
       named = l.named;
     }
 
+    untold : (cause : model.Overflow) → evaluate query (pos now) (flat_map rows_in (parts_of snapshot))
+        ≡ overflowing cause → OverflowsUntold query now source errors cause
+    untold cause is = record {
+      input = l.begins.taken;
+      refusals = refusals_of l.groups;
+      gave = gave_all l;
+      spent = l.spent;
+      overflows = record { history = l.holding.history; taken = taken l; evaluated = sym evaluated ∙ is };
+      named = l.named;
+    }
+
     -- why there is no answer
-    pub unanswered : (fault : AnswerFault) → FailsFor 0 (held_in query (pos now) (parts_of snapshot)) fault
+    pub unanswered : (fault : AnswerFault) → FailsOver query (pos now) (parts_of snapshot) fault
         → StopsPipe query now source output errors (interrupt_of fault)
-    unanswered answers.ManyRows h =
-        let many : row_limit ≤ length (held_in query (pos now) (parts_of snapshot)) = omega (arith, h) in
-        record {
-          input = l.begins.taken;
-          refusals = refusals_of l.groups;
-          gave = gave_all l;
-          spent = l.spent;
-          overflows = record {
-            history = l.holding.history;
-            taken = taken l;
-            evaluated = sym evaluated ∙ too_many (held_in query (pos now) (parts_of snapshot)) many;
-          };
-          named = l.named;
-        }
+    unanswered answers.ManyRows h = (untold model.many_rows h, stops_loaded now source errors shelf l)
+    unanswered (answers.Overflow name) h = (untold (model.total name) h, stops_loaded now source errors shelf l)
     unanswered answers.Memory h = stops_loaded now source errors shelf l
 
 module _ (now : ℕ) (source : Change) (err0 err1 err2 : Option (List ℕ)) (f0 f1 f2 : ℕ) where
@@ -174,7 +163,7 @@ module _ (now : ℕ) (source : Change) (err0 err1 err2 : Option (List ℕ)) (f0 
   }
 
   -- what an interrupt is, once it is said
-  pub reported : (query : Condition) (output : Change) (interrupt : Interrupt) (status : Status) → f0 ≤ f1
+  pub reported : (query : Question) (output : Change) (interrupt : Interrupt) (status : Status) → f0 ≤ f1
       → StopsPipe query now source output (change err0 err1 f0 f1) interrupt → ReportsInterrupt
       (change err1 err2 f1 f2) interrupt status
       → EndsPipe query now source output (change err0 err2 f0 f2) status
@@ -190,15 +179,19 @@ module _ (now : ℕ) (source : Change) (err0 err1 err2 : Option (List ℕ)) (f0 
   reported query output (Beyond limit) status stays h (inr r) =
       subst (EndsPipe query now source output (change err0 err2 f0 f2)) (sym r.0)
       (stopped model.no_memory stays (without_memory (model.beyond (limit_of limit)) h) r.1)
-  reported query output ManyRows status stays h r =
+  reported query output (NoAnswer overflow) status stays h (inl r) =
       subst (EndsPipe query now source output (change err0 err2 f0 f2)) (sym r.0)
       (record {
-        input = h.input;
-        refusals = h.refusals;
-        gave = h.gave;
-        spent = h.spent;
-        overflows = h.overflows;
-        said = told_after h.refusals (refused_text too_many_rows) stays h.named r.1;
+        input = h.0.input;
+        refusals = h.0.refusals;
+        cause = overflow_of overflow;
+        gave = h.0.gave;
+        spent = h.0.spent;
+        overflows = h.0.overflows;
+        said = told_after h.0.refusals (said_of_query (overflow_text (overflow_of overflow))) stays h.0.named r.1;
       })
+  reported query output (NoAnswer overflow) status stays h (inr r) =
+      subst (EndsPipe query now source output (change err0 err2 f0 f2)) (sym r.0)
+      (stopped model.no_memory stays h.1 r.1)
   reported query output NoMemory status stays h r =
       subst (EndsPipe query now source output (change err0 err2 f0 f2)) (sym r.0) (stopped model.no_memory stays h r.1)

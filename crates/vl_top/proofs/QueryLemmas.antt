@@ -1,16 +1,16 @@
 -- Which queries are asked.
-use Rattle.std.proofs.Common.{◌≡◌, ◌≢◌, inl, inr, ℕ, zero, suc, List, [], ◌∷◌, Result, Ok, Err, refl, subst, sym}
+use Rattle.std.proofs.Common.{◌≡◌, ◌≢◌, inl, inr, ℕ, zero, suc, List, [], ◌∷◌, ◌++◌, flat_map, Result, Ok, Err, refl, subst, sym}
 use Rattle.std.specs.Prelude.{slice_get, IsSomeAnd}
 use Rattle.std.specs.List.{AllByRecursion}
-use Rattle.lq_ast.specs.Condition.{Condition}
-use Rattle.lq_ast.specs.Patterns.{CanBeRead, Pattern, patterns_of}
+use Rattle.lq_ast.specs.Question.{Question}
+use Rattle.lq_ast.specs.Patterns.{CanBeRead, Pattern, all_patterns, patterns_of, patterns_of_stage}
 use Rattle.lq_filter.specs.Refusal.{IsRefusal}
 use Rattle.lq_filter.specs.declared.fault.PrepareFault.{PrepareFault}
 use Rattle.lq_filter.specs.declared.fault.PrepareFault.TheVariants as refusals
 use Rattle.lq_grammar.specs.Query.{IsQueryText}
 use Rattle.lq_grammar.specs.declared.fault.QueryFault.{QueryFault}
 use Rattle.lq_grammar.specs.declared.fault.QueryFault.TheVariants.{Lex, Syntax, TooDeep, BadNumber, BadTime, BadDuration}
-use Rattle.lq_grammar.specs.declared.fault.QueryFault.TheVariants.{Memory, NotBuilt}
+use Rattle.lq_grammar.specs.declared.fault.QueryFault.TheVariants.{Memory}
 use Rattle.vl_top.specs.Program.{IsNoReadableQuery}
 use Rattle.vl_top.specs.Refused.{refused_by, refused_pattern}
 use Rattle.vl_top.specs.declared.query.Refused.TheVariants.{NoMemory}
@@ -31,7 +31,6 @@ IsOther (BadNumber at) = Unit {0}
 IsOther (BadTime at) = Unit {0}
 IsOther (BadDuration at) = Unit {0}
 IsOther Memory = ⊥
-IsOther (NotBuilt at) = Unit {0}
 
 abbrev failed : (Q : Type 0) → QueryFault → Result Q QueryFault
 failed Q fault = Err fault
@@ -39,16 +38,16 @@ failed Q fault = Err fault
 abbrev made : (Q : Type 0) → Q → Result Q QueryFault
 made Q query = Ok query
 
--- what an answer is of a text that spells a query with this condition
-abbrev FindsQuery : (Q : Type 0) → Condition → QueryFault → Type 0
-FindsQuery Q c fault = (failed Q fault ≢ failed Q Memory) → failed Condition fault ≡ made Condition c
+-- what an answer is of a text that spells a query that asks this
+abbrev FindsQuery : (Q : Type 0) → Question → QueryFault → Type 0
+FindsQuery Q c fault = (failed Q fault ≢ failed Q Memory) → failed Question fault ≡ made Question c
 
-other_fault : (Q : Type 0) (c : Condition) (fault : QueryFault) → IsOther fault → FindsQuery Q c fault → ⊥
+other_fault : (Q : Type 0) (c : Question) (fault : QueryFault) → IsOther fault → FindsQuery Q c fault → ⊥
 other_fault Q c fault other finds =
     subst IsOk (sym (finds (λ same. subst (IsFault IsOther) same other))) tt
 
 -- A text that spells a query has no fault but want of memory.
-pub only_memory : (Q : Type 0) (c : Condition) (fault : QueryFault) → FindsQuery Q c fault
+pub only_memory : (Q : Type 0) (c : Question) (fault : QueryFault) → FindsQuery Q c fault
     → refused_by fault ≡ NoMemory
 only_memory Q c (Lex fault) finds = absurd (other_fault Q c (Lex fault) tt finds)
 only_memory Q c (Syntax at) finds = absurd (other_fault Q c (Syntax at) tt finds)
@@ -57,13 +56,12 @@ only_memory Q c (BadNumber at) finds = absurd (other_fault Q c (BadNumber at) tt
 only_memory Q c (BadTime at) finds = absurd (other_fault Q c (BadTime at) tt finds)
 only_memory Q c (BadDuration at) finds = absurd (other_fault Q c (BadDuration at) tt finds)
 only_memory Q c Memory finds = refl
-only_memory Q c (NotBuilt at) finds = absurd (other_fault Q c (NotBuilt at) tt finds)
 
 -- The query that was read is the one that the text spells.
-pub same_query : (Q : Type 0) (query : Q) (c other : Condition)
-    → ((made Q query ≢ failed Q Memory) → made Condition c ≡ made Condition other) → c ≡ other
+pub same_query : (Q : Type 0) (query : Q) (c other : Question)
+    → ((made Q query ≢ failed Q Memory) → made Question c ≡ made Question other) → c ≡ other
 same_query Q query c other finds =
-    let same : made Condition c ≡ made Condition other = finds (λ bad. subst IsOk bad tt) in cc
+    let same : made Question c ≡ made Question other = finds (λ bad. subst IsOk bad tt) in cc
 
 all_but_one : (patterns : List Pattern) (n : ℕ) → AllByRecursion CanBeRead patterns
     → IsSomeAnd (slice_get patterns n) (λ pattern. CanBeRead pattern → ⊥) → ⊥
@@ -78,9 +76,18 @@ only_memory_of patterns all (refusals.RegexRefused nth) refusal = absurd (all_bu
 only_memory_of patterns all refusals.Memory refusal = refl
 
 -- What a prepared query was read from is a query whose patterns can all be read.
-pub not_asked : (text : List ℕ) (c : Condition) → IsQueryText text c
-    → ((other : Condition) → IsQueryText text other → c ≡ other) → AllByRecursion CanBeRead (patterns_of c)
+pub not_asked : (text : List ℕ) (c : Question) → IsQueryText text c
+    → ((other : Question) → IsQueryText text other → c ≡ other) → AllByRecursion CanBeRead (all_patterns c)
     → IsNoReadableQuery text → ⊥
 not_asked text c spelled only all (inl none) = none c spelled
 not_asked text c spelled only all (inr (other, other_spelled, bad)) =
-    bad (subst (λ c. AllByRecursion CanBeRead (patterns_of c)) (only other other_spelled) all)
+    bad (subst (λ c. AllByRecursion CanBeRead (all_patterns c)) (only other other_spelled) all)
+
+all-behind : (xs ys : List Pattern) → AllByRecursion CanBeRead (xs ++ ys) → AllByRecursion CanBeRead ys
+all-behind [] ys all = all
+all-behind (x ∷ xs) ys all = all-behind xs ys all.1
+
+-- Where all patterns of a query can be read, those of its pipes can.
+pub readable_pipes : (asked : Question) → AllByRecursion CanBeRead (all_patterns asked)
+    → AllByRecursion CanBeRead (flat_map patterns_of_stage asked.stages)
+readable_pipes asked all = all-behind (patterns_of asked.condition) (flat_map patterns_of_stage asked.stages) all

@@ -2,12 +2,12 @@
 use Rattle.std.proofs.Common.{◌≡◌, ◌⊎◌, inl, inr, ℕ, List, Some, arith, refl, sym, subst, ap}
 use Rattle.vl_io.specs.Change.{HasFailed}
 use Rattle.vl_io.specs.Moments.{FirstTold}
-use Rattle.lq_ast.specs.Condition.{Condition}
+use Rattle.lq_ast.specs.Question.{Question}
 use Rattle.vl_top.specs.Pipe.{EndsPipe}
 use Rattle.lq_grammar.specs.Query.{IsQueryText}
 use Rattle.vl_top.specs.Program.{Refusal, command_of, no_memory, pipe, unreadable_pattern, unspelled}
 use Rattle.vl_top.specs.Refused.{Refuses, ReportsRefused}
-use Rattle.vl_top.specs.Run.{ForCommand, HasOverflown, HasStopped, IsRefused, IsUnread, Run}
+use Rattle.vl_top.specs.Run.{ForCommand, HasNoAnswer, HasStopped, IsRefused, IsUnread, Run}
 use Rattle.vl_top.specs.Status.{status_number}
 use Rattle.vl_top.specs.declared.query.Refused.{Refused}
 use Rattle.vl_top.specs.declared.query.Refused.TheVariants.{Unspelled, Pattern, NoMemory}
@@ -15,27 +15,27 @@ use Rattle.vl_top.specs.declared.status.Status.{Status}
 use Rattle.vl_top.specs.declared.status.Status.TheVariants as statuses
 
 -- the query was asked at this moment, and the run ended so
-abbrev pub Ends : Run → Condition → Status → Type 0
+abbrev pub Ends : Run → Question → Status → Type 0
 Ends run query status =
     (now : ℕ) × FirstTold run.moments_before run.moments_after now
     × EndsPipe query now run.source run.output run.errors status
 
 abbrev EndsWell : Run → ℕ → Type 0
 EndsWell run number =
-    (number ≡ 0) ⊎ (((number ≡ 1) × ForCommand run (HasOverflown run)) ⊎ ((number ≡ 8) ⊎ (number ≡ 9)))
+    (number ≡ 0) ⊎ (((number ≡ 1) × ForCommand run (HasNoAnswer run)) ⊎ ((number ≡ 8) ⊎ (number ≡ 9)))
 
-module _ (run : Run) (text : List ℕ) (query : Condition) (asked : command_of run.words ≡ Some (pipe text))
+module _ (run : Run) (text : List ℕ) (query : Question) (asked : command_of run.words ≡ Some (pipe text))
     (spelled : IsQueryText text query) where
-  pub overflown : (status : Status) → Ends run query status → status_number status ≡ 1
-      → ForCommand run (HasOverflown run)
-  overflown statuses.QueryRefused (now, first, facts) is =
+  pub without_answer : (status : Status) → Ends run query status → status_number status ≡ 1
+      → ForCommand run (HasNoAnswer run)
+  without_answer statuses.QueryRefused (now, first, facts) is =
       (pipe text, asked, record { query = query; spelled = spelled; now = now; first = first; facts = facts })
-  overflown statuses.Done ends is = absurd (let none : ⊥ = omega (arith, is) in none)
-  overflown statuses.Usage ends is = absurd (let none : ⊥ = omega (arith, is) in none)
-  overflown statuses.ReadFault ends is = absurd (let none : ⊥ = omega (arith, is) in none)
-  overflown statuses.WriteFault ends is = absurd (let none : ⊥ = omega (arith, is) in none)
-  overflown statuses.Limit ends is = absurd (let none : ⊥ = omega (arith, is) in none)
-  overflown statuses.NoMemory ends is = absurd (let none : ⊥ = omega (arith, is) in none)
+  without_answer statuses.Done ends is = absurd (let none : ⊥ = omega (arith, is) in none)
+  without_answer statuses.Usage ends is = absurd (let none : ⊥ = omega (arith, is) in none)
+  without_answer statuses.ReadFault ends is = absurd (let none : ⊥ = omega (arith, is) in none)
+  without_answer statuses.WriteFault ends is = absurd (let none : ⊥ = omega (arith, is) in none)
+  without_answer statuses.Limit ends is = absurd (let none : ⊥ = omega (arith, is) in none)
+  without_answer statuses.NoMemory ends is = absurd (let none : ⊥ = omega (arith, is) in none)
 
   pub without_memory : (status : Status) → Ends run query status → status_number status ≡ 9
       → ForCommand run (HasStopped run no_memory)
@@ -53,7 +53,7 @@ module _ (run : Run) (text : List ℕ) (query : Condition) (asked : command_of r
       → (HasFailed run.errors → ⊥) → EndsWell run (status_number status)
   all_well statuses.Done ends source output errors = inl refl
   all_well statuses.QueryRefused ends source output errors =
-      inr (inl (refl, overflown statuses.QueryRefused ends refl))
+      inr (inl (refl, without_answer statuses.QueryRefused ends refl))
   all_well statuses.Usage (now, first, facts) source output errors = absurd facts
   all_well statuses.ReadFault (now, first, facts) source output errors = absurd (source facts.behind.cause.0)
   all_well statuses.WriteFault (now, first, inl cut) source output errors = absurd (output cut.written.failed)

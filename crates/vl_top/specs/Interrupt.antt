@@ -4,15 +4,21 @@ use Rattle.vl_io.specs.declared.transfer.ReadFault.{ReadFault}
 use Rattle.vl_io.specs.declared.transfer.ReadFault.TheVariants as faults
 use Rattle.vl_top.specs.declared.answer.AnswerFault.{AnswerFault}
 use Rattle.vl_top.specs.declared.answer.AnswerFault.TheVariants as answers
+use Rattle.vl_top.specs.declared.interrupt.Overflow.{Overflow}
+use Rattle.vl_top.specs.declared.interrupt.Overflow.TheVariants.{ManyRows, Total}
 use Rattle.vl_top.specs.declared.interrupt.Limit.{Limit}
 use Rattle.vl_top.specs.declared.interrupt.Limit.TheVariants.{Long, Large, Full}
 use Rattle.vl_top.specs.declared.interrupt.Interrupt.{Interrupt}
-use Rattle.vl_top.specs.declared.interrupt.Interrupt.TheVariants.{Unreadable, Beyond, ManyRows, NoMemory}
+use Rattle.vl_top.specs.declared.interrupt.Interrupt.TheVariants.{Unreadable, Beyond, NoAnswer, NoMemory}
 
 abbrev pub limit_of : Limit → model.Limit
 limit_of Long = model.long
 limit_of (Large weight) = model.large weight
 limit_of Full = model.full
+
+abbrev pub overflow_of : Overflow → model.Overflow
+overflow_of ManyRows = model.many_rows
+overflow_of (Total name) = model.total name
 
 -- what a fault of reading means for the run
 abbrev pub interrupt_at : ReadFault → Interrupt
@@ -22,5 +28,6 @@ interrupt_at faults.Memory = NoMemory
 
 -- why there is no answer
 abbrev pub interrupt_of : AnswerFault → Interrupt
-interrupt_of answers.ManyRows = ManyRows
+interrupt_of answers.ManyRows = NoAnswer ManyRows
+interrupt_of (answers.Overflow name) = NoAnswer (Total name)
 interrupt_of answers.Memory = NoMemory

@@ -13,7 +13,7 @@ use Rattle.vl_top.specs.Interrupt.{limit_of}
 use Rattle.vl_top.specs.declared.interrupt.Limit.{Limit}
 use Rattle.vl_top.specs.declared.interrupt.Limit.TheVariants.{Long, Large, Full}
 use Rattle.vl_top.specs.declared.interrupt.Interrupt.{Interrupt}
-use Rattle.vl_top.specs.declared.interrupt.Interrupt.TheVariants.{Unreadable, Unwritable, Beyond, ManyRows, NoMemory}
+use Rattle.vl_top.specs.declared.interrupt.Interrupt.TheVariants.{Unreadable, Unwritable, Beyond, NoAnswer, NoMemory}
 
 -- The shelf stands for a history of these batches. None is settled.
 pub record IsHeld (held : Contents (List Numbered)) (batches : List Batch) : Type 0 where
@@ -33,7 +33,7 @@ abbrev pub RefusesRows : Contents (List Numbered) → List Row → Interrupt →
 RefusesRows held rows Unreadable = ⊥
 RefusesRows held rows Unwritable = ⊥
 RefusesRows held rows (Beyond limit) = IsTooMuch held rows limit
-RefusesRows held rows ManyRows = ⊥
+RefusesRows held rows (NoAnswer overflow) = ⊥
 RefusesRows held rows NoMemory = Unit {0}
 
 -- the rows became one batch more, if there were any
@@ -56,7 +56,7 @@ StopsGroup now body before old new errors Unwritable =
     (group : List Outcome) × TakesGroup now body group old new × IsCut errors [] (refusals_from (before + 1) group)
 StopsGroup now body before old new errors (Beyond limit) =
     IsUntold errors × ((group : List Outcome) × HaveOutcomes now body group × IsTooMuch old (rows_read group) limit)
-StopsGroup now body before old new errors ManyRows = ⊥
+StopsGroup now body before old new errors (NoAnswer overflow) = ⊥
 StopsGroup now body before old new errors NoMemory = IsUntold errors
 
 -- The source gave all its input, the batches of its groups are held, and its refused lines are named.
@@ -80,5 +80,5 @@ abbrev pub StopsLoad : ℕ → Change → Change → Interrupt → Type 0
 StopsLoad now source errors Unreadable = StopsUntold now source errors model.unreadable
 StopsLoad now source errors Unwritable = IsNamingFault now source errors
 StopsLoad now source errors (Beyond limit) = StopsUntold now source errors (model.beyond (limit_of limit))
-StopsLoad now source errors ManyRows = ⊥
+StopsLoad now source errors (NoAnswer overflow) = ⊥
 StopsLoad now source errors NoMemory = StopsUntold now source errors model.no_memory

@@ -1,34 +1,36 @@
 -- How a query ends.
 use Rattle.std.specs.Prelude.{◌≡◌, ◌⊎◌, ℕ, List, []}
 use Rattle.vl_io.specs.Change.{Change, Gave, IsSpent, IsTold, IsUntold, Took}
-use Rattle.lq_ast.specs.Condition.{Condition}
+use Rattle.lq_ast.specs.Question.{Question}
 use Rattle.vl_top.specs.Program as model
-use Rattle.vl_top.specs.Program.{IsOverflow, refused_text, stop_text, too_many_rows}
+use Rattle.vl_top.specs.Program.{Overflows, overflow_text, said_of_query, stop_text}
 use Rattle.vl_top.specs.Load.{StopsLoad}
-use Rattle.vl_top.specs.Interrupt.{limit_of}
-use Rattle.vl_top.specs.Run.{IsAnswerCut, IsAnswered, IsNamingCut, IsOverflown, IsStopped}
+use Rattle.vl_top.specs.Interrupt.{limit_of, overflow_of}
+use Rattle.vl_top.specs.Run.{IsAnswerCut, IsAnswered, IsNamingCut, IsStopped, IsUnanswered}
 use Rattle.vl_top.specs.declared.status.Status.{Status}
 use Rattle.vl_top.specs.declared.status.Status.TheVariants as statuses
 use Rattle.vl_top.specs.declared.interrupt.Interrupt.{Interrupt}
-use Rattle.vl_top.specs.declared.interrupt.Interrupt.TheVariants.{Unreadable, Unwritable, Beyond, ManyRows, NoMemory}
+use Rattle.vl_top.specs.declared.interrupt.Interrupt.TheVariants.{Unreadable, Unwritable, Beyond, NoAnswer, NoMemory}
 
--- The source gave an input to its end, and its refused lines are named. The query has no answer over it, and nothing is
--- said of that yet.
-pub record OverflowsUntold (query : Condition) (now : ℕ) (source errors : Change) : Type 0 where
+-- The source gave an input to its end, and its refused lines are named. The evaluation over it overflows, and nothing
+-- is said of that yet.
+pub record OverflowsUntold (query : Question) (now : ℕ) (source errors : Change) (cause : model.Overflow) : Type 0 where
   pub input : List ℕ
   pub refusals : List ℕ
   pub gave : Gave source input
   pub spent : IsSpent source
-  pub overflows : IsOverflow query now input refusals
+  pub overflows : Overflows query now input refusals cause
   pub named : Took errors refusals
 
--- why loading and answering stop, and what was written
-abbrev pub StopsPipe : Condition → ℕ → Change → Change → Change → Interrupt → Type 0
+-- Why loading and answering stop, and what was written. Where the evaluation overflows, memory may run out before that
+-- is said.
+abbrev pub StopsPipe : Question → ℕ → Change → Change → Change → Interrupt → Type 0
 StopsPipe query now source output errors Unwritable =
     IsAnswerCut query now source output errors ⊎ IsNamingCut now source output errors
 StopsPipe query now source output errors Unreadable = StopsLoad now source errors Unreadable
 StopsPipe query now source output errors (Beyond limit) = StopsLoad now source errors (Beyond limit)
-StopsPipe query now source output errors ManyRows = OverflowsUntold query now source errors
+StopsPipe query now source output errors (NoAnswer overflow) =
+    OverflowsUntold query now source errors (overflow_of overflow) × StopsLoad now source errors NoMemory
 StopsPipe query now source output errors NoMemory = StopsLoad now source errors NoMemory
 
 -- What is said of an interrupt, and the status that it gives. That a stream can't be written to is not said.
@@ -41,14 +43,15 @@ ReportsInterrupt errors Unreadable status =
 ReportsInterrupt errors (Beyond limit) status =
     ((status ≡ statuses.Limit) × IsTold errors [] (stop_text (model.beyond (limit_of limit))))
     ⊎ ((status ≡ statuses.NoMemory) × IsTold errors [] (stop_text model.no_memory))
-ReportsInterrupt errors ManyRows status =
-    (status ≡ statuses.QueryRefused) × IsTold errors [] (refused_text too_many_rows)
+ReportsInterrupt errors (NoAnswer overflow) status =
+    ((status ≡ statuses.QueryRefused) × IsTold errors [] (said_of_query (overflow_text (overflow_of overflow))))
+    ⊎ ((status ≡ statuses.NoMemory) × IsTold errors [] (stop_text model.no_memory))
 ReportsInterrupt errors NoMemory status = (status ≡ statuses.NoMemory) × IsTold errors [] (stop_text model.no_memory)
 
 -- how a query ends, by its status
-abbrev pub EndsPipe : Condition → ℕ → Change → Change → Change → Status → Type 0
+abbrev pub EndsPipe : Question → ℕ → Change → Change → Change → Status → Type 0
 EndsPipe query now source output errors statuses.Done = IsAnswered query now source output errors
-EndsPipe query now source output errors statuses.QueryRefused = IsOverflown query now source errors
+EndsPipe query now source output errors statuses.QueryRefused = IsUnanswered query now source errors
 EndsPipe query now source output errors statuses.Usage = ⊥
 EndsPipe query now source output errors statuses.ReadFault = IsStopped now source errors model.unreadable
 EndsPipe query now source output errors statuses.WriteFault =

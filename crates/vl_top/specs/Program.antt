@@ -9,9 +9,10 @@ use Rattle.log_model.specs.History.{History, batches_in, rows_of}
 use Rattle.log_model.specs.Field.{Field}
 use Rattle.log_model.specs.Print.{lines_text}
 use Rattle.log_model.specs.Row.{batch_limit, batch_weight}
-use Rattle.lq_ast.specs.Condition.{Condition}
-use Rattle.lq_ast.specs.Evaluation.{evaluate, many_rows, records}
-use Rattle.lq_ast.specs.Patterns.{CanBeRead, patterns_of}
+use Rattle.lq_ast.specs.Evaluation as evaluation
+use Rattle.lq_ast.specs.Evaluation.{evaluate, records}
+use Rattle.lq_ast.specs.Patterns.{CanBeRead, all_patterns}
+use Rattle.lq_ast.specs.Question.{Question}
 use Rattle.lq_grammar.specs.Faults.{fault_text}
 use Rattle.lq_grammar.specs.Query.{IsQueryText, QueryOf}
 use Rattle.lq_grammar.specs.declared.fault.QueryFault.{QueryFault}
@@ -43,18 +44,29 @@ pub record IsTakenIn (now : ℕ) (input refusals : List ℕ) (history : History)
   pub named : refusals ≡ refusals_of groups
 
 -- `answer` is what the query gives over the history that the input becomes.
-pub record IsAnswer (query : Condition) (now : ℕ) (input answer refusals : List ℕ) : Type 0 where
+pub record IsAnswer (query : Question) (now : ℕ) (input answer refusals : List ℕ) : Type 0 where
   pub history : History
   pub taken : IsTakenIn now input refusals history
   pub found : List (List Field)
   pub evaluated : evaluate query (pos now) (rows_of history) ≡ records found
   pub answered : answer ≡ lines_text found
 
--- The query has no answer over that history: too many of its rows hold.
-pub record IsOverflow (query : Condition) (now : ℕ) (input refusals : List ℕ) : Type 0 where
+-- why the evaluation of a query has no records
+pub data Overflow : Type 0 where
+  -- 2^32 rows hold, or more
+  many_rows : Overflow
+  -- the total of the function of `stats` with this name is no 64-bit integer
+  total : List ℕ → Overflow
+
+abbrev pub overflowing : Overflow → evaluation.Outcome
+overflowing many_rows = evaluation.many_rows
+overflowing (total name) = evaluation.overflow name
+
+-- The evaluation over that history overflows for this cause.
+pub record Overflows (query : Question) (now : ℕ) (input refusals : List ℕ) (cause : Overflow) : Type 0 where
   pub history : History
   pub taken : IsTakenIn now input refusals history
-  pub evaluated : evaluate query (pos now) (rows_of history) ≡ many_rows
+  pub evaluated : evaluate query (pos now) (rows_of history) ≡ overflowing cause
 
 -- a limit that an input may meet
 pub data Limit : Type 0 where
@@ -123,35 +135,36 @@ stop_text unreadable = codes "read fault" ++ 10 ∷ []
 stop_text (beyond limit) = limit_text limit ++ 10 ∷ []
 stop_text no_memory = codes "no memory" ++ 10 ∷ []
 
--- ---- refused queries
+-- ---- queries without an answer
 
--- why a query is not answered
+-- why a query is refused before anything is read
 pub data Refusal : Type 0 where
   -- its text spells no query
   unspelled : QueryFault → Refusal
   -- the regular expression with this number, counted from 0 in the order of the text, cannot be read
   unreadable_pattern : ℕ → Refusal
-  -- 2^32 rows hold, or more
-  too_many_rows : Refusal
 
 abbrev pub refusal_text : Refusal → List ℕ
 refusal_text (unspelled fault) = fault_text fault
 refusal_text (unreadable_pattern nth) = codes "RegexRefused number " ++ decimal nth
-refusal_text too_many_rows = codes "ManyRows"
 
--- what is said of it
-abbrev pub refused_text : Refusal → List ℕ
-refused_text refusal = codes "query: " ++ (refusal_text refusal ++ 10 ∷ [])
+abbrev pub overflow_text : Overflow → List ℕ
+overflow_text many_rows = codes "ManyRows"
+overflow_text (total name) = codes "Overflow in " ++ name
+
+-- what is said of a query that is not answered
+abbrev pub said_of_query : List ℕ → List ℕ
+said_of_query cause = codes "query: " ++ (cause ++ 10 ∷ [])
 
 -- the text spells a query whose patterns can all be read
 abbrev pub IsReadableQuery : List ℕ → Type 0
-IsReadableQuery text = (query : Condition) × IsQueryText text query × AllByRecursion CanBeRead (patterns_of query)
+IsReadableQuery text = (query : Question) × IsQueryText text query × AllByRecursion CanBeRead (all_patterns query)
 
 -- the text spells no query, or one whose patterns cannot all be read
 abbrev pub IsNoReadableQuery : List ℕ → Type 0
 IsNoReadableQuery text =
-    ((query : Condition) → IsQueryText text query → ⊥)
-    ⊎ ((query : Condition) × IsQueryText text query × (AllByRecursion CanBeRead (patterns_of query) → ⊥))
+    ((query : Question) → IsQueryText text query → ⊥)
+    ⊎ ((query : Question) × IsQueryText text query × (AllByRecursion CanBeRead (all_patterns query) → ⊥))
 
 -- the command asks for a query that cannot be asked
 abbrev pub CannotBeAsked : Command → Type 0
@@ -162,9 +175,8 @@ CannotBeAsked (pipe text) = IsNoReadableQuery text
 abbrev pub IsRefusedText : List ℕ → Refusal → Type 0
 IsRefusedText text (unspelled fault) = QueryOf text (Err fault)
 IsRefusedText text (unreadable_pattern nth) =
-    (query : Condition) × IsQueryText text query
-    × IsSomeAnd (slice_get (patterns_of query) nth) (λ pattern. CanBeRead pattern → ⊥)
-IsRefusedText text too_many_rows = ⊥
+    (query : Question) × IsQueryText text query
+    × IsSomeAnd (slice_get (all_patterns query) nth) (λ pattern. CanBeRead pattern → ⊥)
 
 abbrev pub usage_text : List ℕ
 usage_text = codes "usage: pipe, load, query, trial or serve" ++ 10 ∷ []

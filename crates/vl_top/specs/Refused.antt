@@ -5,7 +5,7 @@ use Rattle.lq_filter.specs.declared.fault.PrepareFault.{PrepareFault}
 use Rattle.lq_filter.specs.declared.fault.PrepareFault.TheVariants.{RegexRefused, Memory}
 use Rattle.lq_grammar.specs.declared.fault.QueryFault.{QueryFault}
 use Rattle.lq_grammar.specs.declared.fault.QueryFault.TheVariants as faults
-use Rattle.vl_top.specs.Program.{IsRefusedText, no_memory, refused_text, stop_text, unreadable_pattern, unspelled}
+use Rattle.vl_top.specs.Program.{IsRefusedText, no_memory, refusal_text, said_of_query, stop_text, unreadable_pattern, unspelled}
 use Rattle.vl_top.specs.declared.status.Status.{Status}
 use Rattle.vl_top.specs.declared.status.Status.TheVariants as statuses
 use Rattle.vl_top.specs.declared.query.Refused.{Refused}
@@ -19,7 +19,6 @@ refused_by (faults.BadNumber at) = Unspelled (faults.BadNumber at)
 refused_by (faults.BadTime at) = Unspelled (faults.BadTime at)
 refused_by (faults.BadDuration at) = Unspelled (faults.BadDuration at)
 refused_by faults.Memory = NoMemory
-refused_by (faults.NotBuilt at) = Unspelled (faults.NotBuilt at)
 
 abbrev pub refused_pattern : PrepareFault → Refused
 refused_pattern (RegexRefused nth) = Pattern nth
@@ -27,8 +26,8 @@ refused_pattern Memory = NoMemory
 
 -- what is said of it on the error stream
 abbrev pub said_of : Refused → List ℕ
-said_of (Unspelled fault) = refused_text (unspelled fault)
-said_of (Pattern nth) = refused_text (unreadable_pattern nth)
+said_of (Unspelled fault) = said_of_query (refusal_text (unspelled fault))
+said_of (Pattern nth) = said_of_query (refusal_text (unreadable_pattern nth))
 said_of NoMemory = stop_text no_memory
 
 -- why the text is refused; want of memory is free

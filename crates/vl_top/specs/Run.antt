@@ -3,15 +3,15 @@ use Rattle.std.specs.Prelude.{◌≡◌, ◌⊎◌, ◌↔◌, ℕ, ◌+◌, ◌
 use Rattle.vl_io.specs.Change.{Change, Gave, HasFailed, IsCut, IsSpent, IsTold, IsUntold, Took}
 use Rattle.vl_io.specs.Lines.{piece_len}
 use Rattle.vl_io.specs.Moments.{FirstTold}
-use Rattle.lq_ast.specs.Condition.{Condition}
+use Rattle.lq_ast.specs.Question.{Question}
 use Rattle.ingest_row.specs.Intake.{Outcome}
 use Rattle.vl_top.specs.Groups.{BeginsWith, CanBeHeld, outcomes_in, refusals_from, refusals_of}
 use Rattle.vl_top.specs.Status.{status_number}
 use Rattle.vl_top.specs.declared.status.Status.{Status}
 use Rattle.lq_grammar.specs.Query.{IsQueryText}
-use Rattle.vl_top.specs.Program.{CannotBeAsked, Command, pipe, IsAnswer, IsOverflow, IsReadableQuery, IsRefusedText}
-use Rattle.vl_top.specs.Program.{Limit, Refusal, Stop, StopsBehind, unreadable, beyond, no_memory, command_of}
-use Rattle.vl_top.specs.Program.{refused_text, stop_text, too_many_rows, usage_text}
+use Rattle.vl_top.specs.Program.{CannotBeAsked, Command, pipe, IsAnswer, IsReadableQuery, IsRefusedText, Overflow}
+use Rattle.vl_top.specs.Program.{Limit, Overflows, Refusal, Stop, StopsBehind, unreadable, beyond, no_memory}
+use Rattle.vl_top.specs.Program.{command_of, overflow_text, refusal_text, said_of_query, stop_text, usage_text}
 
 -- a run: what the words are, what it does to each object, what the clock gave before and after, and the status
 pub record Run : Type 0 where
@@ -25,7 +25,7 @@ pub record Run : Type 0 where
 
 -- The source gave an input to its end. The answer to it was written to the output, and its refused lines are named on
 -- the error stream.
-pub record IsAnswered (query : Condition) (now : ℕ) (source output errors : Change) : Type 0 where
+pub record IsAnswered (query : Question) (now : ℕ) (source output errors : Change) : Type 0 where
   pub input : List ℕ
   pub answer : List ℕ
   pub refusals : List ℕ
@@ -36,7 +36,7 @@ pub record IsAnswered (query : Condition) (now : ℕ) (source output errors : Ch
   pub named : Took errors refusals
 
 -- The same, but the output failed, and took a proper prefix of the answer.
-pub record IsAnswerCut (query : Condition) (now : ℕ) (source output errors : Change) : Type 0 where
+pub record IsAnswerCut (query : Question) (now : ℕ) (source output errors : Change) : Type 0 where
   pub input : List ℕ
   pub answer : List ℕ
   pub refusals : List ℕ
@@ -46,14 +46,16 @@ pub record IsAnswerCut (query : Condition) (now : ℕ) (source output errors : C
   pub written : IsCut output [] answer
   pub named : Took errors refusals
 
--- The source gave an input to its end, and its refused lines are named. The query has no answer over it, which is said.
-pub record IsOverflown (query : Condition) (now : ℕ) (source errors : Change) : Type 0 where
+-- The source gave an input to its end, and its refused lines are named. The evaluation over it overflows, which is
+-- said.
+pub record IsUnanswered (query : Question) (now : ℕ) (source errors : Change) : Type 0 where
   pub input : List ℕ
   pub refusals : List ℕ
+  pub cause : Overflow
   pub gave : Gave source input
   pub spent : IsSpent source
-  pub overflows : IsOverflow query now input refusals
-  pub said : IsTold errors refusals (refused_text too_many_rows)
+  pub overflows : Overflows query now input refusals cause
+  pub said : IsTold errors refusals (said_of_query (overflow_text cause))
 
 -- The error stream failed while the refused lines of a group were named, right after it was taken in.
 pub record IsNamingFault (now : ℕ) (source errors : Change) : Type 0 where
@@ -76,8 +78,8 @@ pub record IsStopped (now : ℕ) (source errors : Change) (stop : Stop) : Type 0
   pub said : IsTold errors (refusals_of groups) (stop_text stop)
 
 -- The text is that of a query, the clock's first reading was `now`, and for them this holds.
-pub record ForQuery (run : Run) (text : List ℕ) (holds : Condition → ℕ → Type 0) : Type 0 where
-  pub query : Condition
+pub record ForQuery (run : Run) (text : List ℕ) (holds : Question → ℕ → Type 0) : Type 0 where
+  pub query : Question
   pub spelled : IsQueryText text query
   pub now : ℕ
   pub first : FirstTold run.moments_before run.moments_after now
@@ -118,11 +120,11 @@ IsUnread source = IsUntold source × (source.faults_after ≡ source.faults_befo
 -- the command was refused before anything was read, for this cause, which is said
 abbrev pub IsRefused : Run → Refusal → Command → Type 0
 IsRefused run refusal (pipe text) =
-    IsRefusedText text refusal × IsUnread run.source × IsTold run.errors [] (refused_text refusal)
+    IsRefusedText text refusal × IsUnread run.source × IsTold run.errors [] (said_of_query (refusal_text refusal))
 
 -- the evaluation of the command's query overflows
-abbrev pub HasOverflown : Run → Command → Type 0
-HasOverflown run (pipe text) = ForQuery run text (λ query now. IsOverflown query now run.source run.errors)
+abbrev pub HasNoAnswer : Run → Command → Type 0
+HasNoAnswer run (pipe text) = ForQuery run text (λ query now. IsUnanswered query now run.source run.errors)
 
 -- memory ran out before anything was read
 abbrev pub IsUnstarted : Run → Command → Type 0
@@ -138,7 +140,7 @@ pub record IsRun (run : Run) : Type 0 where
   pub done : run.status ≡ 0 → ForCommand run (IsDone run)
   -- the query is refused before anything is read, or its evaluation overflows
   pub refused : run.status ≡ 1
-      → ((refusal : Refusal) × ForCommand run (IsRefused run refusal)) ⊎ ForCommand run (HasOverflown run)
+      → ((refusal : Refusal) × ForCommand run (IsRefused run refusal)) ⊎ ForCommand run (HasNoAnswer run)
   pub unasked : ForCommand run CannotBeAsked → (run.status ≡ 1) ⊎ (run.status ≡ 9)
   pub usage : (run.status ≡ 2) ↔ (command_of run.words ≡ None)
   pub said_usage : run.status ≡ 2 → IsTold run.errors [] usage_text
@@ -150,5 +152,5 @@ pub record IsRun (run : Run) : Type 0 where
   pub no_other : IsStatus run.status
   -- Where nothing fails, a query is answered, or overflows, or the input is beyond a limit, or memory runs out.
   pub complete : ForCommand run IsAsked → ¬ HasFailed run.source → ¬ HasFailed run.output → ¬ HasFailed run.errors
-      → (run.status ≡ 0) ⊎ (((run.status ≡ 1) × ForCommand run (HasOverflown run))
+      → (run.status ≡ 0) ⊎ (((run.status ≡ 1) × ForCommand run (HasNoAnswer run))
       ⊎ ((run.status ≡ 8) ⊎ (run.status ≡ 9)))

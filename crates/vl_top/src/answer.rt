@@ -1,27 +1,38 @@
 //! The answer to a query over what the shelf held.
-ghost use Rattle.std.specs.Prelude.{◌≡◌, ◌<◌, List, [], ◌∷◌, OnOk, IfErr, IfOk, length};
-ghost use Rattle.std.specs.List.{All};
+ghost use Rattle.std.specs.Prelude.{◌≡◌, ◌<◌, ◌++◌, OnOk, IfErr, IfOk, Ok, flat_map, length, map};
+ghost use Rattle.std.specs.List.{All, AllByRecursion};
 ghost use Rattle.log_model.specs.Core.{parts_of};
 ghost use Rattle.log_model.specs.History.{AreInOrder};
-ghost use Rattle.log_model.specs.Row.{Row as Event};
+ghost use Rattle.log_model.specs.Print.{lines_text};
+ghost use Rattle.log_model.specs.Row.{record_of};
 ghost use Rattle.lq_ast.specs.Evaluation.{row_limit, rows_that_hold};
+ghost use Rattle.lq_ast.specs.Patterns.{CanBeRead, patterns_of_stage};
+ghost use Rattle.lq_ast.specs.PipeView.{stage};
+ghost use Rattle.lq_ast.specs.Pipes.{all_piped};
 ghost use Rattle.lq_filter.specs.Tree.{condition_of, moment_of, scanned};
-ghost use Rattle.vl_top.specs.Answer.{AreLinesOf, FailsFor, WritesRows, held_in, lines_of};
+ghost use Rattle.log_model.specs.Field.{IsFieldList};
+ghost use Rattle.lq_pipes.specs.Needs.{narrowed};
+ghost use Rattle.vl_top.specs.Answer.{FailsFor, FailsOver, FailsPiped, HasReadablePipes, IsAnswerOver, PrintsPiped};
+ghost use Rattle.vl_top.specs.Answer.{asked_by, held_in};
 
+use crate::search::Search;
 use log_core::Snapshot;
+use lq_ast::Pipe;
 use lq_filter::{Prepared, Scan};
-use lq_pipes::Printer;
-use std::alloc::{AllocError, Global};
-use vl_row::{Row, RowList};
+use lq_pipes::{Needs, PipeFault, Printer, Projector, apply, lines};
+use std::alloc::{AllocError, AllocFailed, Global};
+use vl_row::{Recs, Row, RowList, Text};
 
 /// How many rows are too many for an answer.
-const ROW_LIMIT: u64 = 4_294_967_296;
+const ROW_LIMIT: usize = 4_294_967_296;
 
 /// Why there is no answer.
-#[derive(Clone, Copy, Debug, PartialEq, Eq)]
+#[derive(Drop)]
 pub enum AnswerFault {
     /// Too many rows hold.
     ManyRows,
+    /// The total of the function with this name is no 64-bit integer.
+    Overflow { name: Text },
     /// Memory ran out.
     Memory,
 }
@@ -36,46 +47,32 @@ impl From<AllocError> for AnswerFault {
     }
 }
 
-/// The lines of the rows that held so far, and how many these are.
-#[derive(Drop)]
-struct Lines {
-    text: Vec<u8>,
-    rows: u64,
-}
+impl<T: Drop> From<AllocFailed<T>> for AnswerFault {
+    ghost use Rattle.vl_top.specs.declared.answer.AnswerFault.TheVariants.{Memory};
 
-impl Lines {
-    fn new(alloc: Global) -> Lines
-        ensures { AreLinesOf result [] }
-    {
-        Lines {
-            text: Vec::new(alloc),
-            rows: 0,
-        }
+    ghost from_gives = { λ _ fault. fault ≡ Memory };
+
+    fn from(_: AllocFailed<T>) -> AnswerFault {
+        AnswerFault::Memory
     }
 }
 
-/// The lines of those rows that hold at the moment `now`, over all parts in their order.
-pub fn snapshot_lines(
+/// The lines of the records that the pipes make of those rows that hold at the moment `now`, over all parts in their
+/// order.
+pub fn answer(
     alloc: Global,
-    query: &Prepared,
+    search: &Search,
     now: i64,
     snapshot: &Snapshot<RowList>,
-) -> Result<Vec<u8>, AnswerFault>
-    ensures lines { IfOk result (λ text. text.items
-        ≡ lines_of (held_in (condition_of query.now) now (parts_of snapshot.now))) }
-    ensures few { OnOk result (length (held_in (condition_of query.now) now (parts_of snapshot.now)) < row_limit) }
-    ensures fault { IfErr result (FailsFor 0 (held_in (condition_of query.now) now (parts_of snapshot.now))) }
+) -> Result<Text, AnswerFault>
+    requires { HasReadablePipes search.now }
+    ensures answered { IfOk result (IsAnswerOver (asked_by search.now) now (parts_of snapshot.now)) }
+    ensures fault { IfErr result (FailsOver (asked_by search.now) now (parts_of snapshot.now)) }
     ensures order { All AreInOrder (parts_of snapshot.now) }
 {
     order_law(snapshot);
-    let mut printer = Printer::new(alloc)?;
-    let mut scan = query.scan(alloc, now);
-    let mut lines = Lines::new(alloc);
-    for i in 0..snapshot.len() {
-        let rows = snapshot.part(i).as_slice();
-        push_lines(alloc, &mut scan, rows, &mut printer, &mut lines)?;
-    }
-    Ok(lines.text)
+    let rows = held_rows(alloc, &search.filter, now, snapshot)?;
+    piped_lines(alloc, search.pipes.as_slice(), rows.as_slice())
 }
 
 /// That the rows of each part stand in their order. It does nothing: its contract is the law.
@@ -87,46 +84,118 @@ fn order_law(snapshot: &Snapshot<RowList>)
     }
 }
 
-/// Appends the lines of those rows that hold, in their order.
-fn push_lines(
+/// The rows that hold at the moment `now`, over all parts in their order.
+fn held_rows<'s>(
     alloc: Global,
+    filter: &Prepared,
+    now: i64,
+    snapshot: &'s Snapshot<RowList>,
+) -> Result<Vec<&'s Row>, AnswerFault>
+    ensures rows { IfOk result (λ rows. map (λ row. row.now) rows.items
+        ≡ held_in (condition_of filter.now) now (parts_of snapshot.now)) }
+    ensures few { IfOk result (λ rows. length rows.items < row_limit) }
+    ensures fault { IfErr result (FailsFor (held_in (condition_of filter.now) now (parts_of snapshot.now))) }
+{
+    let mut scan = filter.scan(alloc, now);
+    let mut held = Vec::new(alloc);
+    for i in 0..snapshot.len() {
+        push_rows(&mut scan, snapshot.part(i).as_slice(), &mut held)?;
+    }
+    Ok(held)
+}
+
+/// Appends those rows that hold, in their order.
+fn push_rows<'s>(
     scan: &mut Scan<'_>,
-    rows: &[Row],
-    printer: &mut Printer,
-    lines: &mut Lines,
+    rows: &'s [Row],
+    held: &mut Vec<&'s Row>,
 ) -> Result<(), AnswerFault>
-    requires { (before : List Event) × AreLinesOf lines.old before }
-    ensures written { OnOk result (WritesRows lines.old lines.new
-        (rows_that_hold (scanned scan.old) (moment_of scan.old) rows.now)) }
-    ensures fault { IfErr result (FailsFor lines.old.rows
-        (rows_that_hold (scanned scan.old) (moment_of scan.old) rows.now)) }
+    requires { length held.old.items < row_limit }
+    ensures pushed { OnOk result (map (λ row. row.now) held.new.items ≡ map (λ row. row.now) held.old.items
+        ++ rows_that_hold (scanned scan.old) (moment_of scan.old) rows.now) }
+    ensures few { length held.new.items < row_limit }
+    ensures fault { IfErr result (FailsFor (map (λ row. row.now) held.old.items
+        ++ rows_that_hold (scanned scan.old) (moment_of scan.old) rows.now)) }
     ensures filter { scanned scan.new ≡ scanned scan.old }
     ensures moment { moment_of scan.new ≡ moment_of scan.old }
 {
     for row in rows {
         if scan.holds(row)? {
-            push_line(alloc, row, printer, lines)?;
+            if held.len() + 1 == ROW_LIMIT {
+                return Err(AnswerFault::ManyRows);
+            }
+            held.push(row)?;
         }
     }
     Ok(())
 }
 
-/// Appends the line of a row.
-fn push_line(
-    alloc: Global,
-    row: &Row,
-    printer: &mut Printer,
-    lines: &mut Lines,
-) -> Result<(), AnswerFault>
-    requires { (before : List Event) × AreLinesOf lines.old before }
-    ensures written { OnOk result (WritesRows lines.old lines.new (row.now ∷ [])) }
-    ensures fault { IfErr result (FailsFor lines.old.rows (row.now ∷ [])) }
+/// The lines of what the pipes make of the records of these rows.
+fn piped_lines(alloc: Global, pipes: &[Pipe], rows: &[&Row]) -> Result<Text, AnswerFault>
+    requires few { length rows.now < row_limit }
+    requires readable { AllByRecursion CanBeRead (flat_map patterns_of_stage (map stage pipes.now)) }
+    ensures made { IfOk result (PrintsPiped (map stage pipes.now) (map (λ row. record_of row.now) rows.now)) }
+    ensures fault { IfErr result (FailsPiped (map stage pipes.now) (map (λ row. record_of row.now) rows.now)) }
 {
-    let rows = lines.rows + 1;
-    if rows == ROW_LIMIT {
-        return Err(AnswerFault::ManyRows);
+    if pipes.is_empty() {
+        return Ok(lines_of(alloc, rows)?);
     }
-    printer.write_row(alloc, row, &mut lines.text)?;
-    lines.rows = rows;
-    Ok(())
+    let needs = Needs::of(alloc, pipes)?;
+    let records = records(alloc, rows, &needs)?;
+    made_lines(alloc, pipes, records)
+}
+
+/// The lines of the records of these rows, which are printed without being made.
+fn lines_of(alloc: Global, rows: &[&Row]) -> Result<Text, AllocError>
+    ensures { IfOk result (λ text. text ≡ lines_text (map (λ row. record_of row.now) rows.now)) }
+{
+    let mut printer = Printer::new(alloc)?;
+    let mut text = Text::new();
+    for row in rows {
+        printer.write_row(alloc, row, &mut text)?;
+    }
+    Ok(text)
+}
+
+/// The records of these rows, with those of their fields that matter.
+fn records(alloc: Global, rows: &[&Row], needs: &Needs) -> Result<Recs, AllocError>
+    ensures made { IfOk result (λ records. records
+        ≡ map (narrowed needs.now) (map (λ row. record_of row.now) rows.now)) }
+    ensures rules { IfOk result (λ _. AllByRecursion IsFieldList (map (λ row. record_of row.now) rows.now)) }
+{
+    let mut projector = Projector::new(alloc, needs)?;
+    let mut records = Vec::with_capacity(alloc, rows.len())?;
+    for row in rows {
+        let fields = projector.record(alloc, row)?;
+        records.push(fields)?;
+    }
+    Ok(Recs::of(records))
+}
+
+/// The lines of what the pipes make of these records.
+fn made_lines(alloc: Global, pipes: &[Pipe], records: Recs) -> Result<Text, AnswerFault>
+    requires few { length records < row_limit }
+    requires readable { AllByRecursion CanBeRead (flat_map patterns_of_stage (map stage pipes.now)) }
+    ensures made { IfOk result (PrintsPiped (map stage pipes.now) records) }
+    ensures fault { IfErr result (FailsPiped (map stage pipes.now) records) }
+{
+    let made = made_of(alloc, pipes, records)?;
+    let mut text = Text::new();
+    lines(alloc, &made, &mut text)?;
+    Ok(text)
+}
+
+/// What the pipes make of these records.
+fn made_of(alloc: Global, pipes: &[Pipe], records: Recs) -> Result<Recs, AnswerFault>
+    requires few { length records < row_limit }
+    requires readable { AllByRecursion CanBeRead (flat_map patterns_of_stage (map stage pipes.now)) }
+    ensures made { IfOk result (λ made. all_piped (map stage pipes.now) records ≡ Ok made) }
+    ensures fault { IfErr result (FailsPiped (map stage pipes.now) records) }
+{
+    match apply(alloc, pipes, records) {
+        Ok(made) => Ok(made),
+        Err(PipeFault::RegexRefused { .. }) => unreachable!(),
+        Err(PipeFault::Overflow { name }) => Err(AnswerFault::Overflow { name }),
+        Err(PipeFault::Memory) => Err(AnswerFault::Memory),
+    }
 }

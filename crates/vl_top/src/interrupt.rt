@@ -1,9 +1,10 @@
 ghost use Rattle.std.specs.Prelude.{◌≡◌, ◌++◌, ◌∷◌, [], IfOk, string_bytes};
-ghost use Rattle.vl_top.specs.Program.{limit_text};
+ghost use Rattle.vl_top.specs.Program.{limit_text, overflow_text, said_of_query};
 
 use crate::answer::AnswerFault;
 use std::alloc::{AllocError, Global};
 use vl_io::ReadFault;
+use vl_row::Text;
 
 /// A limit that an input may meet.
 #[derive(Clone, Copy, Debug, PartialEq, Eq)]
@@ -31,8 +32,34 @@ impl Limit {
     }
 }
 
+/// Why the evaluation of a query has no records.
+#[derive(Drop)]
+pub enum Overflow {
+    /// 2^32 rows hold, or more.
+    ManyRows,
+    /// The total of the function of `stats` with this name is no 64-bit integer.
+    Total(Text),
+}
+
+impl Overflow {
+    ghost use Rattle.vl_top.specs.Interrupt.{overflow_of};
+
+    /// What is said of it on the error stream.
+    pub fn text(&self, alloc: Global) -> Result<String, AllocError>
+        ensures { IfOk result (λ text. string_bytes text ≡ said_of_query (overflow_text (overflow_of self.now))) }
+    {
+        match self {
+            Overflow::ManyRows => String::from_str(alloc, "query: ManyRows\n"),
+            Overflow::Total(name) => {
+                let name = name.as_str();
+                format!(in alloc; "query: Overflow in {name}\n")
+            }
+        }
+    }
+}
+
 /// Why a run ends before all is done.
-#[derive(Clone, Copy, Debug, PartialEq, Eq)]
+#[derive(Drop)]
 pub enum Interrupt {
     /// The source failed.
     Unreadable,
@@ -40,8 +67,8 @@ pub enum Interrupt {
     Unwritable,
     /// The input met a limit.
     Beyond(Limit),
-    /// Too many rows hold for the query.
-    ManyRows,
+    /// The evaluation of the query overflows.
+    NoAnswer(Overflow),
     /// Memory ran out.
     NoMemory,
 }
@@ -77,7 +104,8 @@ impl From<AnswerFault> for Interrupt {
 
     fn from(fault: AnswerFault) -> Interrupt {
         match fault {
-            AnswerFault::ManyRows => Interrupt::ManyRows,
+            AnswerFault::ManyRows => Interrupt::NoAnswer(Overflow::ManyRows),
+            AnswerFault::Overflow { name } => Interrupt::NoAnswer(Overflow::Total(name)),
             AnswerFault::Memory => Interrupt::NoMemory,
         }
     }

@@ -13,6 +13,7 @@ mod load;
 mod pipe;
 mod query;
 mod report;
+mod search;
 mod status;
 
 use command::query_text;
@@ -25,8 +26,8 @@ use vl_io::{Clock, Sink, Source};
 
 /// Does what the words ask for, and answers the status that the process ends with.
 ///
-/// `pipe QUERY` reads the query, then the source to its end in groups of 1,000 lines, and writes the lines of the rows
-/// that hold.
+/// `pipe QUERY` reads the query, then the source to its end in groups of 1,000 lines, and writes the lines of the
+/// records that its pipes make of the rows that hold.
 pub fn run<R: AllocGlobal, S: Source, O: Sink, E: Sink, C: Clock>(
     rt: &R,
     words: &[&str],
@@ -57,7 +58,7 @@ pub fn run<R: AllocGlobal, S: Source, O: Sink, E: Sink, C: Clock>(
     };
     let alloc = rt.alloc();
     match read_query(alloc, text) {
-        Ok(query) => answer_query(alloc, &query, src, out, err, clock).number(),
+        Ok(search) => answer_query(alloc, &search, src, out, err, clock).number(),
         Err(refused) => report_refused(alloc, refused, err).number(),
     }
 }

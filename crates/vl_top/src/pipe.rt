@@ -3,35 +3,36 @@ ghost use Rattle.std.specs.Prelude.{◌≡◌, ◌≢◌, ◌≤◌, ◌≤ℤ�
 ghost use Rattle.vl_io.specs.Change.{change_of};
 ghost use Rattle.vl_io.specs.Moments.{FirstTold};
 ghost use Rattle.vl_top.specs.Pipe.{EndsPipe, StopsPipe};
-ghost use Rattle.lq_filter.specs.Tree.{condition_of};
+ghost use Rattle.vl_top.specs.Answer.{HasReadablePipes, asked_by};
 ghost use Rattle.vl_top.specs.Run.{IsAnswered};
 
-use crate::answer::snapshot_lines;
+use crate::answer::answer;
 use crate::interrupt::Interrupt;
 use crate::load::load;
 use crate::report::report_interrupt;
+use crate::search::Search;
 use crate::status::Status;
 use log_core::Shelf;
-use lq_filter::Prepared;
 use std::alloc::Global;
 use vl_io::{Clock, Failed, Sink, Source, put_all};
 
 /// Loads the input and writes the answer, or says why not.
 pub fn answer_query<S: Source, O: Sink, E: Sink, C: Clock>(
     alloc: Global,
-    query: &Prepared,
+    search: &Search,
     src: &mut S,
     out: &mut O,
     err: &mut E,
     clock: &mut C,
 ) -> Status
+    requires { HasReadablePipes search.now }
     ensures ends { (now : ℕ) × FirstTold (C.moments clock.old) (C.moments clock.new) now
-        × EndsPipe (condition_of query.now) now (change_of S.left S.faults src.old src.new)
+        × EndsPipe (asked_by search.now) now (change_of S.left S.faults src.old src.new)
         (change_of O.written O.faults out.old out.new) (change_of E.written E.faults err.old err.new) result }
     ensures untouched { result ≢ Status.Done → result ≢ Status.WriteFault → out.new ≡ out.old }
 {
     let now = clock.now();
-    match pipe(alloc, query, now, src, out, err) {
+    match pipe(alloc, search, now, src, out, err) {
         Ok(()) => Status::Done,
         Err(interrupt) => report_interrupt(alloc, interrupt, err),
     }
@@ -40,17 +41,18 @@ pub fn answer_query<S: Source, O: Sink, E: Sink, C: Clock>(
 /// Loads the input, and writes the answer.
 fn pipe<S: Source, O: Sink, E: Sink>(
     alloc: Global,
-    query: &Prepared,
+    search: &Search,
     now: i64,
     src: &mut S,
     out: &mut O,
     err: &mut E,
 ) -> Result<(), Interrupt>
-    requires { pos 0 ≤ℤ now }
-    ensures done { OnOk result (IsAnswered (condition_of query.now) (unsigned_abs now)
+    requires readable { HasReadablePipes search.now }
+    requires moment { pos 0 ≤ℤ now }
+    ensures done { OnOk result (IsAnswered (asked_by search.now) (unsigned_abs now)
         (change_of S.left S.faults src.old src.new) (change_of O.written O.faults out.old out.new)
         (change_of E.written E.faults err.old err.new)) }
-    ensures stopped { IfErr result (StopsPipe (condition_of query.now) (unsigned_abs now)
+    ensures stopped { IfErr result (StopsPipe (asked_by search.now) (unsigned_abs now)
         (change_of S.left S.faults src.old src.new) (change_of O.written O.faults out.old out.new)
         (change_of E.written E.faults err.old err.new)) }
     ensures untouched { IfErr result (λ interrupt. interrupt ≢ Interrupt.Unwritable → out.new ≡ out.old) }
@@ -58,8 +60,8 @@ fn pipe<S: Source, O: Sink, E: Sink>(
 {
     let mut shelf = Shelf::fresh(alloc)?;
     load(alloc, now, src, err, &mut shelf)?;
-    let lines = snapshot_lines(alloc, query, now, &shelf.look()?)?;
-    match put_all(out, lines.as_slice()) {
+    let text = answer(alloc, search, now, &shelf.look()?)?;
+    match put_all(out, text.as_str().as_bytes()) {
         Ok(()) => Ok(()),
         Err(Failed) => Err(Interrupt::Unwritable),
     }

@@ -1,12 +1,13 @@
 //! Queries, read and prepared.
 ghost use Rattle.std.specs.Prelude.{◌≡◌, IfErr, IfOk, IsErr, string_bytes};
-ghost use Rattle.lq_filter.specs.Tree.{condition_of};
 ghost use Rattle.lq_grammar.specs.Query.{IsQueryText};
+ghost use Rattle.vl_top.specs.Answer.{HasReadablePipes, asked_by};
 ghost use Rattle.vl_top.specs.Program.{IsNoReadableQuery, IsReadableQuery};
 ghost use Rattle.vl_top.specs.Refused.{Refuses, said_of};
 ghost use Rattle.vl_top.specs.declared.query.Refused.TheVariants.{NoMemory};
 
-use lq_filter::{PrepareFault, Prepared, prepare};
+use crate::search::Search;
+use lq_filter::{PrepareFault, prepare};
 use lq_parse::{QueryFault, parse};
 use std::alloc::{AllocError, Global};
 
@@ -61,8 +62,9 @@ impl Refused {
 }
 
 /// Reads the text and prepares its query, all of its patterns too. Want of memory is free.
-pub fn read_query(alloc: Global, text: &str) -> Result<Prepared, Refused>
-    ensures read { IfOk result (λ query. IsQueryText text.now (condition_of query)) }
+pub fn read_query(alloc: Global, text: &str) -> Result<Search, Refused>
+    ensures read { IfOk result (λ search. IsQueryText text.now (asked_by search)) }
+    ensures pipes { IfOk result HasReadablePipes }
     ensures refused { IfErr result (Refuses text.now) }
 
     // A query is refused where it cannot be asked. It is asked where it can, unless memory runs out.
@@ -70,6 +72,9 @@ pub fn read_query(alloc: Global, text: &str) -> Result<Prepared, Refused>
     ensures readable { IsReadableQuery text.now → IfErr result (λ refused. refused ≡ NoMemory) }
 {
     let query = parse(alloc, text)?;
-    let prepared = prepare(alloc, &query)?;
-    Ok(prepared)
+    let filter = prepare(alloc, &query)?;
+    Ok(Search {
+        filter,
+        pipes: query.pipes,
+    })
 }

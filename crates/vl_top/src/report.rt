@@ -63,10 +63,13 @@ pub fn report_interrupt<E: Sink>(alloc: Global, interrupt: Interrupt, err: &mut 
             }
             Err(_) => report_no_memory(err),
         },
-        Interrupt::ManyRows => {
-            say(err, "query: ManyRows\n");
-            Status::QueryRefused
-        }
+        Interrupt::NoAnswer(overflow) => match overflow.text(alloc) {
+            Ok(text) => {
+                say(err, text.as_str());
+                Status::QueryRefused
+            }
+            Err(_) => report_no_memory(err),
+        },
         Interrupt::NoMemory => report_no_memory(err),
     }
 }

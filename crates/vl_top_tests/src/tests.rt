@@ -6,13 +6,13 @@ use vl_top::run;
 
 /// Which calls of each object fail, counted from 0.
 #[derive(Clone, Copy)]
-struct Failing<'a> {
+pub(crate) struct Failing<'a> {
     reads: &'a [u64],
     answers: &'a [u64],
     reports: &'a [u64],
 }
 
-const NONE: Failing<'static> = Failing {
+pub(crate) const NONE: Failing<'static> = Failing {
     reads: &[],
     answers: &[],
     reports: &[],
@@ -20,15 +20,15 @@ const NONE: Failing<'static> = Failing {
 
 /// How a run is to end: its status, its output and its error text.
 #[derive(Clone, Copy)]
-struct Wanted<'a> {
-    status: u8,
-    out: &'a str,
-    err: &'a str,
+pub(crate) struct Wanted<'a> {
+    pub(crate) status: u8,
+    pub(crate) out: &'a str,
+    pub(crate) err: &'a str,
 }
 
 /// Whether a run ends so, on a clock that stands at 5 ns, and then at 7, and a source that gives its input in small
 /// pieces first.
-fn ends(
+pub(crate) fn ends(
     rt: &HostRuntime,
     words: &[&str],
     input: &[u8],
@@ -94,7 +94,14 @@ const REFUSED: &[(&str, &str)] = &[
     ("x:", "Syntax at 2"),
     ("\"abc", "OpenQuote at 0"),
     ("\u{301}", "BadChar at 0"),
-    ("a | stats by (x)", "NotBuilt at 2"),
+    ("a | stats by (x)", "Syntax at 16"),
+    ("* | limit x", "BadNumber at 10"),
+    ("* | stats by (_time:5q) count()", "BadDuration at 20"),
+    ("~\"a\" | filter x:~\"(\"", "RegexRefused number 1"),
+    (
+        "* | stats count() if (x:~\"(\") as n",
+        "RegexRefused number 0",
+    ),
     ("x:>1.5", "BadNumber at 3"),
     ("_time:5q", "BadTime at 6"),
     ("_time:99999999999999w", "BadDuration at 6"),
@@ -198,6 +205,133 @@ fn a_query_selects_rows(rt: HostRuntime) -> Result<(), Fail> {
     for (query, messages) in SELECTED {
         assert!(rt; selects(&rt, query, messages)?, "{query}");
     }
+    Ok(())
+}
+
+/// A query with pipes over `FOUR`, and its answer.
+const PIPED: &[(&str, &str)] = &[
+    (
+        "* | stats count() as n, count() if (a) as m",
+        "{\"m\":\"2\",\"n\":\"4\"}\n",
+    ),
+    (
+        "a | fields _msg | sort by (_msg) desc",
+        "{\"_msg\":\"c a\"}\n{\"_msg\":\"a\"}\n",
+    ),
+    (
+        "* | filter c | rename _msg as text | fields text",
+        "{\"text\":\"c a\"}\n{\"text\":\"b c\"}\n",
+    ),
+    ("* | top 1 by (_msg)", "{\"_msg\":\"a\",\"hits\":\"1\"}\n"),
+    (
+        "* | uniq by (_time) with hits",
+        "{\"_time\":\"1970-01-01T00:00:00.000000005Z\",\"hits\":\"4\"}\n",
+    ),
+    (
+        "* | stats by (_time:1ns) min(_msg) as low, max(_msg)",
+        "{\"_time\":\"1970-01-01T00:00:00.000000005Z\",\"low\":\"a\",\"max(_msg)\":\"c a\"}\n",
+    ),
+    (
+        "* | offset 1 | limit 1 | delete _stream, _stream_id, _time",
+        "{\"_msg\":\"b\"}\n",
+    ),
+    ("* | copy _msg m | fields m, x | limit 1", "{\"m\":\"a\"}\n"),
+    (
+        "* | delete _msg | limit 1",
+        "{\"_stream\":\"{}\",\"_stream_id\":\"44136fa355b3678a1146ad16f7e8649e\",\
+        \"_time\":\"1970-01-01T00:00:00.000000005Z\"}\n",
+    ),
+    ("* | fields x", "{}\n{}\n{}\n{}\n"),
+    ("* | limit 0", ""),
+    ("nothing | stats count()", "{\"count()\":\"0\"}\n"),
+    ("nothing | stats by (x) count()", ""),
+];
+
+#[test]
+fn pipes_make_other_records(rt: HostRuntime) -> Result<(), Fail> {
+    for (query, out) in PIPED {
+        let wanted = Wanted {
+            status: 0,
+            out,
+            err: "",
+        };
+        assert!(rt;
+            ends(&rt, &["pipe", query], FOUR.as_bytes(), NONE, wanted)?,
+            "{query}"
+        );
+    }
+    Ok(())
+}
+
+const NUMBERS: &str = "{\"app\":\"a\",\"n\":9223372036854775807}\nx\n{\"app\":\"a\",\"n\":1}\n\
+    {\"app\":\"b\",\"n\":2}\n";
+
+/// A query over `NUMBERS`, and how it ends: its status, its answer, and its error text.
+const SUMMED: &[(&str, u8, &str, &str)] = &[
+    (
+        "* | stats by (app) sum(n) as s",
+        1,
+        "",
+        "line 2: NotObject\nquery: Overflow in s\n",
+    ),
+    (
+        "* | stats sum(n) | limit 0",
+        1,
+        "",
+        "line 2: NotObject\nquery: Overflow in sum(n)\n",
+    ),
+    (
+        "* | limit 1 | stats sum(n) as s",
+        0,
+        "{\"s\":\"9223372036854775807\"}\n",
+        "line 2: NotObject\n",
+    ),
+    (
+        "app:b | stats sum(n) as s",
+        0,
+        "{\"s\":\"2\"}\n",
+        "line 2: NotObject\n",
+    ),
+];
+
+#[test]
+fn a_total_that_is_no_integer_is_told_behind_the_refused_lines(
+    rt: HostRuntime,
+) -> Result<(), Fail> {
+    for (query, status, out, err) in SUMMED {
+        let wanted = Wanted {
+            status: *status,
+            out,
+            err,
+        };
+        assert!(rt;
+            ends(&rt, &["pipe", query], NUMBERS.as_bytes(), NONE, wanted)?,
+            "{query}"
+        );
+    }
+    Ok(())
+}
+
+#[test]
+fn an_overflow_that_cannot_be_told_changes_no_status(rt: HostRuntime) -> Result<(), Fail> {
+    let failing = Failing {
+        reports: &[1],
+        ..NONE
+    };
+    let untold = Wanted {
+        status: 1,
+        out: "",
+        err: "line 2: NotObject\n",
+    };
+    assert!(rt;
+        ends(
+            &rt,
+            &["pipe", "* | stats sum(n)"],
+            NUMBERS.as_bytes(),
+            failing,
+            untold
+        )?
+    );
     Ok(())
 }
 

@@ -1,9 +1,11 @@
 pub mod Ascii
 pub mod Finds
+pub mod FirstPlace
 pub mod LastChar
 pub mod Occurrences
 pub mod OneOfWords
 pub mod Places
 pub mod Rest
+pub mod Standing
 pub mod WordLists
 pub mod WordRuns

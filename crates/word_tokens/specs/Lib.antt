@@ -1,2 +1,3 @@
 pub mod Prefix
 pub mod Runs
+pub mod Search

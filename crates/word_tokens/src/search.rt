@@ -1,17 +1,17 @@
 // The search for a phrase or a prefix: its bytes are found first, and only where they stand are the characters
 // beside them looked at.
-ghost use Rattle.std.specs.Prelude.{◌≡◌, ◌<◌, ◌≤◌, ℕ, List, length, chars};
-ghost use Rattle.std.specs.Str.{IsCharBoundary, IsUtf8};
-ghost use Rattle.memchr.specs.Find.{FindsNeedle};
-ghost use Rattle.log_model.specs.Words.{begins_word as begins_word_of, ends_word as ends_word_of, occurs};
-ghost use Rattle.word_tokens.specs.Prefix.{IsSought, has_boundaries as has_boundaries_of, occurs_as_prefix};
-ghost use Rattle.word_tokens.specs.Prefix.{occurs_between};
+ghost use Rattle.std.specs.Prelude.{◌≡◌, ◌==◌, ◌<◌, ◌≤◌, ◌+◌, ℕ, List, length, chars, IfOk, IfSome};
+ghost use Rattle.memchr.specs.Find.{FindsNeedle, OccursAt};
+ghost use Rattle.log_model.specs.Words.{begins_word as begins_word_of, ends_word as ends_word_of, occurs, stands_at};
+ghost use Rattle.word_tokens.specs.Prefix.{IsSought, occurs_as_prefix};
+ghost use Rattle.word_tokens.specs.Search.{FindsFirst, stands_apart_at};
 
 use crate::is_word;
 use memchr::memmem;
+use std::alloc::{AllocError, Global};
 use std::marker::Model;
 
-/// A search for one phrase or prefix, made once and asked of many texts. It takes no memory.
+/// A search for one phrase or prefix, made once and asked of many texts.
 #[derive(Drop)]
 pub struct Finder<'n> {
     bytes: memmem::Finder<'n>,
@@ -29,9 +29,8 @@ impl<'n> Model for Finder<'n> {
 }
 
 impl<'n> Finder<'n> {
-    /// The search for this text, which is not empty.
+    /// The search for this text. It takes no memory.
     pub fn new(needle: &'n str) -> Finder<'n>
-        requires { 0 < length needle.now }
         ensures { result ≡ needle.now }
     {
         Finder {
@@ -41,46 +40,85 @@ impl<'n> Finder<'n> {
         }
     }
 
+    /// The same search, with a text of its own.
+    pub fn into_owned(self, alloc: Global) -> Result<Finder<'static>, AllocError>
+        ensures { IfOk result (λ finder. finder ≡ self.entry) }
+    {
+        Ok(Finder {
+            bytes: self.bytes.into_owned(alloc)?,
+            begins_word: self.begins_word,
+            ends_word: self.ends_word,
+        })
+    }
+
+    /// Whether the text that is searched for is empty.
+    pub fn is_empty(&self) -> bool
+        ensures { result ≡ (length self.now == 0) }
+    {
+        self.bytes.needle().is_empty()
+    }
+
+    /// How many bytes the text has that is searched for.
+    pub fn len(&self) -> usize
+        ensures { result ≡ length self.now }
+    {
+        self.bytes.needle().len()
+    }
+
     /// Whether the phrase stands somewhere in the text, with no word character right before it if it begins with one,
-    /// and none right after it if it ends with one (LogsQL, "Phrase filter").
+    /// and none right after it if it ends with one (LogsQL, "Phrase filter"). An empty one stands in each text.
     pub fn has_phrase(&self, text: &str) -> bool
         ensures { result ≡ occurs text.now self.now }
     {
-        occurs_in(&self.bytes, text, self.begins_word, self.ends_word)
+        self.is_empty() || self.place_from(text, 0).is_some()
     }
 
     /// The same without the condition after it (LogsQL, "Prefix filter").
     pub fn has_prefix(&self, text: &str) -> bool
         ensures { result ≡ occurs_as_prefix text.now self.now }
     {
-        occurs_in(&self.bytes, text, self.begins_word, false)
+        self.is_empty() || self.first_from(text, 0, false).is_some()
     }
-}
 
-// Whether the needle stands in the text with a word boundary before it and after it, where one is asked for.
-fn occurs_in(needle: &memmem::Finder, text: &str, before: bool, after: bool) -> bool
-    requires filled { 0 < length needle.now }
-    requires utf8 { IsUtf8 needle.now }
-    ensures { result ≡ occurs_between text.now needle.now before after }
-{
-    let mut from = 0;
-    while let Some(place) = find_from(needle, text.as_bytes(), from) {
-        let end = place + needle.needle().len();
-        if has_boundaries(text, place, end, before, after) {
-            return true;
+    /// The first place from `from` on at which the phrase stands, and no word goes on across an end of it.
+    pub fn place_from(&self, text: &str, from: usize) -> Option<usize>
+        requires filled { 0 < length self.now }
+        requires within { from ≤ length text.now }
+        ensures first { FindsFirst (stands_at text.now self.now) from (length text.now) result }
+        ensures fits { IfSome result (λ place. place + length self.now ≤ length text.now) }
+    {
+        self.first_from(text, from, self.ends_word)
+    }
+
+    // The first place from `from` on at which the phrase stands, and no word goes on across its beginning, nor, where
+    // `word_end` is set, across its end.
+    fn first_from(&self, text: &str, from: usize, word_end: bool) -> Option<usize>
+        requires filled { 0 < length self.now }
+        requires within { from ≤ length text.now }
+        ensures first { FindsFirst (stands_apart_at word_end text.now self.now) from (length text.now) result }
+        ensures fits { IfSome result (λ place. place + length self.now ≤ length text.now) }
+    {
+        let mut next = from;
+        while let Some(place) = find_from(&self.bytes, text.as_bytes(), next) {
+            if self.stands_apart(text, place, word_end) {
+                return Some(place);
+            }
+            next = place + 1;
         }
-        from = place + 1;
+        None
     }
-    false
-}
 
-// Whether no word goes on across `place`, where `before` asks for that, nor across `end`, where `after` does.
-fn has_boundaries(text: &str, place: usize, end: usize, before: bool, after: bool) -> bool
-    requires place { IsCharBoundary text.now place }
-    requires end { IsCharBoundary text.now end }
-    ensures { result ≡ has_boundaries_of text.now place end before after }
-{
-    !(before && ends_word(&text[..place])) && !(after && begins_word(&text[end..]))
+    // Whether no word goes on across an end of the phrase that stands at `place`.
+    fn stands_apart(&self, text: &str, place: usize, word_end: bool) -> bool
+        requires phrase { 0 < length self.now }
+        requires found { OccursAt text.now self.now place }
+        ensures { result ≡ stands_apart_at word_end text.now self.now place }
+    {
+        let word_start = self.begins_word;
+        let before = &text[..place];
+        let after = &text[place + self.len()..];
+        !(word_start && ends_word(before)) && !(word_end && begins_word(after))
+    }
 }
 
 // The first place from `from` on at which the bytes of the needle stand.

@@ -1,7 +1,7 @@
 use Rattle.std.proofs.Common.{◌≡◌, rules, map, Some, inl, inr, refl, sym, ◌∙◌}
 use Rattle.vl_io.specs.Change.{change_of}
-use Rattle.lq_filter.specs.Tree.{condition_of}
-use Rattle.vl_top.proofs.RunLemmas.{complete, overflown, refused_early, without_memory}
+use Rattle.vl_top.proofs.RunLemmas.{complete, refused_early, without_answer, without_memory}
+use Rattle.vl_top.specs.Answer.{asked_by}
 use Rattle.vl_top.specs.Program.{command_of, pipe}
 use Rattle.vl_top.specs.Run.{Run}
 use Rattle.vl_top.proofs.run.Goals as goal
@@ -9,9 +9,9 @@ use Rattle.vl_top.proofs.run.Goals as goal
 pub returns-in-Ok-clause-run : goal.returns-in-Ok-clause-run
 returns-in-Ok-clause-run g c =
     let asked : command_of (map (λ word. word.now) c.args.words.now) ≡ Some (pipe c.in-Some.text.now) = search rules in
-    let query = condition_of c.in-Ok.query in record {
+    let query = asked_by c.in-Ok.search in record {
       done = search rules;
-      refused = λ is. inr (overflown _ c.in-Some.text.now query asked c.in-Ok.ensures.read c.answer_query.result
+      refused = λ is. inr (without_answer _ c.in-Some.text.now query asked c.in-Ok.ensures.read c.answer_query.result
           c.answer_query.ensures.ends (sym c.number-in-Ok.ensures ∙ is));
       unasked = search rules;
       usage = search rules;

@@ -6,5 +6,8 @@ use Rattle.col_codec.proofs.int_read.take_sum.Goals as goal
 
 pub returns-in-Some : goal.returns-in-Some
 returns-in-Some c =
-    let long : byte_len (bits_of c.args.width) ≤ length c.args.bytes.now = omega (arith, c.if-bytes-len.false, c.len_of-len.ensures) in
-    int-made (bits_of c.args.width) c.args.least c.in-Some.sum c.number.result c.args.bytes.now c.split_at.result.0.now c.split_at.result.1.now long (search rules) (search rules) c.number.ensures c.ranges.least c.in-Some.ensures.0 c.in-Some.ensures.1
+    let long : byte_len (bits_of c.args.width) ≤ length c.args.bytes.now = omega
+    (arith, c.if-bytes-len.false, c.len_of-len.ensures) in
+    int-made (bits_of c.args.width) c.args.least c.in-Some.sum c.number.result c.args.bytes.now
+    c.split_at.result.0.now c.split_at.result.1.now long (search rules)
+    (search rules) c.number.ensures c.ranges.least c.in-Some.ensures.0 c.in-Some.ensures.1

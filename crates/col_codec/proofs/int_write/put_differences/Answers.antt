@@ -10,12 +10,20 @@ use Rattle.col_codec.proofs.int_write.put_differences.Goals as goal
 
 pub loop-n-preserved : goal.loop-n-preserved
 loop-n-preserved c =
-    let e : c.abs_diff.result ≡ gap (to_z w64 (of_z w64 c.args.least)) (get_or c.args.ints.now c.loop-n.n-index (pos 0)) = (let small : FitsSigned w64 (get_or c.args.ints.now c.loop-n.n-index (pos 0)) = search rules in simp (to_z-of_z w64 (get_or c.args.ints.now c.loop-n.n-index (pos 0)) small) at c.abs_diff.ensures) in
-    flat_map_more (put_int (bits_of c.args.width) (to_z w64 (of_z w64 c.args.least))) c.args.ints.now c.loop-n.n-index (pos 0) c.args.out.now.items c.loop-n.out.items c.put_number.new.out.items c.loop-n-test.true c.loop-n.invariant
+    let e : c.abs_diff.result ≡ gap (to_z w64 (of_z w64 c.args.least)) (get_or c.args.ints.now c.loop-n.n-index
+    (pos 0)) = (let small : FitsSigned w64 (get_or c.args.ints.now c.loop-n.n-index
+    (pos 0)) = search rules in simp (to_z-of_z w64 (get_or c.args.ints.now c.loop-n.n-index
+    (pos 0)) small) at c.abs_diff.ensures) in
+    flat_map_more (put_int (bits_of c.args.width) (to_z w64
+    (of_z w64 c.args.least))) c.args.ints.now c.loop-n.n-index
+    (pos 0) c.args.out.now.items c.loop-n.out.items c.put_number.new.out.items c.loop-n-test.true
+    c.loop-n.invariant
     (c.in_ok-put_number.ensures ∙ ap (λ n. c.loop-n.out.items ++ to_le_bytes (bits_of c.args.width) n) e)
 
 pub returns : goal.returns
 returns c =
     let l = to_z-of_z w64 c.args.least c.ranges.least in
-    let done : c.loop-n.out.items ≡ c.args.out.now.items ++ flat_map (put_int (bits_of c.args.width) c.args.least) (take c.loop-n.n-index c.args.ints.now) = simp l at c.loop-n.invariant in
-    done ∙ ap (λ xs. c.args.out.now.items ++ flat_map (put_int (bits_of c.args.width) c.args.least) xs) (take_all c.loop-n.n-index c.args.ints.now c.loop-n-test.false)
+    let done : c.loop-n.out.items ≡ c.args.out.now.items ++ flat_map (put_int (bits_of c.args.width) c.args.least)
+    (take c.loop-n.n-index c.args.ints.now) = simp l at c.loop-n.invariant in
+    done ∙ ap (λ xs. c.args.out.now.items ++ flat_map (put_int (bits_of c.args.width) c.args.least) xs)
+    (take_all c.loop-n.n-index c.args.ints.now c.loop-n-test.false)

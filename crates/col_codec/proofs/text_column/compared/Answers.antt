@@ -26,6 +26,7 @@ overflow_add-result c =
 pub returns : goal.returns
 returns c =
     let s = c.in-Some.ensures.some in
-    other-spelling (texts c.args.rows) (text_writing c.args.rows) c.args.bytes.now c.args.spelling.now c.args.column c.in-Some.d
+    other-spelling (texts c.args.rows) (text_writing c.args.rows) c.args.bytes.now c.args.spelling.now c.args.column
+    c.in-Some.d
     c.in-Err-Left.left (is_read_again c.args.rows) c.requires.whole c.requires.written s.0 s.1 s.2 s.3
     (stops-left c.in-Err-Left.field-0 c.in-Err-Left.left _ c.in-Err-Left.field-0-is c.in-Err-Left.ensures.value)

@@ -10,7 +10,8 @@ returns-clause-more c =
     (let len : c.len.result ≡ length c.extend_from_slice.new.self.items = search rules in
     len ∙ ap length bytes ∙ length-append c.args.bytes.now.items c.args.t.now) in
     rw (bytes, c.in_ok-push.ensures.items)
-    (parts-push c.args.bytes.now.items c.args.t.now 0 c.args.ends.now.items c.len.result c.requires.split.rising c.requires.split.all end)
+    (parts-push c.args.bytes.now.items c.args.t.now 0 c.args.ends.now.items c.len.result c.requires.split.rising
+    c.requires.split.all end)
 
 pub returns-clause-split : goal.returns-clause-split
 returns-clause-split c =

@@ -10,5 +10,6 @@ abbrev pub invariant-loop-end : goal.invariant-loop-end
 invariant-loop-end l = record {
   rising : IsRising l.from (drop l.end-index l.ends);
   all : last_from l.from (drop l.end-index l.ends) ≡ length l.bytes;
-  so_far : list_all is_utf8 (parts l.bytes l.from (drop l.end-index l.ends)) ≡ list_all is_utf8 (parts l.bytes 0 l.ends);
+  so_far : list_all is_utf8 (parts l.bytes l.from (drop l.end-index l.ends))
+      ≡ list_all is_utf8 (parts l.bytes 0 l.ends);
 }

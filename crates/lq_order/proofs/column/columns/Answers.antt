@@ -2,7 +2,7 @@ use Rattle.std.proofs.Common.{subst, map, arith}
 use Rattle.lq_ast.specs.PipeView.{sort_by}
 use Rattle.lq_order.specs.Column.{columns_cmp}
 use Rattle.lq_order.specs.Mirror.{Mirrors}
-use Rattle.lq_order.specs.Sorting.{record_cmp}
+use Rattle.lq_ast.specs.Sorting.{record_cmp}
 use Rattle.lq_order.proofs.Columns.{mirrors_more, mirrors_none, take_whole}
 use Rattle.lq_order.proofs.column.columns.Goals as goal
 

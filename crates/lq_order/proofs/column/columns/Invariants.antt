@@ -2,7 +2,7 @@ use Rattle.std.proofs.Common.{map, take}
 use Rattle.lq_ast.specs.PipeView.{sort_by}
 use Rattle.lq_order.specs.Column.{columns_cmp}
 use Rattle.lq_order.specs.Mirror.{Mirrors}
-use Rattle.lq_order.specs.Sorting.{record_cmp}
+use Rattle.lq_ast.specs.Sorting.{record_cmp}
 use Rattle.lq_order.proofs.column.columns.Given as goal
 
 abbrev pub invariant-loop-key : goal.invariant-loop-key

@@ -2,7 +2,7 @@ use Rattle.std.proofs.Common.{map, ap, ◌∙◌, arith}
 use Rattle.lq_ast.specs.PipeView.{sort_by}
 use Rattle.lq_order.specs.Column.{columns_cmp}
 use Rattle.lq_order.specs.Placed.{placed_of}
-use Rattle.lq_order.specs.Sorting.{record_cmp}
+use Rattle.lq_ast.specs.Sorting.{record_cmp}
 use Rattle.lq_order.proofs.Columns.{take_whole}
 use Rattle.lq_order.proofs.Picked.{places_kept, sorted_as_items}
 use Rattle.lq_order.proofs.sort.places.Goals as goal

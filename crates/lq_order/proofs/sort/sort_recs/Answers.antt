@@ -3,7 +3,7 @@ use Rattle.std.proofs.lemmas.Result.{IfOk-weaker}
 use Rattle.lq_ast.specs.PipeView.{sort_by}
 use Rattle.lq_ast.specs.Tuples.{sorted_by}
 use Rattle.lq_order.specs.Placed.{ArePlaces}
-use Rattle.lq_order.specs.Sorting.{at_most, record_cmp}
+use Rattle.lq_ast.specs.Sorting.{at_most, record_cmp}
 use Rattle.lq_order.proofs.Picked.{items_chosen, places_chosen}
 use Rattle.lq_order.proofs.sort.sort_recs.Goals as goal
 

@@ -4,7 +4,7 @@ use Rattle.std.specs.Ordering.{nat_cmp}
 use Rattle.lq_ast.proofs.Sorted.{sorted_by_closure}
 use Rattle.lq_ast.specs.Tuples.{sorted_by}
 use Rattle.lq_order.specs.Groups.{group_of}
-use Rattle.lq_order.specs.Sorting.{counted_record, hits, tuples}
+use Rattle.lq_ast.specs.Sorting.{counted_record, hits, tuples}
 use Rattle.lq_order.proofs.Answering.{kept_records, most_first, most_first_total, ordered_groups}
 use Rattle.lq_order.proofs.top.top_recs.Goals as goal
 

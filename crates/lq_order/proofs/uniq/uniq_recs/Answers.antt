@@ -1,6 +1,6 @@
 use Rattle.std.proofs.Common.{◌∙◌, ap, cond, map}
 use Rattle.std.proofs.lemmas.Result.{IfOk-weaker}
-use Rattle.lq_order.specs.Sorting.{at_most, counted_record, tuple_record, tuples}
+use Rattle.lq_ast.specs.Sorting.{at_most, counted_record, tuple_record, tuples}
 use Rattle.lq_order.proofs.Answering.{kept_records}
 use Rattle.lq_order.proofs.uniq.uniq_recs.Goals as goal
 

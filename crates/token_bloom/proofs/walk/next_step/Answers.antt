@@ -9,7 +9,8 @@ returns-then-over-clause-place c =
     c.overflowing_add-sum.ensures.value in
     c.remainder-place.ensures
     ∙ rw (c.requires.place, c.requires.pace.short, c.requires.pace.wrap)
-    (place-over c.args.pace.bits c.args.at.sum c.args.pace.stride c.overflowing_add-sum.result.0 (2 ^ 64) c.requires.pace.some sum)
+    (place-over c.args.pace.bits c.args.at.sum c.args.pace.stride c.overflowing_add-sum.result.0
+    (2 ^ 64) c.requires.pace.some sum)
 
 pub returns-else-over-clause-place : goal.returns-else-over-clause-place
 returns-else-over-clause-place c =
@@ -17,4 +18,5 @@ returns-else-over-clause-place c =
     (not_overflowed c.overflowing_add-sum.result.1 c.if-over.false c.overflowing_add-sum.ensures.overflow)
     c.overflowing_add-sum.ensures.value in
     c.remainder-place-else-over.ensures
-    ∙ rw (c.requires.place, c.requires.pace.short, sum) (place-plain c.args.pace.bits c.args.at.sum c.args.pace.stride)
+    ∙ rw (c.requires.place, c.requires.pace.short, sum)
+    (place-plain c.args.pace.bits c.args.at.sum c.args.pace.stride)

@@ -10,5 +10,6 @@ returns-clause-pace c =
       some = c.requires.some;
       room = c.requires.room;
       short = refl;
-      wrap = ap (λ (n : ℕ). n % c.args.bits) negated ∙ wrap-is c.args.bits c.requires.some (omega (arith, c.requires.room));
+      wrap = ap (λ (n : ℕ). n % c.args.bits) negated ∙ wrap-is c.args.bits c.requires.some (omega
+          (arith, c.requires.room));
     }

@@ -6,5 +6,6 @@ use Rattle.token_bloom.proofs.walk.set_word.Goals as goal
 pub returns : goal.returns
 returns c =
     c.set_walk.ensures
-    ∙ ap (with_bits c.args.filter.now) (word-places c.args.filter.now c.args.word.now c.pace_of-pace.result.bits c.pace_of-pace.result.stride
+    ∙ ap (with_bits c.args.filter.now) (word-places c.args.filter.now c.args.word.now c.pace_of-pace.result.bits
+    c.pace_of-pace.result.stride
     c.hash_of-hash.result (search rules) (search rules) c.hash_of-hash.ensures c.hash_of-hash.type_inv)

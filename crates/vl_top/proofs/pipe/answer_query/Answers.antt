@@ -1,7 +1,7 @@
 use Rattle.std.proofs.Common.{unsigned_abs, FitsSigned, w64}
 use Rattle.std.proofs.lemmas.Int.{fits_signed_from_abs, to_z-of_z}
 use Rattle.vl_io.proofs.Laws.{FirstTold-from_one}
-use Rattle.lq_filter.specs.Tree.{condition_of}
+use Rattle.vl_top.specs.Answer.{asked_by}
 use Rattle.vl_top.proofs.PipeLemmas.{reported}
 use Rattle.vl_top.proofs.pipe.answer_query.Goals as goal
 
@@ -12,6 +12,6 @@ returns-in-Err-clause-ends g c =
       unsigned_abs c.now-now.result,
       FirstTold-from_one _ _ _ c.now-now.ensures.told,
       reported (unsigned_abs c.now-now.result) _ _ _ _ _ _ _
-          (condition_of c.args.query.now) _ c.in-Err.interrupt c.report_interrupt.result c.in-Err.ensures.faults
+          (asked_by c.args.search.now) _ c.in-Err.interrupt c.report_interrupt.result c.in-Err.ensures.faults
           (simp to_z-of_z at c.in-Err.ensures.stopped) c.report_interrupt.ensures,
     )

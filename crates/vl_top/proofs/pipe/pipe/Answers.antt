@@ -1,13 +1,11 @@
-use Rattle.std.proofs.Common.{◌≡◌, ◌<◌, pos, length, unsigned_abs, FitsSigned, w64, sym, subst, inl}
+use Rattle.std.proofs.Common.{◌≡◌, pos, unsigned_abs, FitsSigned, w64, sym, subst, inl}
 use Rattle.std.proofs.lemmas.Int.{to_z-of_z}
 use Rattle.log_model.specs.Core.{parts_of}
-use Rattle.lq_filter.specs.Tree.{condition_of}
-use Rattle.vl_top.specs.Pipe.{StopsPipe}
 use Rattle.vl_top.proofs.LoadLemmas.{if_err, stops_unread}
 use Rattle.vl_top.proofs.PipeLemmas.{answered, answer_cut, stops_loaded, unanswered}
-use Rattle.lq_ast.specs.Evaluation.{row_limit}
 use Rattle.vl_top.proofs.RefusalLemmas.{same_moment}
-use Rattle.vl_top.specs.Answer.{FailsFor, held_in, lines_of}
+use Rattle.vl_top.specs.Answer.{FailsOver, IsAnswerOver, asked_by}
+use Rattle.vl_top.specs.Pipe.{StopsPipe}
 use Rattle.vl_top.proofs.pipe.pipe.Goals as goal
 
 pub returns-in_err-shelf-clause-stopped : goal.returns-in_err-shelf-clause-stopped
@@ -23,34 +21,38 @@ returns-in_err-look-clause-stopped g c =
     (λ interrupt is. subst (StopsPipe _ _ _ _ _) (sym is)
     (stops_loaded (unsigned_abs c.args.now) _ _ c.load.new.shelf (simp to_z-of_z at c.in_ok-load.ensures.loaded)))
 
-pub returns-in_err-lines-clause-stopped : goal.returns-in_err-lines-clause-stopped
-returns-in_err-lines-clause-stopped g c =
+pub returns-in_err-text-clause-stopped : goal.returns-in_err-text-clause-stopped
+returns-in_err-text-clause-stopped g c =
     let fits : FitsSigned w64 c.args.now = c.ranges.now in
-    let moment : c.args.now ≡ pos (unsigned_abs c.args.now) = same_moment c.args.now c.requires in
-    if_err c.from_residual-in_err-lines.result _ _ c.from_residual-in_err-lines.ensures.1
+    let moment : c.args.now ≡ pos (unsigned_abs c.args.now) = same_moment c.args.now c.requires.moment in
+    if_err c.from_residual-in_err-text.result _ _ c.from_residual-in_err-text.ensures.1
     (λ interrupt is. subst (StopsPipe _ _ _ _ _) (sym is)
-    (unanswered (condition_of c.args.query.now) (unsigned_abs c.args.now) _ _ _ c.load.new.shelf c.in_ok-look.field-0
-    (simp to_z-of_z at c.in_ok-load.ensures.loaded) c.in_ok-look.ensures.held c.snapshot_lines-2.ensures.order
-    c.in_err-lines.field-0.0 (subst (λ now. FailsFor 0 (held_in (condition_of c.args.query.now) now (parts_of c.in_ok-look.field-0)) c.in_err-lines.field-0.0) moment (simp to_z-of_z at c.in_err-lines.ensures.fault))))
+    (unanswered (asked_by c.args.search.now) (unsigned_abs c.args.now) _ _ _ c.load.new.shelf c.in_ok-look.field-0
+    (simp to_z-of_z at c.in_ok-load.ensures.loaded) c.in_ok-look.ensures.held c.answer-2.ensures.order
+    c.in_err-text.field-0.0
+    (subst
+    (λ now. FailsOver (asked_by c.args.search.now) now (parts_of c.in_ok-look.field-0) c.in_err-text.field-0.0) moment
+    (simp to_z-of_z at c.in_err-text.ensures.fault))))
 
 pub returns-in-Ok-clause-done : goal.returns-in-Ok-clause-done
 returns-in-Ok-clause-done g c =
     let fits : FitsSigned w64 c.args.now = c.ranges.now in
-    let moment : c.args.now ≡ pos (unsigned_abs c.args.now) = same_moment c.args.now c.requires in
-    answered (condition_of c.args.query.now) (unsigned_abs c.args.now) _ _ _ c.load.new.shelf c.in_ok-look.field-0
-    (simp to_z-of_z at c.in_ok-load.ensures.loaded) c.in_ok-look.ensures.held c.snapshot_lines-2.ensures.order
-    c.in_ok-lines.lines.items
-    (subst (λ now. length (held_in (condition_of c.args.query.now) now (parts_of c.in_ok-look.field-0)) < row_limit) moment (simp to_z-of_z at c.in_ok-lines.ensures.few))
-    (subst (λ now. c.in_ok-lines.lines.items ≡ lines_of (held_in (condition_of c.args.query.now) now (parts_of c.in_ok-look.field-0))) moment (simp to_z-of_z at c.in_ok-lines.ensures.lines)) (rw c.as_slice.ensures.value at c.in-Ok.ensures.ok)
+    let moment : c.args.now ≡ pos (unsigned_abs c.args.now) = same_moment c.args.now c.requires.moment in
+    answered (asked_by c.args.search.now) (unsigned_abs c.args.now) _ _ _ c.load.new.shelf c.in_ok-look.field-0
+    (simp to_z-of_z at c.in_ok-load.ensures.loaded) c.in_ok-look.ensures.held c.answer-2.ensures.order
+    c.in_ok-text.text
+    (subst (λ now. IsAnswerOver (asked_by c.args.search.now) now (parts_of c.in_ok-look.field-0) c.in_ok-text.text)
+    moment (simp to_z-of_z at c.in_ok-text.ensures.answered))
+    (rw (c.as_bytes.ensures.value, c.as_str.ensures.value) at c.in-Ok.ensures.ok)
 
 pub returns-clause-stopped : goal.returns-clause-stopped
 returns-clause-stopped g c =
     let fits : FitsSigned w64 c.args.now = c.ranges.now in
-    let moment : c.args.now ≡ pos (unsigned_abs c.args.now) = same_moment c.args.now c.requires in
-    let cut = rw c.as_slice.ensures.value at c.in-Err.ensures.err in
-    inl (answer_cut (condition_of c.args.query.now) (unsigned_abs c.args.now) _ _ _ c.load.new.shelf c.in_ok-look.field-0
-    (simp to_z-of_z at c.in_ok-load.ensures.loaded) c.in_ok-look.ensures.held c.snapshot_lines-2.ensures.order
-    c.in_ok-lines.lines.items
-    (subst (λ now. length (held_in (condition_of c.args.query.now) now (parts_of c.in_ok-look.field-0)) < row_limit) moment (simp to_z-of_z at c.in_ok-lines.ensures.few))
-    (subst (λ now. c.in_ok-lines.lines.items ≡ lines_of (held_in (condition_of c.args.query.now) now (parts_of c.in_ok-look.field-0))) moment (simp to_z-of_z at c.in_ok-lines.ensures.lines))
+    let moment : c.args.now ≡ pos (unsigned_abs c.args.now) = same_moment c.args.now c.requires.moment in
+    let cut = rw (c.as_bytes.ensures.value, c.as_str.ensures.value) at c.in-Err.ensures.err in
+    inl (answer_cut (asked_by c.args.search.now) (unsigned_abs c.args.now) _ _ _ c.load.new.shelf c.in_ok-look.field-0
+    (simp to_z-of_z at c.in_ok-load.ensures.loaded) c.in_ok-look.ensures.held c.answer-2.ensures.order
+    c.in_ok-text.text
+    (subst (λ now. IsAnswerOver (asked_by c.args.search.now) now (parts_of c.in_ok-look.field-0) c.in_ok-text.text)
+    moment (simp to_z-of_z at c.in_ok-text.ensures.answered))
     (record { len = cut.0; proper = cut.1; took = cut.2; failed = c.in-Err.ensures.cause.failed }))

@@ -1,0 +1,19 @@
+use Rattle.std.proofs.Common.{[], ◌∷◌, map, ap, ◌∙◌}
+use Rattle.std.proofs.lemmas.List.{map-append}
+use Rattle.lq_ast.specs.PipeView.{name_pair}
+use Rattle.lq_grammar.specs.declared.role.Role.TheVariants.{Comma}
+use Rattle.lq_grammar.specs.Roles.{any}
+use Rattle.lq_grammar.specs.LogsQL.{pair}
+use Rattle.lq_parse_filter.proofs.Behind.{item_more, item_shorter}
+use Rattle.lq_parse.proofs.names.pairs.Goals as goal
+
+pub others-smaller : goal.others-smaller
+others-smaller c =
+    item_shorter 0 (any (Comma ∷ [])) pair c.others.rest.now c.in-Some.next.now (name_pair c.in_ok-another.another)
+    c.in_ok-another.behind.now c.in-Some.ensures (c.in_ok-another.ensures 0)
+
+pub others-preserved : goal.others-preserved
+others-preserved c depth =
+    item_more depth (any (Comma ∷ [])) pair (map name_pair c.others.pairs.items) _ c.others.rest.now
+    c.in-Some.next.now (name_pair c.in_ok-another.another) c.in_ok-another.behind.now _ c.in-Some.ensures
+    (c.in_ok-another.ensures depth) (ap (map name_pair) c.in_ok-push-2.ensures.items ∙ map-append name_pair c.others.pairs.items _) (c.others.invariant depth)

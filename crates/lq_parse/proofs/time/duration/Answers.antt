@@ -1,8 +1,0 @@
-use Rattle.lq_parse.proofs.Times.{duration_read}
-use Rattle.lq_parse.proofs.time.duration.Goals as goal
-
-pub returns : goal.returns
-returns c =
-    duration_read c.args.text.now c.read_duration.result c.read_duration.ensures.ok
-    c.read_duration.ensures.not_a_duration
-    c.read_duration.ensures.out_of_range

@@ -1,0 +1,17 @@
+use Rattle.std.proofs.Common.{[], ◌∷◌}
+use Rattle.lq_grammar.specs.declared.role.Role.TheVariants.{Comma}
+use Rattle.lq_grammar.specs.Roles.{any}
+use Rattle.lq_grammar.specs.LogsQL.{arg}
+use Rattle.lq_parse_filter.proofs.Behind.{item_more, item_shorter}
+use Rattle.lq_parse_filter.proofs.args.args.Goals as goal
+
+pub others-smaller : goal.others-smaller
+others-smaller c =
+    item_shorter 0 (any (Comma ∷ [])) arg c.others.rest.now c.in-Some.next.now c.in_ok-text-2.text
+    c.in_ok-text-2.behind.now c.in-Some.ensures (c.in_ok-text-2.ensures 0)
+
+pub others-preserved : goal.others-preserved
+others-preserved c depth =
+    item_more depth (any (Comma ∷ [])) arg c.others.list.items _ c.others.rest.now c.in-Some.next.now
+    c.in_ok-text-2.text c.in_ok-text-2.behind.now _ c.in-Some.ensures
+    (c.in_ok-text-2.ensures depth) c.in_ok-push-2.ensures.items (c.others.invariant depth)

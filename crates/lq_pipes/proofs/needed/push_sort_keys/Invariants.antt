@@ -1,0 +1,8 @@
+use Rattle.std.proofs.Common.{◌≡◌, ◌++◌, flat_map, map, take}
+use Rattle.lq_ast.specs.PipeView.{group_by, name_pair, sort_by, statistic}
+use Rattle.lq_pipes.specs.Needs.{asked_by_statistic}
+use Rattle.lq_pipes.proofs.needed.push_sort_keys.Given as goal
+
+abbrev pub invariant-loop-key : goal.invariant-loop-key
+invariant-loop-key l = l.names.items ≡ l.initial.names.items ++ map (λ key. key.0) (map sort_by
+    (take l.key-index l.keys))

@@ -1,0 +1,78 @@
+//! All pipes of a query.
+ghost use Rattle.std.specs.Prelude.{◌≡◌, ◌<◌, ◌≤◌, ◌^◌, IfErr, IfOk, Ok, flat_map, length, map, take};
+ghost use Rattle.std.specs.List.{AllByRecursion};
+ghost use Rattle.lq_ast.specs.Patterns.{CanBeRead, patterns_of_stage};
+ghost use Rattle.lq_ast.specs.PipeView.{stage};
+ghost use Rattle.lq_ast.specs.Pipes.{all_piped};
+ghost use Rattle.lq_filter.specs.Refusal.{IsRefusal};
+ghost use Rattle.lq_pipes.specs.Faults.{IsMadeFault, IsPipeFault, IsRefused, IsRefusedBehind};
+ghost use Rattle.lq_pipes.specs.Steps.{IsFresh, stage_of};
+
+use crate::fault::PipeFault;
+use crate::patterns::number_behind;
+use crate::step::Step;
+use lq_ast::Pipe;
+use lq_filter::PrepareFault;
+use std::alloc::Global;
+use std::collections::VecDeque;
+use vl_row::Recs;
+
+/// The records that the pipes make of others, one pipe after another. All their regular expressions are read first:
+/// `RegexRefused` comes only where the one with that number cannot be read, and `Overflow` exactly where the first
+/// total that is no 64-bit integer is that of the function with this name.
+pub fn apply(alloc: Global, pipes: &[Pipe], r: Recs) -> Result<Recs, PipeFault>
+    requires few { length r < 2 ^ 32 }
+    ensures ok { IfOk result (λ made. all_piped (map stage pipes.now) r ≡ Ok made) }
+    ensures readable { IfOk result (λ _. AllByRecursion CanBeRead (flat_map patterns_of_stage (map stage pipes.now))) }
+    ensures fault { IfErr result (IsPipeFault (map stage pipes.now) r) }
+{
+    let steps = steps(alloc, pipes)?;
+    run_all(alloc, steps, r)
+}
+
+/// The pipes with their regular expressions read.
+fn steps<'p>(alloc: Global, pipes: &'p [Pipe]) -> Result<VecDeque<Step<'p>>, PipeFault>
+    ensures same { IfOk result (λ steps. map stage_of steps.items ≡ map stage pipes.entry.now) }
+    ensures fresh { IfOk result (λ steps. AllByRecursion IsFresh steps.items) }
+    ensures readable { IfOk result (λ _. AllByRecursion CanBeRead
+        (flat_map patterns_of_stage (map stage pipes.entry.now))) }
+    ensures refused { IfErr result (IsRefused (flat_map patterns_of_stage (map stage pipes.entry.now))) }
+{
+    let mut steps = VecDeque::with_capacity(alloc, pipes.len())?;
+    for (i, pipe) in pipes.iter().enumerate() {
+        match Step::of(alloc, pipe) {
+            Ok(step) => steps.push_back(step)?,
+            Err(fault) => return Err(refused(pipes, i, fault)),
+        }
+    }
+    Ok(steps)
+}
+
+/// The fault of the pipe at this place, whose patterns are numbered behind those of the pipes before it.
+fn refused(pipes: &[Pipe], place: usize, fault: PrepareFault) -> PipeFault
+    requires { place ≤ length pipes.now }
+    ensures { IsRefusedBehind (flat_map patterns_of_stage (map stage (take place pipes.now))) fault result }
+{
+    match fault {
+        PrepareFault::RegexRefused { nth } => match number_behind(&pipes[..place], nth) {
+            Some(nth) => PipeFault::RegexRefused { nth },
+            None => PipeFault::Memory,
+        },
+        PrepareFault::Memory => PipeFault::Memory,
+    }
+}
+
+/// The records that these pipes make of others.
+fn run_all(alloc: Global, steps: VecDeque<Step<'_>>, r: Recs) -> Result<Recs, PipeFault>
+    requires few { length r < 2 ^ 32 }
+    requires fresh { AllByRecursion IsFresh steps.items }
+    ensures ok { IfOk result (λ made. all_piped (map stage_of steps.entry.items) r ≡ Ok made) }
+    ensures fault { IfErr result (IsMadeFault (all_piped (map stage_of steps.entry.items) r)) }
+{
+    let mut left = steps;
+    let mut records = r;
+    while let Some(step) = left.pop_front() {
+        records = step.run(alloc, records)?;
+    }
+    Ok(records)
+}

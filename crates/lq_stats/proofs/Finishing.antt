@@ -1,0 +1,239 @@
+-- The records of groups are those that the grouping asks for.
+use Rattle.std.proofs.Common.{◌≡◌, ℕ, zero, suc, ◌+◌, ◌-◌, ◌<◌, ◌≤◌, Bool, true, false, not, cond, List, [], ◌∷◌, ◌++◌, length, map}
+use Rattle.std.proofs.Common.{append-nil, drop, take, get_or, zip, decimal, min, ℤ, Option, Some, None, Result, Ok, Err}
+use Rattle.std.proofs.Common.{append_assoc, refl, sym, ap, subst, ◌∙◌, arith}
+use Rattle.std.proofs.lemmas.List.{length-map, take_all}
+use Rattle.std.specs.HashMap.{hash_map_len}
+use Rattle.std.specs.List.{AllByRecursion, filter, filter_map}
+use Rattle.std.specs.Cmp.{IsTotalOrder, on_total}
+use Rattle.std.specs.Cmp.Lexicographic.{lists_total, slice_cmp}
+use Rattle.std.specs.Ordering.{is_eq, on, ordering_then}
+use Rattle.std.specs.declared.cmp.Ordering.{Ordering}
+use Rattle.vl_row.specs.KeyOrder.{key_cmp_total}
+use Rattle.log_model.proofs.ValueOrder.{value_cmp_linear}
+use Rattle.log_model.specs.Order.{key_cmp, key_of, number_of, value_cmp}
+use Rattle.lq_ast.proofs.Sorted.{all_from_places, all_sorted, map_sorted}
+use Rattle.lq_ast.proofs.TupleOrder.{tuple_cmp_total}
+use Rattle.lq_ast.specs.Grouping.{◌>>=◌, all, asked, group_record, grouped, put, set_statistics, statistic_text}
+use Rattle.lq_ast.specs.Groups.{group_tuples, key_tuple, members}
+use Rattle.lq_ast.specs.Records.{Record, put_fields}
+use Rattle.lq_ast.specs.Stage.{GroupBy, Grouping, Statistic}
+use Rattle.lq_ast.specs.Statistics.{array_text, call_text, sum_text, values}
+use Rattle.lq_ast.specs.Tuples.{Tuple, distinct_by, is_wholly_empty, sorted_by, tuple_cmp, tuple_of}
+use Rattle.lq_stats.proofs.Once.{count_cons, once_kept, once_sorted}
+use Rattle.lq_stats.proofs.Tuples.{tuple_tells, value_tells}
+use Rattle.lq_stats.specs.Finish.{keyed_group, made_record, measure_text, set_states, state_text, total_text}
+use Rattle.lq_stats.specs.Function.{statistic_of}
+use Rattle.lq_stats.specs.Groups.{AreGroups, AreStates, IsStateOf, group_tuple}
+use Rattle.lq_stats.specs.Key.{grouped_by}
+use Rattle.lq_stats.specs.Measure.{AreMeasured, are_filled, measure_call, sum_of}
+use Rattle.lq_stats.specs.Once.{HasEachOnce, count}
+use Rattle.lq_stats.specs.Partial.{StandsFor, opening}
+use Rattle.lq_stats.specs.State.{AreTaken, state_call}
+use Rattle.lq_stats.specs.declared.function.Function.{Function}
+use Rattle.lq_stats.specs.declared.groups.Group.{Group}
+use Rattle.lq_stats.specs.declared.key.Key.{Key}
+use Rattle.lq_stats.specs.declared.keyed.Keyed.{Keyed}
+use Rattle.lq_stats.specs.declared.measure.Measure.{Measure}
+use Rattle.lq_stats.specs.declared.measure.Measure.TheVariants.{Sum, Min, Max, UniqValues}
+use Rattle.lq_stats.specs.declared.partial.Partial.{Partial}
+use Rattle.lq_stats.specs.declared.state.State.{State}
+use Rattle.lq_stats.specs.declared.state.State.TheVariants.{Count, CountEmpty, CountUniq, OfValues}
+
+-- ---- values
+
+total_is : (ns : List ℤ) → total_text (sum_of ns) ≡ sum_text ns
+total_is [] = refl
+total_is (n ∷ ns) = refl
+
+measure_is : (m : Measure) (names : List (List ℕ)) (records : List Record) → AreMeasured m (values names records)
+    → measure_text m ≡ call_text (measure_call m) names records
+measure_is (Sum sum) names records h = ap total_text h ∙ total_is (filter_map number_of (values names records))
+measure_is (Min least) names records h = ap (λ (t : List ℕ). Some t) h
+measure_is (Max greatest) names records h = ap (λ (t : List ℕ). Some t) h
+measure_is (UniqValues words) names records h =
+    ap (λ l. Some (array_text l))
+    (once_sorted value_cmp value_cmp_linear.total value_tells words.words.items
+    (are_filled (values names records)) h.once)
+
+state_is : (state : State) (names : List (List ℕ)) (records : List Record) → AreTaken names state records
+    → state_text state ≡ call_text (state_call state) names records
+state_is (Count number) names records h = ap (λ n. Some (decimal n)) h
+state_is (CountEmpty number) names records h = ap (λ n. Some (decimal n)) h
+state_is (CountUniq places) names records h =
+    ap (λ n. Some (decimal n))
+    (h.known.counted ∙ length-map h.distinct _
+    ∙ once_kept tuple_cmp tuple_cmp_total tuple_tells (λ tuple. not (is_wholly_empty tuple)) h.distinct
+    (map (tuple_of names) records) h.once)
+state_is (OfValues measure) names records h = measure_is measure names records h
+
+statistic_is : (s : Statistic) (state : State) (records : List Record) → IsStateOf s state records
+    → state_text state ≡ statistic_text s records
+statistic_is s state records h =
+    state_is state s.names (asked s.only records) h.1
+    ∙ ap (λ call. call_text call s.names (asked s.only records)) h.0
+
+statistics_are : (statistics : List Statistic) (states : List State) (records : List Record) → length states
+    ≡ length statistics
+    → ((k : ℕ) (d : Statistic) (e : State) → k < length statistics
+    → IsStateOf (get_or statistics k d) (get_or states k e) records)
+    → (r : Record) → set_states statistics states r ≡ set_statistics records statistics r
+statistics_are [] states records long each r = refl
+statistics_are (s ∷ ss) [] records long each r = absurd (omega arith)
+statistics_are (s ∷ ss) (t ∷ ts) records long each r =
+    let rest = statistics_are ss ts records (omega arith) (λ k d e within. each (suc k) d e (omega arith)) in
+    (λ i. put s.name r (state_text t) >>= (λ y. rest y i))
+    ∙ ap (λ text. put s.name r text >>= set_statistics records ss) (statistic_is s t records (each 0 s t (omega arith)))
+
+-- ---- groups
+
+made_is : (g : Grouping) (records : List Record) (group : Group)
+    → AreStates g.statistics group.states.items (members g.keys records (group_tuple group))
+    → made_record g.keys g.statistics group ≡ group_record g records (group_tuple group)
+made_is g records group h =
+    statistics_are g.statistics group.states.items (members g.keys records (group_tuple group)) h.long h.each
+    (put_fields [] (zip (map (λ key. key.0) g.keys) (group_tuple group)))
+
+map_alike : {A B : Type 0} (f g : A → B) (xs : List A) → AllByRecursion (λ x. f x ≡ g x) xs → map f xs ≡ map g xs
+map_alike f g [] h = refl
+map_alike f g (x ∷ xs) h = ap (λ y. y ∷ map f xs) h.0 ∙ ap (λ l. g x ∷ l) (map_alike f g xs h.1)
+
+pub map_twice : {A B C : Type 0} (f : A → B) (g : B → C) (xs : List A) → map g (map f xs) ≡ map (λ x. g (f x)) xs
+map_twice f g [] = refl
+map_twice f g (x ∷ xs) = ap (λ l. g (f x) ∷ l) (map_twice f g xs)
+
+none_count : (x : List ℕ) (xs : Tuple) (records : List Record) → count tuple_cmp (x ∷ xs) (map (key_tuple []) records) ≡ 0
+none_count x xs [] = refl
+none_count x xs (r ∷ rs) =
+    count_cons (λ t. is_eq (tuple_cmp (x ∷ xs) t)) [] (map (key_tuple []) rs) ∙ ap (λ n. 0 + n) (none_count x xs rs)
+
+one_group : (records : List Record) → HasEachOnce tuple_cmp ([] ∷ []) (([] ∷ []) ++ map (key_tuple []) records)
+one_group records = record { each = at }
+  where
+    at : (t : Tuple) → count tuple_cmp t ([] ∷ []) ≡ min 1 (count tuple_cmp t ([] ∷ map (key_tuple []) records))
+    at [] =
+        let whole = count_cons (λ t. is_eq (tuple_cmp [] t)) [] (map (key_tuple []) records) in
+        let one : count tuple_cmp [] ([] ∷ []) ≡ 1 = count_cons (λ t. is_eq (tuple_cmp [] t)) [] [] in
+        omega arith
+    at (x ∷ xs) =
+        let whole = count_cons (λ t. is_eq (tuple_cmp (x ∷ xs) t)) [] (map (key_tuple []) records) in
+        let none = none_count x xs records in
+        let one : count tuple_cmp (x ∷ xs) ([] ∷ []) ≡ 0 = count_cons (λ t. is_eq (tuple_cmp (x ∷ xs) t)) [] [] in
+        omega arith
+
+opened : (keys : List GroupBy) (records : List Record)
+    → distinct_by tuple_cmp (opening keys ++ map (key_tuple keys) records) ≡ group_tuples keys records
+unfolding sorted_by
+opened [] records =
+    sym (once_sorted tuple_cmp tuple_cmp_total tuple_tells ([] ∷ []) (([] ∷ []) ++ map (key_tuple []) records)
+    (one_group records))
+opened (key ∷ keys) records = refl
+
+-- the records of the groups in tuple order
+pub finished : (partial : Partial) (g : Grouping) (records : List Record) → StandsFor partial g records
+    → all (map (made_record g.keys g.statistics) (sorted_by (on group_tuple tuple_cmp) partial.groups.list.items))
+    ≡ grouped g records
+finished partial g records h =
+    let list = partial.groups.list.items in
+    let order = on group_tuple tuple_cmp in
+    let each : AllByRecursion (λ group. made_record g.keys g.statistics group
+    ≡ group_record g records (group_tuple group)) list =
+    all_from_places _ list (λ k d within. made_is g records (get_or list k d) (h.groups.states k d within)) in
+    ap all
+    (map_alike (made_record g.keys g.statistics) (λ group. group_record g records (group_tuple group))
+    (sorted_by order list)
+    (all_sorted order (λ group. made_record g.keys g.statistics group ≡ group_record g records (group_tuple group)) list
+    each)
+    ∙ sym (map_twice group_tuple (group_record g records) (sorted_by order list))
+    ∙ ap (map (group_record g records))
+    (map_sorted group_tuple tuple_cmp list
+    ∙ once_sorted tuple_cmp tuple_cmp_total tuple_tells (map group_tuple list)
+    (opening g.keys ++ map (key_tuple g.keys) records) h.groups.once
+    ∙ opened g.keys records))
+
+-- the same, by what the code has of the partial statistics
+pub finished_as : (partial : Partial) (g : Grouping) (records : List Record) (keys : List Key)
+    (functions : List Function) (list : List Group) → keys ≡ partial.keys.items
+    → functions ≡ partial.functions.items → list ≡ partial.groups.list.items → StandsFor partial g records
+    → grouped g records
+    ≡ all (map (made_record (map grouped_by keys) (map statistic_of functions))
+    (sorted_by (on group_tuple tuple_cmp) list))
+finished_as partial g records keys functions list a b e h =
+    sym (finished partial g records h)
+    ∙ ap (λ ks. all (map (made_record ks g.statistics)
+    (sorted_by (on group_tuple tuple_cmp) partial.groups.list.items))) (sym (ap (map grouped_by) a ∙ h.keys))
+    ∙ ap (λ ss. all (map (made_record (map grouped_by keys) ss)
+    (sorted_by (on group_tuple tuple_cmp) partial.groups.list.items))) (sym (ap (map statistic_of) b ∙ h.statistics))
+    ∙ ap (λ l. all (map (made_record (map grouped_by keys) (map statistic_of functions))
+    (sorted_by (on group_tuple tuple_cmp) l))) (sym e)
+
+-- ---- one result after another
+
+abbrev pub prepended : {A E : Type 0} → List A → Result (List A) E → Result (List A) E
+prepended done (Ok more) = Ok (done ++ more)
+prepended done (Err e) = Err e
+
+pub prepended_one : {A E : Type 0} (done : List A) (one : A) (rest : Result (List A) E)
+    → prepended done (Ok one >>= λ y. rest >>= λ ys. Ok (y ∷ ys)) ≡ prepended (done ++ one ∷ []) rest
+prepended_one done one (Ok more) = ap (λ l. Ok l) (sym (append_assoc done (one ∷ []) more))
+prepended_one done one (Err e) = refl
+
+pub prepended_none : {A E : Type 0} (rest : Result (List A) E) → rest ≡ prepended [] rest
+prepended_none (Ok more) = refl
+prepended_none (Err e) = refl
+
+-- ---- groups in tuple order
+
+keys_cmp : (xs ys : Tuple) → slice_cmp key_cmp (map key_of xs) (map key_of ys) ≡ tuple_cmp xs ys
+unfolding value_cmp
+keys_cmp [] [] = refl
+keys_cmp [] (y ∷ ys) = refl
+keys_cmp (x ∷ xs) [] = refl
+keys_cmp (x ∷ xs) (y ∷ ys) = ap (ordering_then (key_cmp (key_of x) (key_of y))) (keys_cmp xs ys)
+
+-- groups that are sorted by what their tuples are compared by
+abbrev pub by_keys : Keyed → Keyed → Ordering
+by_keys a b = slice_cmp key_cmp a.keys.items b.keys.items
+
+pub by_keys_total : IsTotalOrder by_keys
+by_keys_total = on_total (λ (k : Keyed). k.keys.items) (lists_total key_cmp_total)
+
+by_keys_is : (a b : Keyed) → by_keys a b ≡ on keyed_group (on group_tuple tuple_cmp) a b
+by_keys_is a b =
+    ap (λ l. slice_cmp key_cmp l b.keys.items) a.same
+    ∙ ap (slice_cmp key_cmp (map key_of (group_tuple a.group.now))) b.same
+    ∙ keys_cmp (group_tuple a.group.now) (group_tuple b.group.now)
+
+pub keyed_in_order : (keyed sorted : List Keyed) (groups : List Group) → sorted ≡ sorted_by by_keys keyed
+    → map keyed_group keyed ≡ groups → map keyed_group sorted ≡ sorted_by (on group_tuple tuple_cmp) groups
+keyed_in_order keyed sorted groups is of =
+    ap (map keyed_group) (is ∙ (λ i. sorted_by (λ a b. by_keys_is a b i) keyed))
+    ∙ map_sorted keyed_group (on group_tuple tuple_cmp) keyed ∙ ap (sorted_by (on group_tuple tuple_cmp)) of
+
+-- ---- the records, one after another
+
+pub records_step : (f : Group → Result Record (List ℕ)) (done : List Record) (left : List Keyed) (one : Keyed)
+    (made : Record) → 1 ≤ length left → one ≡ get_or left 0 one → f (keyed_group one) ≡ Ok made
+    → prepended done (all (map f (map keyed_group left)))
+    ≡ prepended (done ++ made ∷ []) (all (map f (map keyed_group (take (length left - 1) (drop 1 left)))))
+records_step f done [] one made some is ok = absurd (omega arith)
+records_step f done (x ∷ xs) one made some is ok =
+    let behind : length (x ∷ xs) - 1 ≡ length xs = omega arith in
+    let rest : take (length (x ∷ xs) - 1) xs ≡ xs = ap (λ n. take n xs) behind ∙ take_all (length xs) xs (omega arith) in
+    ap (λ r. prepended done (r >>= λ y. all (map f (map keyed_group xs)) >>= λ ys. Ok (y ∷ ys)))
+    (ap (λ k. f (keyed_group k)) (sym is) ∙ ok)
+    ∙ prepended_one done made (all (map f (map keyed_group xs)))
+    ∙ sym (ap (λ l. prepended (done ++ made ∷ []) (all (map f (map keyed_group l)))) rest)
+
+pub records_fail : (f : Group → Result Record (List ℕ)) (done : List Record) (left : List Keyed) (one : Keyed)
+    (name : List ℕ) → 1 ≤ length left → one ≡ get_or left 0 one → f (keyed_group one) ≡ Err name
+    → prepended done (all (map f (map keyed_group left))) ≡ Err name
+records_fail f done [] one name some is failed = absurd (omega arith)
+records_fail f done (x ∷ xs) one name some is failed =
+    ap (λ r. prepended done (r >>= λ y. all (map f (map keyed_group xs)) >>= λ ys. Ok (y ∷ ys)))
+    (ap (λ k. f (keyed_group k)) (sym is) ∙ failed)
+
+pub records_end : (f : Group → Result Record (List ℕ)) (done : List Record) (left : List Keyed) → length left < 1
+    → prepended done (all (map f (map keyed_group left))) ≡ Ok done
+records_end f done [] none = ap (λ l. Ok l) (append-nil done)
+records_end f done (x ∷ xs) none = absurd (omega arith)

@@ -1,0 +1,5 @@
+use Rattle.lq_stats.proofs.Finishing.{prepended_none, records_end, records_fail, records_step}
+use Rattle.lq_stats.proofs.finish.records.Goals as goal
+
+pub loop-left-init : goal.loop-left-init
+loop-left-init c = rw c.in_ok-records.ensures.items (prepended_none _)

@@ -1,0 +1,68 @@
+-- What groups have kept of some records.
+use Rattle.std.specs.Prelude.{◌≡◌, ℕ, ◌<◌, ◌^◌, List, [], ◌∷◌, ◌++◌, length, map, slice_index_or}
+use Rattle.lq_ast.specs.Grouping.{asked}
+use Rattle.lq_ast.specs.Groups.{key_tuple, members}
+use Rattle.lq_ast.specs.Records.{Record}
+use Rattle.lq_ast.specs.Stage.{GroupBy, Statistic}
+use Rattle.lq_ast.specs.Tuples.{Tuple, tuple_cmp}
+use Rattle.lq_stats.specs.Counted.{HaveLength, tuple_text}
+use Rattle.lq_stats.specs.Once.{HasEachOnce}
+use Rattle.lq_stats.specs.Places.{AreKnown}
+use Rattle.lq_stats.specs.State.{AreTaken, state_call}
+use Rattle.lq_stats.specs.declared.groups.Group.{Group}
+use Rattle.lq_stats.specs.declared.groups.Groups.{Groups}
+use Rattle.lq_stats.specs.declared.state.State.{State}
+
+-- The state is that of the function over these records.
+abbrev pub IsStateOf : Statistic → State → List Record → Type 0
+IsStateOf s state records = (state_call state ≡ s.call) × AreTaken s.names state (asked s.only records)
+
+-- There is a state for each function, over these records.
+pub record AreStates (statistics : List Statistic) (states : List State) (records : List Record) : Type 0 where
+  pub long : length states ≡ length statistics
+  pub each : (k : ℕ) (d : Statistic) (e : State) → k < length statistics
+      → IsStateOf (slice_index_or statistics k d) (slice_index_or states k e) records
+
+-- The new state is that of the function over one more record, if these were fewer than 2^32.
+abbrev pub TakesOne : Statistic → State → State → Record → Type 0
+TakesOne s old new r =
+    (records : List Record) → length records < 2 ^ 32 → IsStateOf s old records → IsStateOf s new (records ++ r ∷ [])
+
+-- The new states are those of one more record, if these were fewer than 2^32.
+abbrev pub TakesRecord : List Statistic → List State → List State → Record → Type 0
+TakesRecord statistics old new r =
+    (records : List Record) → length records < 2 ^ 32 → AreStates statistics old records
+    → AreStates statistics new (records ++ r ∷ [])
+
+abbrev pub group_tuple : Group → Tuple
+group_tuple group = group.tuple.items
+
+-- The groups are those of the tuples of the records and of some more, each tuple once, and their states are those of
+-- their records.
+pub record AreGroups (keys : List GroupBy) (statistics : List Statistic) (groups : Groups) (more : List Tuple)
+    (records : List Record) : Type 0 where
+  pub known : AreKnown groups.places (map tuple_text (map group_tuple groups.list.items))
+  pub once : HasEachOnce tuple_cmp (map group_tuple groups.list.items) (more ++ map (key_tuple keys) records)
+  pub wide : HaveLength (length keys) (map group_tuple groups.list.items)
+  pub states : (k : ℕ) (d : Group) → k < length groups.list.items
+      → AreStates statistics (slice_index_or groups.list.items k d).states.items
+      (members keys records (group_tuple (slice_index_or groups.list.items k d)))
+
+-- The group of a record's tuple stands at this place among these groups.
+pub record IsEnteredIn (keys : List GroupBy) (statistics : List Statistic) (groups : Groups) (more : List Tuple)
+    (records : List Record) (r : Record) (place : ℕ) : Type 0 where
+  pub inside : place < length groups.list.items
+  pub tuple : (d : Group) → group_tuple (slice_index_or groups.list.items place d) ≡ key_tuple keys r
+  pub are : AreGroups keys statistics groups more records
+
+-- It is new where the tuple is.
+abbrev pub IsEntered : List GroupBy → List Statistic → Groups → Groups → Record → ℕ → Type 0
+IsEntered keys statistics old new r place =
+    (more : List Tuple) (records : List Record) → AreGroups keys statistics old more records
+    → IsEnteredIn keys statistics new (more ++ key_tuple keys r ∷ []) records r place
+
+-- The new groups are those of one more record, if these were fewer than 2^32.
+abbrev pub TakeRecord : List GroupBy → List Statistic → Groups → Groups → Record → Type 0
+TakeRecord keys statistics old new r =
+    (more : List Tuple) (records : List Record) → length records < 2 ^ 32 → AreGroups keys statistics old more records
+    → AreGroups keys statistics new more (records ++ r ∷ [])

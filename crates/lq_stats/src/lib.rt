@@ -1,0 +1,21 @@
+//! Statistics of groups of records: `stats` (LogsQL, "stats pipe").
+#![tactic(auto)]
+
+mod array;
+mod fault;
+mod finish;
+mod function;
+mod functions;
+mod groups;
+mod key;
+mod keyed;
+mod keys;
+mod measure;
+mod partial;
+mod places;
+mod scratch;
+mod state;
+mod words;
+
+pub use fault::StatFault;
+pub use partial::Partial;

@@ -1,0 +1,147 @@
+//! What functions keep of the records that they are given.
+ghost use Rattle.std.specs.Prelude.{◌≡◌, ◌<◌, ◌+◌, ◌-◌, ◌^◌, ◌||◌, min, ◌++◌, [], ◌∷◌, List, ℕ, length, OnOk, if◌then◌else◌};
+ghost use Rattle.std.specs.List.{list_all};
+ghost use Rattle.log_model.specs.Field.{field_value, is_empty};
+ghost use Rattle.lq_ast.specs.Records.{Record};
+ghost use Rattle.lq_ast.specs.Statistics.{has_some};
+ghost use Rattle.lq_ast.specs.Tuples.{Tuple, tuple_of};
+ghost use Rattle.lq_stats.specs.Counted.{AreCounted};
+ghost use Rattle.lq_stats.specs.Measure.{AreMeasured, measure_call};
+ghost use Rattle.lq_stats.specs.State.{AreTaken, Takes, is_nil, state_call};
+
+use crate::measure::Measure;
+use crate::places::Places;
+use crate::scratch::Scratch;
+use crate::words::Words;
+use lq_ast::Call;
+use std::alloc::{AllocError, Global};
+use vl_row::{FieldList, Text};
+
+/// A function's state over some records.
+#[derive(Drop)]
+pub(crate) enum State {
+    /// How many records there are, or how many have one of the fields.
+    Count(u64),
+    /// How many records have none of the fields.
+    CountEmpty(u64),
+    /// The tuples of values, but the one that is wholly empty.
+    CountUniq(Places),
+    /// A state over the values of the fields.
+    OfValues(Measure),
+}
+
+impl State {
+    /// The state of a function over no records.
+    pub(crate) fn of(alloc: Global, call: Call) -> State
+        ensures call { state_call result ≡ call }
+        ensures none { (names : List (List ℕ)) → AreTaken names result [] }
+    {
+        match call {
+            Call::Count => State::Count(0),
+            Call::CountEmpty => State::CountEmpty(0),
+            Call::CountUniq => State::CountUniq(Places::new(alloc)),
+            Call::Sum => State::OfValues(Measure::Sum(None)),
+            Call::Min => State::OfValues(Measure::Min(Text::new())),
+            Call::Max => State::OfValues(Measure::Max(Text::new())),
+            Call::UniqValues => State::OfValues(Measure::UniqValues(Words::new(alloc))),
+        }
+    }
+
+    /// Takes one more record, of which the function asks these fields.
+    pub(crate) fn add(
+        &mut self,
+        scratch: &mut Scratch,
+        names: &[Text],
+        fields: &FieldList,
+    ) -> Result<(), AllocError>
+        requires few { length names.now < 2 ^ 32 }
+        ensures call { state_call self.new ≡ state_call self.old }
+        ensures taken { OnOk result (Takes names.now self.old self.new fields.now) }
+    {
+        match self {
+            State::Count(number) => {
+                *number = with_one(*number, is_counted(names, fields));
+                Ok(())
+            }
+            State::CountEmpty(number) => {
+                *number = with_one(*number, !has_some(names, fields));
+                Ok(())
+            }
+            State::CountUniq(places) => count_tuple(places, scratch, names, fields),
+            State::OfValues(measure) => add_values(measure, scratch.alloc, names, fields),
+        }
+    }
+}
+
+/// The number, or one more where a record counts. No more than 2^32 records are counted.
+fn with_one(number: u64, counts: bool) -> u64
+    ensures { result ≡ min (number + (if counts then 1 else 0)) (2 ^ 64 - 1) }
+{
+    number.saturating_add(u64::from(counts))
+}
+
+/// Whether one of these fields is not empty, or there are none.
+fn is_counted(names: &[Text], fields: &FieldList) -> bool
+    ensures { result ≡ (is_nil names.now || has_some names.now fields.now) }
+{
+    names.is_empty() || has_some(names, fields)
+}
+
+/// Whether one of these fields is not empty.
+fn has_some(names: &[Text], fields: &FieldList) -> bool
+    ensures { result ≡ has_some names.now fields.now }
+{
+    !is_wholly_empty(names, fields)
+}
+
+fn is_wholly_empty(names: &[Text], fields: &FieldList) -> bool
+    ensures { result ≡ list_all (λ name. is_empty (field_value fields.now name)) names.now }
+{
+    names.iter().all(|name| is_missing(name.as_str(), fields))
+}
+
+fn is_missing(name: &str, fields: &FieldList) -> bool
+    ensures { result ≡ is_empty (field_value fields.now name.now) }
+{
+    fields.get(name).is_empty()
+}
+
+/// Adds the tuple of these fields, if it is new and not wholly empty.
+fn count_tuple(
+    places: &mut Places,
+    scratch: &mut Scratch,
+    names: &[Text],
+    fields: &FieldList,
+) -> Result<(), AllocError>
+    ensures { OnOk result ((tuples : List Tuple) → AreCounted places.old (length names.now) tuples
+        → AreCounted places.new (length names.now)
+        (if has_some names.now fields.now then tuples ++ tuple_of names.now fields.now ∷ [] else tuples)) }
+{
+    if !has_some(names, fields) {
+        return Ok(());
+    }
+    let alloc = scratch.alloc;
+    let text = scratch.tuple_text(names, fields)?;
+    if places.place_of(text).is_none() {
+        places.add(alloc, text)?;
+    }
+    Ok(())
+}
+
+/// Takes the value of each of these fields.
+fn add_values(
+    measure: &mut Measure,
+    alloc: Global,
+    names: &[Text],
+    fields: &FieldList,
+) -> Result<(), AllocError>
+    ensures call { measure_call measure.new ≡ measure_call measure.old }
+    ensures taken { OnOk result ((values : List (List ℕ)) → length values + length names.now < 2 ^ 64
+        → AreMeasured measure.old values
+        → AreMeasured measure.new (values ++ tuple_of names.now fields.now)) }
+{
+    for name in names {
+        measure.add(alloc, fields.get(name.as_str()))?;
+    }
+    Ok(())
+}

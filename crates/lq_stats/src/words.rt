@@ -1,0 +1,39 @@
+//! Different texts in the order in which they came.
+ghost use Rattle.std.specs.Prelude.{◌++◌, [], ◌∷◌, List, ℕ, OnOk};
+ghost use Rattle.lq_stats.specs.Words.{AreWords};
+
+use crate::places::Places;
+use std::alloc::{AllocError, Global};
+use vl_row::Text;
+
+/// Each of some texts once.
+#[derive(Drop)]
+pub(crate) struct Words {
+    pub(crate) places: Places,
+    pub(crate) words: Vec<Text>,
+}
+
+impl Words {
+    /// The words of no texts. This allocates nothing.
+    pub(crate) fn new(alloc: Global) -> Words
+        ensures { AreWords result [] }
+    {
+        Words {
+            places: Places::new(alloc),
+            words: Vec::new(alloc),
+        }
+    }
+
+    /// Adds a text, if it is new.
+    pub(crate) fn add(&mut self, alloc: Global, text: &str) -> Result<(), AllocError>
+        ensures { OnOk result ((texts : List (List ℕ)) → AreWords self.old texts
+            → AreWords self.new (texts ++ text.now ∷ [])) }
+    {
+        if self.places.place_of(text).is_some() {
+            return Ok(());
+        }
+        self.places.add(alloc, text)?;
+        self.words.push(Text::try_of(alloc, text)?)?;
+        Ok(())
+    }
+}
