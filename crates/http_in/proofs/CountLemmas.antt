@@ -1,0 +1,588 @@
+-- How many lines heads and sections have.
+use Rattle.std.proofs.Common.{◌≡◌, ◌⊎◌, ℕ, ◌+◌, ◌<◌, ◌≤◌, Bool, true, false, ◌&&◌, cond, List, [], ◌∷◌}
+use Rattle.std.proofs.Common.{◌++◌, take, drop, length, get_or, refl, ap, sym, subst, ◌∙◌, inl, inr, arith}
+use Rattle.std.proofs.Common.{append_assoc}
+use Rattle.std.proofs.Common.{append-nil, length-append}
+use Rattle.std.specs.Prelude.{not, ◌==◌, All, IsTrue, codes, flat_map, nat_lt}
+use Rattle.std.specs.List.{AllByRecursion}
+use Rattle.std.proofs.lemmas.Bool.Decides.{nat_tests}
+use Rattle.std.proofs.lemmas.Grind.{flat_map-append}
+use Rattle.std.proofs.lemmas.List.{length-drop, length-take, same_from_push, take-append-drop, take-append-le}
+use Rattle.std.proofs.lemmas.List.{take-take, take_more}
+use Rattle.std.proofs.lemmas.List.{take_at}
+use Rattle.std.proofs.lemmas.List.Elements.{All-drop, All-head, All-push, All-tail, All-take, recursion_from_All}
+use Rattle.httparse.specs.Ascii.{carriage_return, colon, line_feed, space}
+use Rattle.httparse.specs.Grammar.{AllPass, EndsInTarget, Field, IsField, IsRequestHead, IsToken, LineEnd}
+use Rattle.httparse.specs.Grammar.{MayBecomeRequest}
+use Rattle.httparse.specs.Grammar.{MayBecomeSection, RequestHead, crlf, is_token_byte, is_uri_byte}
+use Rattle.httparse.specs.Grammar.{is_value_byte}
+use Rattle.httparse.specs.Grammar.{lf, print_blank, print_end, print_field, print_request, print_section, print_version}
+use Rattle.httparse.specs.Spans.{RequestExceeds, SectionExceeds}
+use Rattle.httparse.proofs.GrammarLemmas.{print_request-append}
+use Rattle.http_in.specs.Lines.{EndsLine, begins_line, begun_after, ends_line, lines_from, lines_in}
+
+add_to : (e t r s : ℕ) → t ≡ r + s → e + t ≡ e + r + s
+add_to e t r s is = omega (arith, is)
+
+pub lines_append : (begun : Bool) (a b : List ℕ) → lines_from begun (a ++ b) ≡ lines_from begun a + lines_from
+    (begun_after begun a) b
+lines_append begun [] b = omega arith
+lines_append begun (x ∷ a) b =
+    add_to (ends_line begun x) (lines_from (begins_line begun x) (a ++ b)) (lines_from (begins_line begun x) a)
+    (lines_from (begun_after (begins_line begun x) a) b) (lines_append (begins_line begun x) a b)
+
+pub begun_append : (begun : Bool) (a b : List ℕ) → begun_after begun (a ++ b) ≡ begun_after (begun_after begun a) b
+begun_append begun [] b = refl
+begun_append begun (x ∷ a) b = begun_append (begins_line begun x) a b
+
+-- behind a text of which so many lines end and where a line has begun or has not
+lines_then : (begun after : Bool) (a b : List ℕ) → begun_after begun a ≡ after
+    → lines_from begun (a ++ b) ≡ lines_from begun a + lines_from after b
+lines_then begun after a b is =
+    lines_append begun a b ∙ ap (λ t. lines_from begun a + lines_from t b) is
+
+begun_then : (begun after : Bool) (a b : List ℕ) → begun_after begun a ≡ after
+    → begun_after begun (a ++ b) ≡ begun_after after b
+begun_then begun after a b is = begun_append begun a b ∙ ap (λ t. begun_after t b) is
+
+-- fewer bytes have no more lines
+pub lines_front : (bytes : List ℕ) (n m : ℕ) → n ≤ m → lines_in (take n bytes) ≤ lines_in (take m bytes)
+lines_front bytes n m less =
+    let front : List ℕ = take m bytes in
+    let split : lines_in front ≡ lines_in (take n bytes ++ drop n front) =
+    ap lines_in (sym (take-append-drop n front) ∙ ap (λ l. l ++ drop n front) (take-take n m bytes less)) in
+    omega (arith, split, lines_append false (take n bytes) (drop n front))
+
+pub lines_before : (a b : List ℕ) → lines_in a ≤ lines_in (a ++ b)
+lines_before a b = omega (arith, lines_append false a b)
+
+pub lines_more : (bytes : List ℕ) (i : ℕ) → i < length bytes
+    → lines_in (take (i + 1) bytes) ≡ lines_in (take i bytes) + ends_line (begun_after false (take i bytes))
+    (get_or bytes i 0)
+lines_more bytes i inside =
+    ap lines_in (take_more bytes i 0 inside) ∙ lines_append false (take i bytes) (get_or bytes i 0 ∷ [])
+    ∙ ap (λ n. lines_in (take i bytes) + n)
+    (plus_none (ends_line (begun_after false (take i bytes)) (get_or bytes i 0)))
+  where
+    plus_none : (n : ℕ) → n + 0 ≡ n
+    plus_none n = omega arith
+
+pub begun_more : (bytes : List ℕ) (i : ℕ) → i < length bytes
+    → begun_after false (take (i + 1) bytes) ≡ begins_line (begun_after false (take i bytes)) (get_or bytes i 0)
+begun_more bytes i inside =
+    ap (begun_after false) (take_more bytes i 0 inside) ∙ begun_append false (take i bytes) (get_or bytes i 0 ∷ [])
+
+-- ---- bytes with no line feed
+
+abbrev IsQuiet : ℕ → Type 0
+IsQuiet b = (b == line_feed) ≡ false
+
+quiet_ends : (begun : Bool) (b : ℕ) → IsQuiet b → ends_line begun b ≡ 0
+quiet_ends begun b quiet = ap (λ t. cond (t && begun) 1 0) quiet
+
+quiet_begun : (b : ℕ) → IsQuiet b → begins_line true b ≡ true
+quiet_begun b quiet = ap (λ t. not t && true) quiet
+
+quiet_lines : (begun : Bool) (bytes : List ℕ) → AllByRecursion IsQuiet bytes → lines_from begun bytes ≡ 0
+quiet_lines begun [] quiet = refl
+quiet_lines begun (b ∷ bytes) quiet =
+    both (ends_line begun b) (lines_from (begins_line begun b) bytes) (quiet_ends begun b quiet.0)
+    (quiet_lines (begins_line begun b) bytes quiet.1)
+  where
+    both : (n m : ℕ) → n ≡ 0 → m ≡ 0 → n + m ≡ 0
+    both n m x y = omega (arith, x, y)
+
+quiet_after : (bytes : List ℕ) → AllByRecursion IsQuiet bytes → begun_after true bytes ≡ true
+quiet_after [] quiet = refl
+quiet_after (b ∷ bytes) quiet =
+    ap (λ t. begun_after t bytes) (quiet_begun b quiet.0) ∙ quiet_after bytes quiet.1
+
+quiet_append : (a b : List ℕ) → AllByRecursion IsQuiet a → AllByRecursion IsQuiet b → AllByRecursion IsQuiet (a ++ b)
+quiet_append [] b x y = y
+quiet_append (c ∷ a) b x y = (x.0, quiet_append a b x.1 y)
+
+weaker : (test : ℕ → Bool) (bytes : List ℕ) → ((b : ℕ) → test b ≡ true → IsQuiet b)
+    → AllByRecursion (λ b. IsTrue (test b)) bytes → AllByRecursion IsQuiet bytes
+weaker test [] f all = tt
+weaker test (b ∷ bytes) f all = (f b all.0, weaker test bytes f all.1)
+
+quiet_from : (test : ℕ → Bool) (bytes : List ℕ) → ((b : ℕ) → test b ≡ true → IsQuiet b) → AllPass test bytes
+    → AllByRecursion IsQuiet bytes
+quiet_from test bytes f all = weaker test bytes f (recursion_from_All (λ b. IsTrue (test b)) bytes all)
+
+token_quiet : (b : ℕ) → is_token_byte b ≡ true → IsQuiet b
+unfolding is_token_byte
+token_quiet b is = grind (arith, nat_tests)
+
+token_begins : (b : ℕ) → is_token_byte b ≡ true → (b == carriage_return) ≡ false
+unfolding is_token_byte
+token_begins b is = grind (arith, nat_tests)
+
+uri_quiet : (b : ℕ) → is_uri_byte b ≡ true → IsQuiet b
+uri_quiet b is = grind (arith, nat_tests)
+
+value_quiet : (b : ℕ) → is_value_byte b ≡ true → IsQuiet b
+value_quiet b is = grind (arith, nat_tests)
+
+-- a line has begun behind a token
+begins_both : (begun : Bool) (b : ℕ) → IsQuiet b → (b == carriage_return) ≡ false → begins_line begun b ≡ true
+begins_both true b x y = quiet_begun b x
+begins_both false b x y = ap (λ t. not t && not (b == carriage_return)) x ∙ ap not y
+
+token_after : (begun : Bool) (bytes : List ℕ) → IsToken bytes → begun_after begun bytes ≡ true
+token_after begun [] is = absurd (omega (arith, is.0))
+token_after begun (b ∷ bytes) is =
+    let first = All-head (λ c. IsTrue (is_token_byte c)) b bytes is.1 in
+    let rest = All-tail (λ c. IsTrue (is_token_byte c)) b bytes is.1 in
+    ap (λ t. begun_after t bytes) (begins_both begun b (token_quiet b first) (token_begins b first))
+    ∙ quiet_after bytes (quiet_from is_token_byte bytes token_quiet rest)
+
+-- ---- line ends
+
+end_lines : (end : LineEnd) → lines_from true (print_end end) ≡ 1
+end_lines crlf = refl
+end_lines lf = refl
+
+end_after : (begun : Bool) (end : LineEnd) → begun_after begun (print_end end) ≡ false
+end_after true crlf = refl
+end_after true lf = refl
+end_after false crlf = refl
+end_after false lf = refl
+
+blank_end : (end : LineEnd) → lines_from false (print_end end) ≡ 0
+blank_end crlf = refl
+blank_end lf = refl
+
+blank_lines : (ends : List LineEnd) → lines_from false (print_blank ends) ≡ 0
+blank_lines [] = refl
+blank_lines (end ∷ ends) =
+    lines_then false false (print_end end) (print_blank ends) (end_after false end)
+    ∙ ap (λ n. n + lines_from false (print_blank ends)) (blank_end end) ∙ ap (λ n. 0 + n) (blank_lines ends)
+
+blank_after : (ends : List LineEnd) → begun_after false (print_blank ends) ≡ false
+blank_after [] = refl
+blank_after (end ∷ ends) =
+    begun_then false false (print_end end) (print_blank ends) (end_after false end) ∙ blank_after ends
+
+-- ---- field lines
+
+-- a field line without its end
+field_text : Field → List ℕ
+field_text f = f.name ++ colon ∷ f.raw
+
+field_quiet : (f : Field) → IsField f → AllByRecursion IsQuiet (field_text f)
+unfolding field_text
+field_quiet f is =
+    quiet_append f.name (colon ∷ f.raw) (quiet_from is_token_byte f.name token_quiet is.name.1)
+    (refl, quiet_from is_value_byte f.raw value_quiet is.raw)
+
+field_begun : (begun : Bool) (f : Field) → IsField f → begun_after begun (field_text f) ≡ true
+unfolding field_text
+field_begun begun f is =
+    begun_then begun true f.name (colon ∷ f.raw) (token_after begun f.name is.name)
+    ∙ quiet_after (colon ∷ f.raw) (refl, quiet_from is_value_byte f.raw value_quiet is.raw)
+
+field_is : (f : Field) → print_field f ≡ field_text f ++ print_end f.end
+unfolding field_text
+field_is f = refl
+
+-- a text in one line, and its end
+text_lines : (text : List ℕ) (end : LineEnd) → AllByRecursion IsQuiet text → begun_after false text ≡ true
+    → lines_in (text ++ print_end end) ≡ 1
+text_lines text end quiet begun =
+    lines_then false true text (print_end end) begun ∙ ap (λ n. n + lines_from true (print_end end))
+    (quiet_lines false text quiet)
+    ∙ ap (λ n. 0 + n) (end_lines end)
+
+text_after : (text : List ℕ) (end : LineEnd) → begun_after false (text ++ print_end end) ≡ false
+text_after text end = begun_append false text (print_end end) ∙ end_after (begun_after false text) end
+
+fields_after : (fields : List Field) → begun_after false (flat_map print_field fields) ≡ false
+fields_after [] = refl
+fields_after (f ∷ fields) =
+    begun_then false false (print_field f) (flat_map print_field fields)
+    (ap (begun_after false) (field_is f) ∙ text_after (field_text f) f.end) ∙ fields_after fields
+
+fields_lines : (fields : List Field) → All IsField fields → lines_in (flat_map print_field fields) ≡ length fields
+fields_lines [] all = refl
+fields_lines (f ∷ fields) all =
+    let is = All-head IsField f fields all in
+    let one : lines_in (print_field f) ≡ 1 =
+    ap lines_in (field_is f) ∙ text_lines (field_text f) f.end (field_quiet f is) (field_begun false f is) in
+    let more = fields_lines fields (All-tail IsField f fields all) in
+    let both = lines_then false false (print_field f) (flat_map print_field fields)
+    (ap (begun_after false) (field_is f) ∙ text_after (field_text f) f.end) in
+    omega (arith, one, more, both)
+
+-- ---- what may stand before field lines: a start line, and nothing in a trailer
+
+pub record IsStart (start : List ℕ) (lines : ℕ) : Type 0 where
+  pub count : lines_in start ≡ lines
+  pub after : begun_after false start ≡ false
+
+pub no_start : IsStart [] 0
+no_start = record { count = refl; after = refl }
+
+-- a start line without its end
+start_text : RequestHead → List ℕ
+start_text h = h.method ++ space ∷ (h.target ++ space ∷ print_version h.minor)
+
+pub start_of : RequestHead → List ℕ
+start_of h = print_blank h.blank ++ (start_text h ++ print_end h.line_end)
+
+regroup_start : (b m t v e s : List ℕ) → b ++ (m ++ 32 ∷ (t ++ 32 ∷ (v ++ (e ++ s))))
+    ≡ (b ++ ((m ++ 32 ∷ (t ++ 32 ∷ v)) ++ e)) ++ s
+regroup_start b m t v e s =
+    sym (append_assoc b ((m ++ 32 ∷ (t ++ 32 ∷ v)) ++ e) s
+    ∙ ap (λ l. b ++ l) (append_assoc (m ++ 32 ∷ (t ++ 32 ∷ v)) e s ∙ append_assoc m (32 ∷ (t ++ 32 ∷ v)) (e ++ s)
+    ∙ ap (λ l. m ++ 32 ∷ l) (append_assoc t (32 ∷ v) (e ++ s))))
+
+request_is : (h : RequestHead) → print_request h ≡ start_of h ++ print_section h.fields h.last
+unfolding start_of start_text
+request_is h =
+    let section : List ℕ = print_section h.fields h.last in
+    sym (append-nil (print_request h)) ∙ print_request-append h []
+    ∙ regroup_start (print_blank h.blank) h.method h.target (print_version h.minor) (print_end h.line_end)
+    (section ++ [])
+    ∙ ap (λ l. start_of h ++ l) (append-nil section)
+
+version_quiet : (minor : ℕ) → minor ≤ 1 → AllByRecursion IsQuiet (print_version minor)
+version_quiet minor few =
+    quiet_append (codes "HTTP/1.") ((48 + minor) ∷ []) (refl, (refl, (refl, (refl, (refl, (refl, (refl, tt)))))))
+    (digit minor few, tt)
+  where
+    digit : (n : ℕ) → n ≤ 1 → (48 + n == 10) ≡ false
+    digit n few = grind (arith, nat_tests)
+
+start_quiet : (h : RequestHead) → IsRequestHead h → AllByRecursion IsQuiet (start_text h)
+unfolding start_text
+start_quiet h is =
+    quiet_append h.method (space ∷ (h.target ++ space ∷ print_version h.minor))
+    (quiet_from is_token_byte h.method token_quiet is.method.1) (
+      refl,
+      quiet_append h.target (space ∷ print_version h.minor)
+          (quiet_from is_uri_byte h.target uri_quiet is.target.1) (refl, version_quiet h.minor is.minor),
+    )
+
+start_begun : (h : RequestHead) → IsRequestHead h → begun_after false (start_text h) ≡ true
+unfolding start_text
+start_begun h is =
+    begun_then false true h.method (space ∷ (h.target ++ space ∷ print_version h.minor))
+    (token_after false h.method is.method)
+    ∙ quiet_after (space ∷ (h.target ++ space ∷ print_version h.minor)) (
+      refl,
+      quiet_append h.target (space ∷ print_version h.minor)
+          (quiet_from is_uri_byte h.target uri_quiet is.target.1) (refl, version_quiet h.minor is.minor),
+    )
+
+pub is_start : (h : RequestHead) → IsRequestHead h → IsStart (start_of h) 1
+unfolding start_of
+is_start h is =
+    let line : List ℕ = start_text h ++ print_end h.line_end in
+    let one = text_lines (start_text h) h.line_end (start_quiet h is) (start_begun h is) in
+    let both = lines_then false false (print_blank h.blank) line (blank_after h.blank) in
+    record {
+      count = omega (arith, one, both, blank_lines h.blank);
+      after = begun_then false false (print_blank h.blank) line (blank_after h.blank) ∙ text_after
+          (start_text h) h.line_end;
+    }
+
+pub started_lines : (start : List ℕ) (lines : ℕ) (fields : List Field) → IsStart start lines → All IsField fields
+    → lines_in (start ++ flat_map print_field fields) ≡ lines + length fields
+started_lines start lines fields is all =
+    let both = lines_then false false start (flat_map print_field fields) is.after in
+    omega (arith, both, is.count, fields_lines fields all)
+
+started_after : (start : List ℕ) (lines : ℕ) (fields : List Field) → IsStart start lines
+    → begun_after false (start ++ flat_map print_field fields) ≡ false
+started_after start lines fields is =
+    begun_then false false start (flat_map print_field fields) is.after ∙ fields_after fields
+
+-- ---- too many lines, from too many fields
+
+-- what stands before an empty line has the lines of its fields
+before_end : (front text : List ℕ) (last : LineEnd) → front ++ print_end lf ≡ (text ++ print_end last) ++ []
+    → lines_in text ≤ lines_in front
+before_end front text lf e =
+    let same : front ≡ text = (same_from_push front text 10 10 (e ∙ append-nil (text ++ print_end lf))).0 in
+    omega (arith, ap lines_in same)
+before_end front text crlf e =
+    let same : front ≡ text ++ 13 ∷ [] =
+    (same_from_push front (text ++ 13 ∷ []) 10 10
+    (e ∙ append-nil (text ++ print_end crlf) ∙ sym (append_assoc text (13 ∷ []) (10 ∷ [])))).0 in
+    omega (arith, ap lines_in same, lines_before text (13 ∷ []))
+
+pub section_lines : (room : ℕ) (buf : List ℕ) → SectionExceeds room buf → room < lines_in buf
+section_lines room buf e =
+    let fields = e.3 in
+    let text : List ℕ = flat_map print_field fields in
+    let fewer = before_end e.0 text lf e.4.1 in
+    omega (arith, fewer, fields_lines fields e.4.0, ap lines_in e.2, lines_before e.0 e.1, e.5)
+
+pub request_lines : (room : ℕ) (buf : List ℕ) → RequestExceeds room buf → room + 1 < lines_in buf
+request_lines room buf e =
+    let h = e.3 in
+    let text : List ℕ = start_of h ++ flat_map print_field h.fields in
+    let whole : print_request h ≡ text ++ print_end h.last =
+    request_is h ∙ sym (append_assoc (start_of h) (flat_map print_field h.fields) (print_end h.last)) in
+    let fewer = before_end e.0 text h.last (e.4.1 ∙ ap (λ l. l ++ []) whole) in
+    let count = started_lines (start_of h) 1 h.fields (is_start h e.4.0) e.4.0.fields in
+    omega (arith, fewer, count, ap lines_in e.2, lines_before e.0 e.1, e.5)
+
+-- ---- too many fields, from too many lines
+
+-- the field line that is one too many ends in the bytes
+pub record HasMore (start buf : List ℕ) (fields : List Field) (room : ℕ) : Type 0 where
+  pub over : Field
+  pub is_field : IsField over
+  pub rest : List ℕ
+  pub begins : buf ≡ (start ++ flat_map print_field (take room fields ++ over ∷ [])) ++ rest
+  pub count : room < length (take room fields ++ over ∷ [])
+
+-- bytes that are the front of others are longer than theirs, or a front of them
+front_or : (c more a b : List ℕ) → a ++ b ≡ c ++ 10 ∷ more
+    → ((rest : List ℕ) × (a ≡ (c ++ 10 ∷ []) ++ rest)) ⊎ (a ≡ take (length a) c)
+front_or c more a b e = by_test (nat_lt (length c) (length a)) refl
+  where
+    front : a ≡ take (length a) (c ++ 10 ∷ more)
+    front = sym (take_at a b (length a) refl) ∙ ap (take (length a)) e
+
+    by_test : (t : Bool) → nat_lt (length c) (length a) ≡ t
+        → ((rest : List ℕ) × (a ≡ (c ++ 10 ∷ []) ++ rest)) ⊎ (a ≡ take (length a) c)
+    by_test true is =
+        let longer : length c < length a = grind (arith, nat_tests) in
+        let n = length (c ++ 10 ∷ []) in
+        let fits : n ≤ length a = omega (arith, length-append c (10 ∷ []), longer) in
+        let whole : c ++ 10 ∷ more ≡ (c ++ 10 ∷ []) ++ more = sym (append_assoc c (10 ∷ []) more) in
+        let same : take n a ≡ c ++ 10 ∷ [] =
+        sym (take-append-le n a b fits) ∙ ap (take n) (e ∙ whole) ∙ take_at (c ++ 10 ∷ []) more n refl in
+        inl (drop n a, sym (take-append-drop n a) ∙ ap (λ l. l ++ drop n a) same)
+    by_test false is =
+        let shorter : length a ≤ length c = grind (arith, nat_tests) in
+        inr (front ∙ take-append-le (length a) c (10 ∷ more) shorter)
+
+-- a line end, up to its line feed
+abbrev feed_front : LineEnd → List ℕ
+feed_front crlf = 13 ∷ []
+feed_front lf = []
+
+feed_is : (end : LineEnd) → print_end end ≡ feed_front end ++ 10 ∷ []
+feed_is crlf = refl
+feed_is lf = refl
+
+feed_lines : (end : LineEnd) → lines_from true (feed_front end) ≡ 0
+feed_lines crlf = refl
+feed_lines lf = refl
+
+-- ---- the field line that is one too many
+
+regroup : (s b t r o q z : List ℕ)
+    → (s ++ (b ++ ((t ++ (r ++ o)) ++ q))) ++ z ≡ ((s ++ b) ++ (t ++ r)) ++ (o ++ (q ++ z))
+regroup s b t r o q z = simp append_assoc
+
+regroup_short : (s b t r o : List ℕ) → ((s ++ b) ++ (t ++ r)) ++ o ≡ s ++ (b ++ ((t ++ (r ++ o)) ++ []))
+regroup_short s b t r o = simp (append_assoc, append-nil)
+
+field_split : (f : Field) → print_field f ≡ field_text f ++ (feed_front f.end ++ 10 ∷ [])
+field_split f = field_is f ∙ ap (λ l. field_text f ++ l) (feed_is f.end)
+
+fields_split : (before later : List Field) (f : Field) → flat_map print_field (before ++ f ∷ later)
+    ≡ flat_map print_field before ++ ((field_text f ++ (feed_front f.end ++ 10 ∷ [])) ++ flat_map print_field later)
+fields_split before later f =
+    flat_map-append print_field before (f ∷ later)
+    ∙ ap (λ l. flat_map print_field before ++ (l ++ flat_map print_field later)) (field_split f)
+
+-- the bytes before the line feed of that line
+over_text : List ℕ → List Field → Field → List ℕ
+over_text start before f = (start ++ flat_map print_field before) ++ (field_text f ++ feed_front f.end)
+
+over_lines : (start : List ℕ) (lines : ℕ) (before : List Field) (f : Field) → IsStart start lines → All IsField before
+    → IsField f → lines_in (over_text start before f) ≡ lines + length before
+unfolding over_text
+over_lines start lines before f is all is_field =
+    let front : List ℕ = start ++ flat_map print_field before in
+    let text : List ℕ = field_text f in
+    let both = lines_then false false front (text ++ feed_front f.end) (started_after start lines before is) in
+    let line = lines_then false true text (feed_front f.end) (field_begun false f is_field) in
+    let quiet = quiet_lines false text (field_quiet f is_field) in
+    omega (arith, both, line, quiet, feed_lines f.end, started_lines start lines before is all)
+
+pub has_more : (start : List ℕ) (lines : ℕ) (fields : List Field) (buf more : List ℕ) (last : LineEnd) (room : ℕ)
+    → IsStart start lines → All IsField fields → buf ++ more ≡ (start ++ flat_map print_field fields) ++ print_end last
+    → lines + room < lines_in buf → HasMore start buf fields room
+unfolding over_text
+has_more start lines fields buf more last room is all e many = by_rest (drop room fields) refl
+  where
+    text : List ℕ
+    text = start ++ flat_map print_field fields
+
+    count : room < length fields
+    count =
+        let end = lines_then false false text (print_end last) (started_after start lines fields is) in
+        omega (
+          arith,
+          end,
+          blank_end last,
+          started_lines start lines fields is all,
+          lines_before buf more,
+          ap lines_in e,
+          many,
+        )
+
+    by_rest : (later : List Field) → drop room fields ≡ later → HasMore start buf fields room
+    by_rest [] none = absurd (omega (arith, count, ap length none, length-drop room fields))
+    by_rest (f ∷ later) some = by_front (front_or c q buf more whole)
+      where
+        c : List ℕ
+        c = over_text start (take room fields) f
+
+        q : List ℕ
+        q = flat_map print_field later ++ print_end last
+
+        is_field : IsField f
+        is_field = All-head IsField f later (subst (All IsField) some (All-drop IsField room fields all))
+
+        whole : buf ++ more ≡ c ++ 10 ∷ q
+        whole =
+            let split : fields ≡ take room fields ++ f ∷ later =
+            sym (take-append-drop room fields) ∙ ap (λ l. take room fields ++ l) some in
+            e ∙ ap (λ l. (start ++ flat_map print_field l) ++ print_end last) split
+            ∙ ap (λ l. (start ++ l) ++ print_end last) (fields_split (take room fields) later f)
+            ∙ regroup start (flat_map print_field (take room fields)) (field_text f) (feed_front f.end) (10 ∷ [])
+            (flat_map print_field later) (print_end last)
+
+        shown : c ++ 10 ∷ [] ≡ start ++ flat_map print_field (take room fields ++ f ∷ [])
+        shown =
+            regroup_short start (flat_map print_field (take room fields)) (field_text f) (feed_front f.end) (10 ∷ [])
+            ∙ ap (λ l. start ++ l) (sym (fields_split (take room fields) [] f))
+
+        by_front : ((rest : List ℕ) × (buf ≡ (c ++ 10 ∷ []) ++ rest)) ⊎ (buf ≡ take (length buf) c)
+            → HasMore start buf fields room
+        by_front (inl w) = record {
+          over = f;
+          is_field = is_field;
+          rest = w.0;
+          begins = w.1 ∙ ap (λ l. l ++ w.0) shown;
+          count = omega (arith, length-append (take room fields) (f ∷ []), length-take room fields, count);
+        }
+        by_front (inr short) =
+            let few : lines_in c ≡ lines + length (take room fields) =
+            over_lines start lines (take room fields) f is (All-take IsField room fields all) is_field in
+            let fewer = lines_before (take (length buf) c) (drop (length buf) c) in
+            let all_of : lines_in (take (length buf) c ++ drop (length buf) c) ≡ lines_in c =
+            ap lines_in (take-append-drop (length buf) c) in
+            absurd (omega (arith, few, fewer, all_of, ap lines_in short, many, length-take room fields))
+
+pub section_exceeds_many : (room : ℕ) (buf : List ℕ) → MayBecomeSection buf → room < lines_in buf
+    → SectionExceeds room buf
+section_exceeds_many room buf may many =
+    let fields = may.1 in
+    let all = may.3.0 in
+    let m = has_more [] 0 fields buf may.0 may.2 room no_start all (may.3.1 ∙ append-nil (print_section fields may.2))
+    (omega (arith, many)) in
+    let found : List Field = take room fields ++ m.over ∷ [] in (
+      flat_map print_field found,
+      m.rest,
+      m.begins,
+      found,
+      (
+        All-push IsField (take room fields) m.over (All-take IsField room fields all) m.is_field,
+        sym
+            (append-nil (print_section found lf)),
+      ),
+      m.count,
+    )
+
+same_start : (h : RequestHead) (fields : List Field)
+    → start_of h ≡ start_of (record {
+      blank = h.blank;
+      method = h.method;
+      target = h.target;
+      minor = h.minor;
+      line_end = h.line_end;
+      fields = fields;
+      last = lf;
+    })
+unfolding start_of start_text
+same_start h fields = refl
+
+request_exceeds : (room : ℕ) (buf : List ℕ) (h : RequestHead) → IsRequestHead h → HasMore (start_of h) buf h.fields room
+    → RequestExceeds room buf
+request_exceeds room buf h is m =
+    let found : List Field = take room h.fields ++ m.over ∷ [] in
+    let short : RequestHead = record {
+      blank = h.blank;
+      method = h.method;
+      target = h.target;
+      minor = h.minor;
+      line_end = h.line_end;
+      fields = found;
+      last = lf;
+    } in
+    let text : List ℕ = flat_map print_field found in (
+      start_of h ++ text,
+      m.rest,
+      m.begins,
+      short,
+      (
+        record {
+          method = is.method;
+          target = is.target;
+          target_text = is.target_text;
+          minor = is.minor;
+          fields = All-push IsField (take room h.fields) m.over (All-take IsField room h.fields is.fields) m.is_field;
+        },
+        append_assoc (start_of h) text (print_end lf) ∙ ap (λ l. l ++ (text ++ print_end lf)) (same_start h found)
+            ∙ sym (request_is short) ∙ sym (append-nil (print_request short)),
+      ),
+      m.count,
+    )
+
+in_target : (buf : List ℕ) → EndsInTarget buf → lines_in buf ≡ 0
+in_target buf e =
+    let line : List ℕ = e.1 ++ space ∷ e.2 in
+    let quiet = quiet_append e.1 (space ∷ e.2) (quiet_from is_token_byte e.1 token_quiet e.3.1)
+    (refl, quiet_from is_uri_byte e.2 uri_quiet e.4) in
+    let both = lines_then false false (print_blank e.0) line (blank_after e.0) in
+    omega (
+      arith,
+      ap lines_in (e.5 ∙ append_assoc (print_blank e.0) e.1 (space ∷ e.2)),
+      both,
+      blank_lines e.0,
+      quiet_lines false line quiet,
+    )
+
+pub request_exceeds_many : (room : ℕ) (buf : List ℕ) → MayBecomeRequest buf → room + 1 < lines_in buf
+    → RequestExceeds room buf
+request_exceeds_many room buf (inl may) many =
+    let h = may.1 in
+    let is = may.2.0 in
+    let text : List ℕ = flat_map print_field h.fields in
+    request_exceeds room buf h is
+    (has_more (start_of h) 1 h.fields buf may.0 h.last room (is_start h is) is.fields
+    (may.2.1 ∙ append-nil (print_request h) ∙ request_is h ∙ sym (append_assoc (start_of h) text (print_end h.last)))
+    (omega (arith, many)))
+request_exceeds_many room buf (inr e) many = absurd (omega (arith, in_target buf e, many))
+
+-- ---- one byte more
+
+pub lines_next : (bytes : List ℕ) (i ended r : ℕ) (begun : Bool) → i < length bytes → ended ≡ lines_in (take i bytes)
+    → begun ≡ begun_after false (take i bytes) → r ≡ ends_line begun (get_or bytes i 0)
+    → ended + r ≡ lines_in (take (i + 1) bytes)
+lines_next bytes i ended r begun inside count state is =
+    let here : r ≡ ends_line (begun_after false (take i bytes)) (get_or bytes i 0) =
+    is ∙ ap (λ t. ends_line t (get_or bytes i 0)) state in
+    omega (arith, lines_more bytes i inside, here, count)
+
+pub ends_here : (bytes : List ℕ) (i ended r lines : ℕ) (begun : Bool) → i < length bytes → ended ≡ lines_in
+    (take i bytes)
+    → begun ≡ begun_after false (take i bytes) → r ≡ ends_line begun (get_or bytes i 0) → ended ≤ lines
+    → lines < ended + r → EndsLine bytes lines (i + 1)
+ends_here bytes i ended r lines begun inside count state is few many = record {
+  fits = omega (arith, inside);
+  many = omega (arith, many, lines_next bytes i ended r begun inside count state is);
+  few = λ n before.
+      let less : n ≤ i = omega (arith, before, length-take (i + 1) bytes) in
+      let cut : take n (take (i + 1) bytes) ≡ take n bytes = take-take n (i + 1) bytes (omega (arith, less)) in
+      omega (arith, ap lines_in cut, lines_front bytes n i less, count, few);
+}

@@ -1,0 +1,9 @@
+pub mod TakeLemmas
+pub mod CountLemmas
+pub mod HeadLemmas
+pub mod LimitLemmas
+pub mod LineLemmas
+pub mod BodyLemmas
+pub mod MoveLemmas
+pub mod ReadingLemmas
+pub mod TurnLemmas

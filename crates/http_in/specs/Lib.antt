@@ -1,0 +1,10 @@
+pub mod Limits
+pub mod Unframed
+pub mod Lines
+pub mod Chunks
+pub mod Message
+pub mod Faults
+pub mod Requests
+pub mod Head
+pub mod Progress
+pub mod Reading

@@ -1,0 +1,4 @@
+pub mod Limits
+pub mod Fields
+pub mod Said
+pub mod Arguments
