@@ -1,0 +1,5 @@
+pub mod Distinct
+pub mod KindLaws
+pub mod BodyLaws
+pub mod Again
+pub mod Whole

@@ -1,0 +1,4 @@
+pub mod Kinds
+pub mod Cells
+pub mod Body
+pub mod Values

@@ -1,0 +1,14 @@
+//! One column of a block: the values that one field has in the rows, in the first of four kinds that fits, and the
+//! column as bytes.
+#![tactic(auto)]
+
+mod cells;
+mod codes;
+mod column;
+mod kinds;
+mod put;
+mod read;
+mod take;
+
+pub use column::{FoundColumn, Value, ValueColumn};
+pub use take::take_kind;
