@@ -24,7 +24,7 @@ pub enum QueryFault {
     BadNumber { at: usize },
     /// The time there is neither a duration nor a bound in range.
     BadTime { at: usize },
-    /// The duration there is too long, or stands inside brackets.
+    /// The duration there is too long or stands inside brackets, or the step of a key there is zero or no duration.
     BadDuration { at: usize },
     /// Memory ran out.
     Memory,
@@ -81,7 +81,7 @@ pub enum Stop {
     BadNumber { at: usize },
     /// The time at this place is neither a duration nor a bound in range.
     BadTime { at: usize },
-    /// The duration at this place is too long, or stands inside brackets.
+    /// The duration at this place is too long or stands inside brackets, or the step of a key is zero or no duration.
     BadDuration { at: usize },
     /// Memory ran out.
     Memory,

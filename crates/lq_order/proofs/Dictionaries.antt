@@ -15,12 +15,12 @@ use Rattle.lq_ast.proofs.Sorted.{split_bool}
 use Rattle.lq_order.specs.Dictionary.{AreKnown, IsDictionary, IsEntered}
 use Rattle.lq_order.specs.Mirror.{Mirrors}
 
-get_front : {A : Type 0} (xs ys : List A) (k : ℕ) (d : A) → k < length xs → get_or (xs ++ ys) k d ≡ get_or xs k d
+pub get_front : {A : Type 0} (xs ys : List A) (k : ℕ) (d : A) → k < length xs → get_or (xs ++ ys) k d ≡ get_or xs k d
 get_front [] ys k d h = absurd (omega arith)
 get_front (x ∷ xs) ys zero d h = refl
 get_front (x ∷ xs) ys (suc k) d h = get_front xs ys k d (omega arith)
 
-get_last : {A : Type 0} (xs : List A) (x : A) (k : ℕ) (d : A) → k ≡ length xs → get_or (xs ++ x ∷ []) k d ≡ x
+pub get_last : {A : Type 0} (xs : List A) (x : A) (k : ℕ) (d : A) → k ≡ length xs → get_or (xs ++ x ∷ []) k d ≡ x
 get_last [] x zero d e = refl
 get_last [] x (suc k) d e = absurd (omega arith)
 get_last (y ∷ ys) x zero d e = absurd (omega arith)

@@ -1,9 +1,11 @@
 pub mod Answering
 pub mod Columns
 pub mod Dictionaries
-pub mod Grouping
+pub mod Leading
+pub mod Named
 pub mod Orders
 pub mod Picked
 pub mod Places
 pub mod Ranking
-pub mod Runs
+pub mod SortedPlaces
+pub mod Tallying

@@ -1,9 +1,10 @@
 -- The orders of columns and of places.
-use Rattle.std.proofs.Common.{Bool, true, false, cond, List, [], ◌∷◌, refl, slice_index, subst}
+use Rattle.std.proofs.Common.{◌≡◌, ℕ, Bool, true, false, cond, List, [], ◌∷◌, length, get_or, refl, sym, ap, ◌∙◌}
+use Rattle.std.proofs.Common.{slice_index, subst, arith}
 use Rattle.std.specs.Cmp.{IsTotalOrder, back_total, nat_cmp_total, on_total, then_total}
-use Rattle.std.specs.Ordering.{nat_cmp, on, ordering_reverse}
+use Rattle.std.specs.Ordering.{nat_cmp, on, ordering_reverse, ordering_then}
 use Rattle.std.specs.declared.cmp.Ordering.{Ordering}
-use Rattle.std.specs.declared.cmp.Ordering.TheVariants.{Equal}
+use Rattle.std.specs.declared.cmp.Ordering.TheVariants.{Equal, Greater, Less}
 use Rattle.lq_order.specs.Column.{column_cmp, columns_cmp}
 use Rattle.lq_order.specs.declared.column.Column.{Column}
 
@@ -22,3 +23,16 @@ column_cmp_total column = directed_total column.desc (on (slice_index column.ran
 pub columns_cmp_total : (columns : List Column) → IsTotalOrder (columns_cmp columns)
 columns_cmp_total [] = level_total
 columns_cmp_total (column ∷ columns) = then_total (column_cmp_total column) (columns_cmp_total columns)
+
+then_equal : (o : Ordering) → ordering_then o Equal ≡ o
+then_equal Less = refl
+then_equal Equal = refl
+then_equal Greater = refl
+
+-- where there is one column alone
+pub one_column : (columns : List Column) (column : Column) → length columns ≡ 1 → column ≡ get_or columns 0 column
+    → (a b : ℕ) → column_cmp column a b ≡ columns_cmp columns a b
+one_column [] column one is a b = absurd (omega arith)
+one_column (first ∷ []) column one is a b =
+    ap (λ c. column_cmp c a b) is ∙ sym (then_equal (column_cmp first a b))
+one_column (first ∷ (second ∷ columns)) column one is a b = absurd (omega arith)

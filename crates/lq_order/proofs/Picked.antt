@@ -2,7 +2,7 @@
 use Rattle.std.proofs.Common.{◌≡◌, ◌≢◌, ℕ, zero, suc, ◌<◌, ◌≤◌, List, [], ◌∷◌, map, length, get_or, take}
 use Rattle.std.proofs.Common.{drop}
 use Rattle.std.proofs.Common.{Option, Some, None, refl, sym, ap, ◌∙◌}
-use Rattle.std.specs.List.{AllByRecursion, enumerate_from}
+use Rattle.std.specs.List.{AllByRecursion, enumerate_from, range_with_len}
 use Rattle.std.specs.Ordering.{on}
 use Rattle.std.specs.declared.cmp.Ordering.{Ordering}
 use Rattle.lq_ast.proofs.Sorted.{Pairwise, all_at, all_from_places, map_sorted, pairs_from_pairwise, pairwise_sorted}
@@ -10,10 +10,9 @@ use Rattle.lq_ast.proofs.Sorted.{all_sorted, all_weaker, sorted_alike}
 use Rattle.lq_ast.specs.Records.{Record}
 use Rattle.lq_ast.specs.Tuples.{sorted_by}
 use Rattle.lq_order.specs.Mirror.{Mirrors}
-use Rattle.lq_order.specs.Placed.{ArePlaces, placed_of}
-use Rattle.lq_order.specs.declared.placed.Placed.{Placed}
+use Rattle.lq_order.specs.Places.{ArePlaces}
 use Rattle.lq_ast.specs.Sorting.{at_most}
-use Rattle.lq_order.proofs.Places.{enumerate_apart, enumerate_each, enumerate_items}
+use Rattle.lq_order.proofs.Places.{enumerate_apart, enumerate_each, enumerate_items, enumerate_places}
 
 -- ---- parts of a list
 
@@ -81,15 +80,15 @@ pairwise_mapped f R (x ∷ xs) h = (all_mapped f (R (f x)) xs h.0, pairwise_mapp
 
 module _ {A : Type 0} (items : List A) where
   -- a place below the length, with its item
-  unfoldable pub Stands : ℕ × A → Type 0
+  unfoldable Stands : ℕ × A → Type 0
   Stands p = (p.0 < length items) × ((d : A) → get_or items p.0 d ≡ p.1)
 
-  pub stand_each : AllByRecursion Stands (enumerate_from 0 items)
+  stand_each : AllByRecursion Stands (enumerate_from 0 items)
   unfolding Stands
   stand_each = all_from_places Stands (enumerate_from 0 items) (enumerate_each items)
 
   -- places that are in the order of the items are sorted as these
-  pub sorted_as_items : (places : ℕ → ℕ → Ordering) (order : A → A → Ordering) → Mirrors places order items
+  sorted_as_items : (places : ℕ → ℕ → Ordering) (order : A → A → Ordering) → Mirrors places order items
       → sorted_by (on (λ p. p.0) places) (enumerate_from 0 items)
       ≡ sorted_by (on (λ p. p.1) order) (enumerate_from 0 items)
   unfolding Stands
@@ -98,6 +97,15 @@ module _ {A : Type 0} (items : List A) where
       (λ p q at_p at_q. m.same p.0 q.0 p.1 at_p.0 at_q.0 ∙ ap (λ x. order x (get_or items q.0 p.1)) (at_p.1 p.1)
       ∙ ap (order p.1) (at_q.1 p.1))
       (enumerate_from 0 items) stand_each
+
+  -- the same of the places alone
+  pub places_as_items : (places : ℕ → ℕ → Ordering) (order : A → A → Ordering) → Mirrors places order items
+      → sorted_by places (range_with_len 0 (length items))
+      ≡ map (λ p. p.0) (sorted_by (on (λ p. p.1) order) (enumerate_from 0 items))
+  places_as_items places order m =
+      ap (sorted_by places) (sym (enumerate_places 0 items))
+      ∙ sym (map_sorted (λ p. p.0) places (enumerate_from 0 items))
+      ∙ ap (map (λ p. p.0)) (sorted_as_items places order m)
 
   module _ (order : A → A → Ordering) (offset : ℕ) (limit : Option ℕ) where
     chosen : List (ℕ × A)
@@ -136,20 +144,14 @@ module _ {A : Type 0} (items : List A) where
         ∙ ap (drop offset) (map_sorted (λ p. p.1) order (enumerate_from 0 items)
         ∙ ap (sorted_by order) (enumerate_items 0 items)))
 
-all_every : {A : Type 0} (P : A → Type 0) → ((x : A) → P x) → (xs : List A) → AllByRecursion P xs
-all_every P h [] = tt
-all_every P h (x ∷ xs) = (h x, all_every P h xs)
-
 -- the places of what is kept
-pub places_kept : (kept placed : List Placed) (offset : ℕ) (limit : Option ℕ) (entries : List (ℕ × Record))
-    → kept ≡ at_most limit (drop offset placed) → map placed_of placed ≡ entries
-    → map (λ one. one.at) kept ≡ map (λ p. p.0) (at_most limit (drop offset entries))
-places_kept kept placed offset limit entries is all =
-    ap (map (λ one. one.at)) is
-    ∙ sym (map_alike placed_of (λ p. p.0) (λ one. one.at) (at_most limit (drop offset placed))
-    (all_every _ (λ p. refl) _))
-    ∙ ap (map (λ p. p.0)) (map_at_most placed_of limit (drop offset placed)
-    ∙ ap (at_most limit) (map_dropped placed_of offset placed ∙ ap (drop offset) all))
+pub places_kept : {A : Type 0} (kept places : List ℕ) (offset : ℕ) (limit : Option ℕ) (entries : List (ℕ × A))
+    → kept ≡ at_most limit (drop offset places) → places ≡ map (λ p. p.0) entries
+    → kept ≡ map (λ p. p.0) (at_most limit (drop offset entries))
+places_kept kept places offset limit entries is all =
+    is ∙ ap (λ ps. at_most limit (drop offset ps)) all
+    ∙ sym (map_at_most (λ p. p.0) limit (drop offset entries)
+    ∙ ap (at_most limit) (map_dropped (λ p. p.0) offset entries))
 
 -- ---- records that are taken out one after another
 

@@ -1,12 +1,12 @@
 -- Items with their places, sorted: each place stands there once, beside its item.
 use Rattle.std.proofs.Common.{◌≡◌, ℕ, zero, suc, ◌+◌, ◌<◌, ◌≢◌, List, [], ◌∷◌, ◌++◌, map, length, get_or, take}
 use Rattle.std.proofs.Common.{refl, sym, ap, subst, ◌∙◌, arith}
-use Rattle.std.proofs.lemmas.List.{get_or_default, map_more, map_push, take_more}
-use Rattle.std.proofs.lemmas.List.FromFn.{get_or-enumerate_from, length-enumerate_from}
+use Rattle.std.proofs.lemmas.List.{get_or_default, map-id, map_more, map_push}
+use Rattle.std.proofs.lemmas.List.FromFn.{get_or-enumerate_from, length-enumerate_from, map-range_with_len_more}
 use Rattle.std.proofs.lemmas.List.Elements.{Contains-get_or}
 use Rattle.std.proofs.lemmas.List.Sorted.{All-permutation, Contains-permutation, length_permutation}
 use Rattle.std.specs.List.Sorted.{IsPermutation}
-use Rattle.std.specs.List.{AllByRecursion, AllPairs, Contains, enumerate_from}
+use Rattle.std.specs.List.{AllByRecursion, AllPairs, Contains, enumerate_from, range_with_len}
 use Rattle.std.specs.declared.cmp.Ordering.{Ordering}
 use Rattle.lq_ast.proofs.Sorted.{Pairwise, all_weaker, pairs_from_pairwise, pairwise_sorted, permutation_sorted}
 use Rattle.lq_ast.specs.Tuples.{sorted_by}
@@ -27,17 +27,6 @@ length_map f [] = refl
 length_map f (x ∷ xs) = ap suc (length_map f xs)
 
 -- one more entry, for one more item
-pub enumerate_more : {P X : Type 0} (entry : P → ℕ × X) (xs : List X) (i : ℕ) (done more : List P) (p : P) (x d : X)
-    → more ≡ done ++ p ∷ [] → entry p ≡ (i, x) → x ≡ get_or xs i d → i < length xs
-    → map entry done ≡ enumerate_from 0 (take i xs) → map entry more ≡ enumerate_from 0 (take (i + 1) xs)
-enumerate_more entry xs i done more p x d pushed is at within so_far =
-    ap (map entry) pushed ∙ map_push entry done p
-    ∙ ap (λ l. l ++ entry p ∷ []) so_far
-    ∙ ap (λ e. enumerate_from 0 (take i xs) ++ e ∷ []) (is ∙ ap (λ y. (i, y)) at)
-    ∙ sym (enumerate_push 0 (take i xs) (get_or xs i d) i (omega (arith, length_taken xs i within)))
-    ∙ ap (enumerate_from 0) (sym (take_more xs i d within))
-
--- the same for items that are made of others
 pub enumerate_made_more : {P X Y : Type 0} (entry : P → ℕ × Y) (make : X
     → Y) (xs : List X) (i : ℕ) (done more : List P)
     (p : P) (x d : X) → more ≡ done ++ p ∷ [] → entry p ≡ (i, make x) → x ≡ get_or xs i d → i < length xs
@@ -54,6 +43,17 @@ enumerate_made_more entry make xs i done more p x d pushed is at within so_far =
 pub enumerate_items : {X : Type 0} (n : ℕ) (xs : List X) → map (λ p. p.1) (enumerate_from n xs) ≡ xs
 enumerate_items n [] = refl
 enumerate_items n (x ∷ xs) = ap (λ l. x ∷ l) (enumerate_items (n + 1) xs)
+
+pub enumerate_places : {X : Type 0} (n : ℕ) (xs : List X) → map (λ p. p.0) (enumerate_from n xs)
+    ≡ range_with_len n (length xs)
+enumerate_places n [] = refl
+enumerate_places n (x ∷ xs) = ap (λ l. n ∷ l) (enumerate_places (n + 1) xs)
+
+-- one more place
+pub range_more : (n m k : ℕ) → n + m ≡ k → range_with_len n (m + 1) ≡ range_with_len n m ++ k ∷ []
+range_more n m k is =
+    sym (map-id (range_with_len n (m + 1))) ∙ map-range_with_len_more (λ p. p) n m k is
+    ∙ ap (λ l. l ++ k ∷ []) (map-id (range_with_len n m))
 
 above : {X : Type 0} (n m : ℕ) (xs : List X) → n < m → AllByRecursion (λ (p : ℕ × X). n < p.0) (enumerate_from m xs)
 above n m [] h = tt

@@ -2,5 +2,6 @@ pub mod Column
 pub mod Dictionary
 pub mod Groups
 pub mod Mirror
-pub mod Placed
+pub mod Places
 pub mod Ranks
+pub mod Tally

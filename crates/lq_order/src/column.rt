@@ -32,7 +32,7 @@ impl Column {
     }
 
     /// How the records at two places stand to each other.
-    fn compare(&self, a: usize, b: usize) -> Ordering
+    pub(crate) fn compare(&self, a: usize, b: usize) -> Ordering
         ensures { result ≡ column_cmp self.now a b }
     {
         let order = self.rank(a).cmp(&self.rank(b));

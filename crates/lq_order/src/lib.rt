@@ -4,12 +4,15 @@
 mod column;
 mod dictionary;
 mod group;
-mod placed;
+mod keyed;
 mod ranks;
+mod records;
 mod sort;
+mod tally;
 mod top;
 mod uniq;
 
-pub use sort::sort_recs;
+pub use sort::{sort_recs, sorted_places};
+pub use tally::Tally;
 pub use top::top_recs;
 pub use uniq::uniq_recs;

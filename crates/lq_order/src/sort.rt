@@ -1,14 +1,13 @@
 //! The `sort` pipe.
 ghost use Rattle.std.specs.Prelude.{◌≡◌, IfOk, drop, length, map, slice_index_or, []};
-ghost use Rattle.std.specs.List.{enumerate_from};
-ghost use Rattle.std.specs.Ordering.{on};
-ghost use Rattle.lq_ast.specs.PipeView.{sort_by, sorting};
+ghost use Rattle.std.specs.List.{range_with_len};
+ghost use Rattle.lq_ast.specs.PipeView.{sorting};
+ghost use Rattle.lq_ast.specs.Sorting.{at_most, sorted};
 ghost use Rattle.lq_ast.specs.Tuples.{sorted_by};
-ghost use Rattle.lq_order.specs.Placed.{ArePlaces};
-ghost use Rattle.lq_ast.specs.Sorting.{at_most, record_cmp, sorted};
+ghost use Rattle.lq_order.specs.Column.{columns_cmp};
+ghost use Rattle.lq_order.specs.Places.{ArePlaces, sorted_places};
 
-use crate::column::columns;
-use crate::placed::in_order;
+use crate::column::{Column, columns, compare};
 use lq_ast::SortPipe;
 use std::alloc::{AllocError, Global};
 use std::mem;
@@ -20,21 +19,35 @@ pub fn sort_recs(alloc: Global, p: &SortPipe, r: Recs) -> Result<Recs, AllocErro
     ensures { IfOk result (λ records. records ≡ sorted (sorting p.now) r) }
 {
     let records = r.into_vec();
-    let places = places(alloc, p, records.as_slice())?;
+    let places = sorted_places(alloc, p, records.as_slice())?;
     moved(alloc, records, places.as_slice())
 }
 
-/// Where the records stand that are kept.
-fn places(alloc: Global, p: &SortPipe, records: &[FieldList]) -> Result<Vec<usize>, AllocError>
-    ensures { IfOk result (λ places. places.items ≡ map (λ one. one.0) (at_most p.now.limit (drop p.now.offset
-        (sorted_by (on (λ one. one.1) (record_cmp (map sort_by p.now.keys))) (enumerate_from 0 records.now))))) }
+/// Where the records stand that the pipe keeps, counted from 0, in the pipe's order.
+pub fn sorted_places(
+    alloc: Global,
+    p: &SortPipe,
+    records: &[FieldList],
+) -> Result<Vec<usize>, AllocError>
+    ensures sorted { IfOk result (λ places. places.items ≡ sorted_places (sorting p.now) records.now) }
+    ensures apart { IfOk result (λ places. ArePlaces (length records.now) places.items) }
 {
     let columns = columns(alloc, p.keys.as_slice(), records)?;
-    let placed = in_order(alloc, columns.as_slice(), records)?;
-    let kept = kept(placed.as_slice(), p.offset, p.limit);
-    let mut places = Vec::with_capacity(alloc, kept.len())?;
-    for one in kept {
-        places.push(one.at)?;
+    let places = in_order(alloc, columns.as_slice(), records.len())?;
+    kept(places.as_slice(), p.offset, p.limit).to_vec(alloc)
+}
+
+/// The places of so many records by the columns. Those that are equal in these stand as they came.
+fn in_order(alloc: Global, columns: &[Column], count: usize) -> Result<Vec<usize>, AllocError>
+    ensures { IfOk result (λ places. places.items ≡ sorted_by (columns_cmp columns.now) (range_with_len 0 count)) }
+{
+    let mut places = Vec::with_capacity(alloc, count)?;
+    for place in 0..count {
+        places.push(place)?;
+    }
+    match columns {
+        [column] => places.sort_by(|a, b| column.compare(*a, *b))?,
+        _ => places.sort_by(|a, b| compare(columns, *a, *b))?,
     }
     Ok(places)
 }

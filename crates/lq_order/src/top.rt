@@ -1,10 +1,15 @@
 //! The `top` pipe.
-ghost use Rattle.std.specs.Prelude.{◌≡◌, IfOk};
+ghost use Rattle.std.specs.Prelude.{◌≡◌, IfOk, List, map};
 ghost use Rattle.lq_ast.specs.PipeView.{ranking};
+ghost use Rattle.lq_ast.specs.Records.{Record};
 ghost use Rattle.lq_ast.specs.Sorting as sorting;
+ghost use Rattle.lq_order.specs.Groups.{AreEnough, group_hits, placed};
+ghost use Rattle.lq_order.specs.Tally.{Tallies};
 
-use crate::group::{groups, records_of};
+use crate::group::Group;
+use crate::records::{in_order, records_of};
 use crate::sort::kept;
+use crate::tally::Tally;
 use lq_ast::TopPipe;
 use std::alloc::{AllocError, Global};
 use vl_row::Recs;
@@ -15,8 +20,49 @@ pub fn top_recs(alloc: Global, p: &TopPipe, r: Recs) -> Result<Recs, AllocError>
     ensures { IfOk result (λ records. records ≡ sorting.top (ranking p.now) r) }
 {
     let records = r.into_vec();
-    let names = p.names.as_slice();
-    let mut groups = groups(alloc, names, records.as_slice())?;
-    groups.sort_by(|a, b| b.others.cmp(&a.others))?;
-    records_of(alloc, names, true, kept(groups.as_slice(), 0, Some(p.n)))
+    let mut tally = Tally::new(alloc, p.names.as_slice());
+    tally.add_all(alloc, records.as_slice())?;
+    drop(records);
+    tally.top(alloc, p)
+}
+
+impl<'p> Tally<'p> {
+    /// What the pipe makes of the records of the tally of its fields.
+    pub fn top(mut self, alloc: Global, p: &TopPipe) -> Result<Recs, AllocError>
+        ensures { IfOk result (λ made. (records : List Record) → Tallies self.entry (ranking p.now).names records
+            → made ≡ sorting.top (ranking p.now) records) }
+    {
+        // Only the groups that can be among the first `n` are worth putting in tuple order.
+        let least = least_hits(alloc, self.groups.as_slice(), p.n)?;
+        self.groups.retain(|group| group.hits >= least);
+        let mut groups = in_order(alloc, self.groups.as_slice())?;
+        groups.sort_by(|a, b| b.group.hits.cmp(&a.group.hits))?;
+        let kept = kept(groups.as_slice(), 0, Some(p.n));
+        records_of(alloc, self.names, true, kept)
+    }
+}
+
+/// The number of the group that stands at the `n`-th place from the most records down, and 0 where there are fewer
+/// groups. A wholly empty tuple has no place.
+fn least_hits(alloc: Global, groups: &[Group], n: u64) -> Result<u64, AllocError>
+    ensures { IfOk result (λ least. AreEnough n least (map group_hits (placed groups.now))) }
+{
+    let mut numbers = Vec::with_capacity(alloc, groups.len())?;
+    for group in groups {
+        if !group.is_wholly_empty() {
+            numbers.push(group.hits)?;
+        }
+    }
+    Ok(nth_greatest(numbers.as_mut_slice(), n as usize))
+}
+
+/// The `n`-th greatest of these numbers, and 0 where there are fewer of them.
+fn nth_greatest(numbers: &mut [u64], n: usize) -> u64
+    ensures { AreEnough n result numbers.old }
+{
+    if n == 0 || numbers.len() < n {
+        return 0;
+    }
+    let (_, nth, _) = numbers.select_nth_unstable(numbers.len() - n);
+    *nth
 }

@@ -1,10 +1,13 @@
 //! The `uniq` pipe.
-ghost use Rattle.std.specs.Prelude.{◌≡◌, IfOk};
+ghost use Rattle.std.specs.Prelude.{◌≡◌, IfOk, List};
 ghost use Rattle.lq_ast.specs.PipeView.{distinct};
+ghost use Rattle.lq_ast.specs.Records.{Record};
 ghost use Rattle.lq_ast.specs.Sorting as sorting;
+ghost use Rattle.lq_order.specs.Tally.{Tallies};
 
-use crate::group::{groups, records_of};
+use crate::records::{in_order, records_of};
 use crate::sort::kept;
+use crate::tally::Tally;
 use lq_ast::UniqPipe;
 use std::alloc::{AllocError, Global};
 use vl_row::Recs;
@@ -15,7 +18,20 @@ pub fn uniq_recs(alloc: Global, p: &UniqPipe, r: Recs) -> Result<Recs, AllocErro
     ensures { IfOk result (λ records. records ≡ sorting.uniq (distinct p.now) r) }
 {
     let records = r.into_vec();
-    let names = p.names.as_slice();
-    let groups = groups(alloc, names, records.as_slice())?;
-    records_of(alloc, names, p.hits, kept(groups.as_slice(), 0, p.limit))
+    let mut tally = Tally::new(alloc, p.names.as_slice());
+    tally.add_all(alloc, records.as_slice())?;
+    drop(records);
+    tally.uniq(alloc, p)
+}
+
+impl<'p> Tally<'p> {
+    /// What the pipe makes of the records of the tally of its fields.
+    pub fn uniq(self, alloc: Global, p: &UniqPipe) -> Result<Recs, AllocError>
+        ensures { IfOk result (λ made. (records : List Record) → Tallies self.entry (distinct p.now).names records
+            → made ≡ sorting.uniq (distinct p.now) records) }
+    {
+        let groups = in_order(alloc, self.groups.as_slice())?;
+        let kept = kept(groups.as_slice(), 0, p.limit);
+        records_of(alloc, self.names, p.hits, kept)
+    }
 }

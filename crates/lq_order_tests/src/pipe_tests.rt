@@ -1,6 +1,6 @@
 //! Pipes and records in a small notation.
 use lq_ast::{SortKey, SortPipe, TopPipe, UniqPipe};
-use lq_order::{sort_recs, top_recs, uniq_recs};
+use lq_order::{Tally, sort_recs, top_recs, uniq_recs};
 use std::alloc::{AllocError, Global};
 use vl_row::{FieldList, Items, Recs, Text};
 
@@ -18,10 +18,40 @@ pub fn answer(alloc: Global, case: &str) -> Result<String, AllocError> {
 fn applied(alloc: Global, pipe: &str, records: Recs) -> Result<Recs, AllocError> {
     match pipe.split_once(' ') {
         Some(("sort", parts)) => sort_recs(alloc, &sort_of(alloc, parts)?, records),
-        Some(("uniq", parts)) => uniq_recs(alloc, &uniq_of(alloc, parts)?, records),
-        Some(("top", parts)) => top_recs(alloc, &top_of(alloc, parts)?, records),
+        Some(("uniq", parts)) => uniq(alloc, parts, records),
+        Some(("top", parts)) => top(alloc, parts, records),
         _ => Ok(Recs::new(alloc)),
     }
+}
+
+fn uniq(alloc: Global, parts: &str, records: Recs) -> Result<Recs, AllocError> {
+    let p = uniq_of(alloc, parts)?;
+    match number(parts, "cut=") {
+        Some(cut) => tallied(alloc, p.names.as_slice(), &records, cut as usize)?.uniq(alloc, &p),
+        None => uniq_recs(alloc, &p, records),
+    }
+}
+
+fn top(alloc: Global, parts: &str, records: Recs) -> Result<Recs, AllocError> {
+    let p = top_of(alloc, parts)?;
+    match number(parts, "cut=") {
+        Some(cut) => tallied(alloc, p.names.as_slice(), &records, cut as usize)?.top(alloc, &p),
+        None => top_recs(alloc, &p, records),
+    }
+}
+
+/// The tally of the records, which takes the first so many, and then the others.
+fn tallied<'p>(
+    alloc: Global,
+    names: &'p [Text],
+    records: &Recs,
+    cut: usize,
+) -> Result<Tally<'p>, AllocError> {
+    let (first, others) = records.as_slice().split_at(cut.min(records.len()));
+    let mut tally = Tally::new(alloc, names);
+    tally.add_all(alloc, first)?;
+    tally.add_all(alloc, others)?;
+    Ok(tally)
 }
 
 fn sort_of(alloc: Global, parts: &str) -> Result<SortPipe, AllocError> {

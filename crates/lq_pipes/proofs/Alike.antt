@@ -1,7 +1,7 @@
 -- What conditions, groups and tuples see of records that lack fields.
 use Rattle.std.proofs.Common.{◌≡◌, ℕ, Bool, true, false, not, ◌&&◌, ◌||◌, nat_le, nat_eq, cond, List, [], ◌∷◌, ◌++◌}
 use Rattle.std.proofs.Common.{Option}
-use Rattle.std.proofs.Common.{Some, None, refl, sym, ap, ◌∙◌, bytes_eq, chars, codes, decimal, filter, length, map}
+use Rattle.std.proofs.Common.{Some, None, refl, ap, ◌∙◌, bytes_eq, chars, codes, decimal, filter, length, map}
 use Rattle.std.proofs.Common.{take}
 use Rattle.std.specs.Prelude.{filter_map, flat_map, if◌then◌else◌, unsigned_abs, zip}
 use Rattle.std.specs.List.{list_any, starts_with}

@@ -4,14 +4,13 @@ use Rattle.std.proofs.Common.{option_map}
 use Rattle.std.proofs.Common.{◌+◌, ◌<◌, ◌≤◌, refl, sym, ap, ◌∙◌, drop, filter, get_or, length, map, take}
 use Rattle.std.proofs.lemmas.List.{drop_all}
 use Rattle.std.specs.List.{AllByRecursion, drop-map, take-map}
-use Rattle.std.specs.Ordering.{on, ordering_reverse, ordering_then}
+use Rattle.std.specs.Ordering.{ordering_reverse, ordering_then}
 use Rattle.std.specs.Prelude.{if◌then◌else◌}
-use Rattle.std.specs.declared.cmp.Ordering.{Ordering}
-use Rattle.log_model.specs.Field.{IsFieldList, field_value}
+use Rattle.log_model.specs.Field.{IsFieldList}
 use Rattle.log_model.specs.Order.{value_cmp}
 use Rattle.lq_ast.specs.Grouping.{◌>>=◌}
 use Rattle.lq_ast.specs.Holds.{record_holds}
-use Rattle.lq_ast.specs.Pipes.{all_piped, piped}
+use Rattle.lq_ast.specs.Pipes.{all_piped}
 use Rattle.lq_ast.specs.Records.{Record, copy_fields, is_one_of, only_fields, rename_fields, without_fields}
 use Rattle.lq_ast.specs.Sorting.{at_most, record_cmp, sorted}
 use Rattle.lq_ast.specs.Stage.{SortBy, Sorting, Stage}

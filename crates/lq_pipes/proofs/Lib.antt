@@ -8,4 +8,5 @@ pub mod Piping
 pub mod Printed
 pub mod Projected
 pub mod Refusing
+pub mod Rowwise
 pub mod Walked

@@ -1,6 +1,6 @@
 -- Walks over a list: what is said of its first elements, and of one more.
 use Rattle.std.proofs.Common.{◌≡◌, ℕ, zero, suc, ◌+◌, ◌<◌, ◌≤◌, List, [], ◌∷◌, ◌++◌, drop, flat_map, fold, get_or}
-use Rattle.std.proofs.Common.{length, map, take, refl, sym, ap, ◌∙◌, add-one, arith, length-append, append_assoc}
+use Rattle.std.proofs.Common.{length, map, take, refl, sym, ap, ◌∙◌, add-one, arith, length-append}
 use Rattle.std.proofs.lemmas.List.{append-nil, drop_all, map-append}
 use Rattle.std.proofs.lemmas.Grind.{flat_map-append}
 use Rattle.std.specs.List.{AllByRecursion}

@@ -1,5 +1,5 @@
 -- The faults of pipes.
-use Rattle.std.specs.Prelude.{◌≡◌, ◌+◌, ℕ, ⊤, List, length, flat_map, Result, Err}
+use Rattle.std.specs.Prelude.{◌≡◌, ◌+◌, ℕ, List, length, flat_map, Result, Err}
 use Rattle.std.specs.List.{AllByRecursion}
 use Rattle.lq_ast.specs.Patterns.{CanBeRead, Pattern, patterns_of_stage}
 use Rattle.lq_ast.specs.Pipes.{all_piped}

@@ -1,16 +1,16 @@
 //! Which fields of rows matter to pipes, and records of these fields alone.
-ghost use Rattle.std.specs.Prelude.{◌≡◌, [], ◌∷◌, ◌++◌, IfOk, List, OnOk, flat_map, map, option_map};
+ghost use Rattle.std.specs.Prelude.{◌≡◌, [], ◌∷◌, ◌++◌, IfOk, List, OnOk, Some, flat_map, map, option_map};
 ghost use Rattle.std.specs.List.{AllByRecursion};
 ghost use Rattle.log_model.specs.Field.{IsFieldList};
 ghost use Rattle.lq_ast.specs.Condition.{conditions};
-ghost use Rattle.lq_ast.specs.PipeView.{group_by, grouping, name_pair, sort_by, stage, statistic};
+ghost use Rattle.lq_ast.specs.PipeView.{group_by, grouping, name_pair, sort_by, sorting, stage, statistic};
 ghost use Rattle.lq_ast.specs.Pipes.{all_piped};
 ghost use Rattle.lq_ast.specs.Records.{Record};
 ghost use Rattle.lq_ast.specs.View.{condition};
 ghost use Rattle.lq_pipes.specs.Needs.{asked_among, asked_by, asked_by_statistic, looked_at, makes_anew};
 ghost use Rattle.lq_pipes.specs.Needs.{narrowed, needed};
 
-use lq_ast::{Filter, Func, Pair, Pipe, SortKey, StatKey, StatsPipe};
+use lq_ast::{Filter, Func, Pair, Pipe, SortKey, SortPipe, StatKey, StatsPipe};
 use std::alloc::{AllocError, Global};
 use std::marker::Model;
 use vl_row::Text;
@@ -19,7 +19,7 @@ use vl_row::Text;
 ///
 /// A contract sees it as the names, if not all fields matter.
 #[derive(Drop)]
-pub struct Needs {
+pub(crate) struct Needs {
     names: Option<Vec<Text>>,
 }
 
@@ -34,7 +34,7 @@ impl Model for Needs {
 impl Needs {
     /// The fields that pipes look at, up to the first pipe that makes its records of those alone. All matter where
     /// there is none.
-    pub fn of(alloc: Global, pipes: &[Pipe]) -> Result<Needs, AllocError>
+    pub(crate) fn of(alloc: Global, pipes: &[Pipe]) -> Result<Needs, AllocError>
         ensures names { IfOk result (λ needs. needs ≡ needed (map stage pipes.now)) }
         // the pipes make of records of these fields what they make of whole ones
         ensures enough { IfOk result (λ needs. (records : List Record) → AllByRecursion IsFieldList records
@@ -49,6 +49,15 @@ impl Needs {
             }
         }
         Ok(Needs { names: None })
+    }
+
+    /// The fields by which a `sort` compares.
+    pub(crate) fn of_sort(alloc: Global, sort: &SortPipe) -> Result<Needs, AllocError>
+        ensures { IfOk result (λ needs. needs ≡ Some (map (λ key. key.0) (sorting sort.now).keys)) }
+    {
+        let mut names = Vec::new(alloc);
+        push_sort_keys(alloc, sort.keys.as_slice(), &mut names)?;
+        Ok(Needs { names: Some(names) })
     }
 
     /// The names, if not all fields matter.

@@ -31,7 +31,7 @@ pub fn apply(alloc: Global, pipes: &[Pipe], r: Recs) -> Result<Recs, PipeFault>
 }
 
 /// The pipes with their regular expressions read.
-fn steps<'p>(alloc: Global, pipes: &'p [Pipe]) -> Result<VecDeque<Step<'p>>, PipeFault>
+pub(crate) fn steps<'p>(alloc: Global, pipes: &'p [Pipe]) -> Result<VecDeque<Step<'p>>, PipeFault>
     ensures same { IfOk result (λ steps. map stage_of steps.items ≡ map stage pipes.entry.now) }
     ensures fresh { IfOk result (λ steps. AllByRecursion IsFresh steps.items) }
     ensures readable { IfOk result (λ _. AllByRecursion CanBeRead
@@ -63,7 +63,7 @@ fn refused(pipes: &[Pipe], place: usize, fault: PrepareFault) -> PipeFault
 }
 
 /// The records that these pipes make of others.
-fn run_all(alloc: Global, steps: VecDeque<Step<'_>>, r: Recs) -> Result<Recs, PipeFault>
+pub(crate) fn run_all(alloc: Global, steps: VecDeque<Step<'_>>, r: Recs) -> Result<Recs, PipeFault>
     requires few { length r < 2 ^ 32 }
     requires fresh { AllByRecursion IsFresh steps.items }
     ensures ok { IfOk result (λ made. all_piped (map stage_of steps.entry.items) r ≡ Ok made) }

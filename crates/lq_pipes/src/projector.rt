@@ -17,13 +17,13 @@ use vl_row::{FieldList, Row, Stream, Text};
 /// Makes records of rows, of the fields alone that matter. It keeps the text and the id of the last row's stream, since
 /// the next row is mostly of the same one.
 #[derive(Drop)]
-pub struct Projector<'n> {
+pub(crate) struct Projector<'n> {
     needs: &'n Needs,
     stream: PrintedStream,
 }
 
 impl<'n> Projector<'n> {
-    pub fn new(alloc: Global, needs: &'n Needs) -> Result<Projector<'n>, AllocError>
+    pub(crate) fn new(alloc: Global, needs: &'n Needs) -> Result<Projector<'n>, AllocError>
         ensures { IfOk result (λ projector. projected projector ≡ needs.entry.now) }
     {
         let stream = PrintedStream::of(alloc, Stream::new(alloc))?;
@@ -31,11 +31,9 @@ impl<'n> Projector<'n> {
     }
 
     /// The fields that matter of the row's record.
-    pub fn record(&mut self, alloc: Global, row: &Row) -> Result<FieldList, AllocError>
+    pub(crate) fn record(&mut self, alloc: Global, row: &Row) -> Result<FieldList, AllocError>
         ensures value { IfOk result (λ fields. fields ≡ narrowed (projected self.old) (record_of row.now)) }
         ensures same { projected self.new ≡ projected self.old }
-        // so that pipes make of such records what they make of whole ones
-        ensures rules { IsFieldList (record_of row.now) }
     {
         record_law(row);
         match self.needs.names() {
@@ -49,7 +47,7 @@ impl<'n> Projector<'n> {
 }
 
 /// That the record of a row keeps the rules of fields. It does nothing: its contract is the law.
-fn record_law(row: &Row)
+pub(crate) fn record_law(row: &Row)
     ensures { IsFieldList (record_of row.now) }
 {
     let _fields = row.fields();

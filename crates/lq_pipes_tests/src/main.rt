@@ -12,19 +12,19 @@
 //! repeats the pipes, and has the lines of the records that they make, or the fault.
 //!
 //! A case of the third part is a line of pipes. The answer repeats them, and has the lines of what they make of the
-//! rows' records. It is computed of records of the fields alone that matter, and of whole ones.
+//! rows. It is computed of the rows, and of their records.
 //!
 //! The answers to pipes are those of a Python program of its own.
 #![tactic(auto)]
 
-mod narrowed_tests;
 mod notation_tests;
 mod pipe_tests;
 mod printed_tests;
+mod row_tests;
 
-use narrowed_tests::answer_of_rows;
 use pipe_tests::answer;
 use printed_tests::{of_records, plainly_printed, printed, rows_of};
+use row_tests::answer_of_rows;
 use std::io::{self, Write};
 
 fn main(rt: HostRuntime) -> io::Result<()> {

@@ -18,12 +18,16 @@ pub fn answer(alloc: Global, case: &str) -> Result<Text, AllocError> {
 
 /// The lines of the records that these pipes make of others, or why there are none.
 pub fn made(alloc: Global, pipes: &[Pipe], records: Vec<FieldList>) -> Result<Text, AllocError> {
-    let mut text = Text::new();
     if records.len() > 1000 {
-        text.push_str(alloc, "too many records\n")?;
-        return Ok(text);
+        return Text::try_of(alloc, "too many records\n");
     }
-    match apply(alloc, pipes, Recs::of(records)) {
+    shown(alloc, apply(alloc, pipes, Recs::of(records)))
+}
+
+/// The lines of these records, or why there are none.
+pub fn shown(alloc: Global, made: Result<Recs, PipeFault>) -> Result<Text, AllocError> {
+    let mut text = Text::new();
+    match made {
         Ok(made) => lines(alloc, &made, &mut text)?,
         Err(PipeFault::RegexRefused { nth }) => {
             let fault = format!(in alloc; "RegexRefused number {nth}\n")?;

@@ -1,10 +1,9 @@
 -- The records of groups are those that the grouping asks for.
-use Rattle.std.proofs.Common.{◌≡◌, ℕ, zero, suc, ◌+◌, ◌-◌, ◌<◌, ◌≤◌, Bool, true, false, not, cond, List, [], ◌∷◌, ◌++◌, length, map}
-use Rattle.std.proofs.Common.{append-nil, drop, take, get_or, zip, decimal, min, ℤ, Option, Some, None, Result, Ok, Err}
-use Rattle.std.proofs.Common.{append_assoc, refl, sym, ap, subst, ◌∙◌, arith}
+use Rattle.std.proofs.Common.{◌≡◌, ℕ, suc, ◌+◌, ◌-◌, ◌<◌, ◌≤◌, not, List, [], ◌∷◌, ◌++◌, length, map}
+use Rattle.std.proofs.Common.{append-nil, drop, take, get_or, zip, decimal, min, ℤ, Some, Result, Ok, Err}
+use Rattle.std.proofs.Common.{append_assoc, refl, sym, ap, ◌∙◌, arith}
 use Rattle.std.proofs.lemmas.List.{length-map, take_all}
-use Rattle.std.specs.HashMap.{hash_map_len}
-use Rattle.std.specs.List.{AllByRecursion, filter, filter_map}
+use Rattle.std.specs.List.{AllByRecursion, filter_map}
 use Rattle.std.specs.Cmp.{IsTotalOrder, on_total}
 use Rattle.std.specs.Cmp.Lexicographic.{lists_total, slice_cmp}
 use Rattle.std.specs.Ordering.{is_eq, on, ordering_then}
@@ -20,14 +19,15 @@ use Rattle.lq_ast.specs.Records.{Record, put_fields}
 use Rattle.lq_ast.specs.Stage.{GroupBy, Grouping, Statistic}
 use Rattle.lq_ast.specs.Statistics.{array_text, call_text, sum_text, values}
 use Rattle.lq_ast.specs.Tuples.{Tuple, distinct_by, is_wholly_empty, sorted_by, tuple_cmp, tuple_of}
-use Rattle.lq_stats.proofs.Once.{count_cons, once_kept, once_sorted}
-use Rattle.lq_stats.proofs.Tuples.{tuple_tells, value_tells}
+use Rattle.lq_tuple.proofs.Lists.{map_twice}
+use Rattle.lq_tuple.proofs.Once.{count_cons, once_kept, once_sorted}
+use Rattle.lq_tuple.proofs.Tuples.{tuple_tells, value_tells}
 use Rattle.lq_stats.specs.Finish.{keyed_group, made_record, measure_text, set_states, state_text, total_text}
 use Rattle.lq_stats.specs.Function.{statistic_of}
-use Rattle.lq_stats.specs.Groups.{AreGroups, AreStates, IsStateOf, group_tuple}
+use Rattle.lq_stats.specs.Groups.{AreStates, IsStateOf, group_tuple}
 use Rattle.lq_stats.specs.Key.{grouped_by}
 use Rattle.lq_stats.specs.Measure.{AreMeasured, are_filled, measure_call, sum_of}
-use Rattle.lq_stats.specs.Once.{HasEachOnce, count}
+use Rattle.lq_tuple.specs.Once.{HasEachOnce, count}
 use Rattle.lq_stats.specs.Partial.{StandsFor, opening}
 use Rattle.lq_stats.specs.State.{AreTaken, state_call}
 use Rattle.lq_stats.specs.declared.function.Function.{Function}
@@ -97,10 +97,6 @@ made_is g records group h =
 map_alike : {A B : Type 0} (f g : A → B) (xs : List A) → AllByRecursion (λ x. f x ≡ g x) xs → map f xs ≡ map g xs
 map_alike f g [] h = refl
 map_alike f g (x ∷ xs) h = ap (λ y. y ∷ map f xs) h.0 ∙ ap (λ l. g x ∷ l) (map_alike f g xs h.1)
-
-pub map_twice : {A B C : Type 0} (f : A → B) (g : B → C) (xs : List A) → map g (map f xs) ≡ map (λ x. g (f x)) xs
-map_twice f g [] = refl
-map_twice f g (x ∷ xs) = ap (λ l. g (f x) ∷ l) (map_twice f g xs)
 
 none_count : (x : List ℕ) (xs : Tuple) (records : List Record) → count tuple_cmp (x ∷ xs) (map (key_tuple []) records) ≡ 0
 none_count x xs [] = refl

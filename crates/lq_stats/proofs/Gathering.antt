@@ -1,9 +1,9 @@
 -- Groups, as one more record comes.
 use Rattle.std.proofs.Common.{◌≡◌, ◌≢◌, ℕ, zero, suc, ◌+◌, ◌^◌, ◌<◌, ◌≤◌, Bool, true, false, cond, List, [], ◌∷◌, ◌++◌}
-use Rattle.std.proofs.Common.{length, map, get_or, set, min, Option, Some, None, append_assoc, append-nil, length-append}
+use Rattle.std.proofs.Common.{length, map, take, get_or, set, Option, Some, None, append_assoc, length-append}
 use Rattle.std.proofs.Common.{refl, sym, ap, subst, ◌∙◌, inl, inr, arith}
 use Rattle.std.proofs.lemmas.Bool.{cases_eq, cases_lt, false_from_ne_true}
-use Rattle.std.proofs.lemmas.List.{get_or-map, get_or-set_same, get_or_default, length-map, map_push}
+use Rattle.std.proofs.lemmas.List.{get_or-map, get_or-set_same, get_or_default, length-map, length-take, map_push, take_more}
 use Rattle.std.proofs.lemmas.List.Sums.{count_by-le-length, length-filter}
 use Rattle.std.specs.List.{count_by, filter}
 use Rattle.std.specs.Option.{option_map_or}
@@ -19,20 +19,20 @@ use Rattle.lq_ast.specs.Holds.{record_holds}
 use Rattle.lq_ast.specs.Records.{Record}
 use Rattle.lq_ast.specs.Stage.{GroupBy, Statistic}
 use Rattle.lq_ast.specs.Tuples.{Tuple, tuple_cmp}
-use Rattle.lq_stats.proofs.Counting.{known_more, wide_more}
+use Rattle.lq_tuple.proofs.Counting.{known_more, wide_more}
 use Rattle.lq_stats.proofs.Measuring.{filter_more}
-use Rattle.lq_stats.proofs.Once.{count_at, count_cons, count_joined, count_made, count_more, count_same, itself}
-use Rattle.lq_stats.proofs.Once.{once_alike, once_new, once_old}
-use Rattle.lq_stats.proofs.Tuples.{tuple_new, tuple_old, tuple_tells}
-use Rattle.lq_stats.specs.Counted.{AreShort, HaveLength, tuple_text}
-use Rattle.lq_stats.specs.Function.{is_asked, statistic_of}
-use Rattle.lq_stats.specs.Groups.{AreGroups, AreStates, IsEnteredIn, IsStateOf, TakesOne, TakesRecord, group_tuple}
+use Rattle.lq_tuple.proofs.Once.{count_at, count_cons, count_joined, count_made, count_same, itself}
+use Rattle.lq_tuple.proofs.Once.{once_alike, once_new, once_old}
+use Rattle.lq_tuple.proofs.Tuples.{tuple_new, tuple_old, tuple_tells}
+use Rattle.lq_tuple.specs.Counted.{AreShort, HaveLength, tuple_text}
+use Rattle.lq_stats.specs.Function.{is_asked}
+use Rattle.lq_stats.specs.Groups.{AreGroups, AreStates, IsEnteredIn, IsStateOf, TakeRecord, TakesOne}
+use Rattle.lq_stats.specs.Groups.{TakesRecord, group_tuple}
 use Rattle.lq_stats.specs.Key.{grouped_by}
-use Rattle.lq_stats.specs.Once.{HasEachOnce, count}
+use Rattle.lq_tuple.specs.Once.{HasEachOnce, count}
 use Rattle.lq_stats.specs.Partial.{opening}
-use Rattle.lq_stats.specs.Places.{AreKnown, place_in}
+use Rattle.lq_tuple.specs.Places.{AreKnown, place_in}
 use Rattle.lq_stats.specs.State.{AreTaken, Takes, state_call}
-use Rattle.lq_stats.specs.declared.function.Function.{Function}
 use Rattle.lq_stats.specs.declared.groups.Group.{Group}
 use Rattle.lq_stats.specs.declared.groups.Groups.{Groups}
 use Rattle.lq_stats.specs.declared.key.Key.{Key}
@@ -381,17 +381,31 @@ states_more statistics states s state h one =
     }
 
 -- the state at the place of a function
-pub taken_here : (functions : List Function) (states first : List State) (i : ℕ) (f : Function) (old state : State)
-    (r : Record) (d : Statistic) (e : State) → i < length functions → i < length states → f ≡ get_or functions i f
-    → old ≡ get_or states i old → get_or states i e ≡ get_or first i e → TakesOne (statistic_of f) old state r
-    → TakesOne (get_or (map statistic_of functions) i d) (get_or first i e) (get_or (set states i state) i e) r
-taken_here functions states first i f old state r d e a b is at same one =
-    let made : get_or (map statistic_of functions) i d ≡ statistic_of f =
-    get_or-map statistic_of functions i f d a ∙ ap statistic_of (sym is) in
-    let before : old ≡ get_or first i e = at ∙ get_or_default states i old e b ∙ same in
-    subst (λ s. TakesOne s (get_or first i e) (get_or (set states i state) i e) r) (sym made)
-    (subst (λ o. TakesOne (statistic_of f) o (get_or (set states i state) i e) r) before
-    (subst (λ n. TakesOne (statistic_of f) old n r) (sym (get_or-set_same states i state e b)) one))
+pub taken_here : (statistics : List Statistic) (states first : List State) (i : ℕ) (s : Statistic) (old state : State)
+    (r : Record) (d : Statistic) (e : State) → i < length states → get_or statistics i d ≡ s → old ≡ get_or states i old
+    → get_or states i e ≡ get_or first i e → TakesOne s old state r
+    → TakesOne (get_or statistics i d) (get_or first i e) (get_or (set states i state) i e) r
+taken_here statistics states first i s old state r d e within is at same one =
+    let before : old ≡ get_or first i e = at ∙ get_or_default states i old e within ∙ same in
+    subst (λ t. TakesOne t (get_or first i e) (get_or (set states i state) i e) r) (sym is)
+    (subst (λ o. TakesOne s o (get_or (set states i state) i e) r) before
+    (subst (λ n. TakesOne s old n r) (sym (get_or-set_same states i state e within)) one))
+
+-- ---- one record after another
+
+pub taken_more : (keys : List GroupBy) (statistics : List Statistic) (old new : Groups) (more : List Tuple)
+    (before taken : List Record) (i : ℕ) (r : Record) → i < length taken → r ≡ get_or taken i r
+    → length before + length taken ≤ 2 ^ 32 → TakeRecord keys statistics old new r
+    → AreGroups keys statistics old more (before ++ take i taken)
+    → AreGroups keys statistics new more (before ++ take (i + 1) taken)
+taken_more keys statistics old new more before taken i r within is few takes h =
+    let whole = length-append before (take i taken) in
+    let front = length-take i taken in
+    let one : take i taken ++ r ∷ [] ≡ take (i + 1) taken =
+    ap (λ x. take i taken ++ x ∷ []) is ∙ sym (take_more taken i r within) in
+    subst (AreGroups keys statistics new more)
+    (append_assoc before (take i taken) (r ∷ []) ∙ ap (λ l. before ++ l) one)
+    (takes more (before ++ take i taken) (omega arith) h)
 
 -- no groups
 pub groups_none : (keys : List GroupBy) (statistics : List Statistic) (groups : Groups) → AreKnown groups.places []

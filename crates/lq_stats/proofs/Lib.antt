@@ -1,10 +1,6 @@
 pub mod Arrays
-pub mod Counting
 pub mod Finishing
 pub mod Gathering
 pub mod Measuring
 pub mod Moments
-pub mod Once
-pub mod Positions
 pub mod Taking
-pub mod Tuples

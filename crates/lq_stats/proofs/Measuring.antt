@@ -1,28 +1,26 @@
 -- What functions keep of values, as one more comes, and as values stand in another order.
-use Rattle.std.proofs.Common.{◌≡◌, ℕ, suc, ◌+◌, ◌*◌, ◌-◌, ◌^◌, ◌<◌, ◌≤◌, Bool, true, false, not, ◌||◌, cond, List, [], ◌∷◌}
-use Rattle.std.proofs.Common.{◌++◌, length, ℤ, pos, neg_ℤ, ◌+ℤ◌, ◌≤ℤ◌, ◌<ℤ◌, int_le, int_lt, FitsSigned, Option, Some, None}
-use Rattle.std.proofs.Common.{unwrap_or, append-nil, refl, sym, ap, subst, ◌∙◌, arith}
+use Rattle.std.proofs.Common.{◌≡◌, ℕ, ◌+◌, ◌*◌, ◌^◌, ◌<◌, ◌≤◌, Bool, true, false, not, cond, List, [], ◌∷◌}
+use Rattle.std.proofs.Common.{◌++◌, length, ℤ, pos, neg_ℤ, ◌+ℤ◌, ◌≤ℤ◌, ◌<ℤ◌, FitsSigned, Option, Some, None}
+use Rattle.std.proofs.Common.{unwrap_or, append-nil, refl, sym, ap, ◌∙◌, arith}
 use Rattle.std.proofs.lemmas.Int.{ints}
 use Rattle.std.proofs.lemmas.List.Elements.{filter_map-append}
 use Rattle.std.proofs.lemmas.List.Sums.{fold_push}
 use Rattle.std.specs.Cmp.{upto}
 use Rattle.std.specs.Int.{w64}
 use Rattle.std.specs.List.{AllByRecursion, filter, filter_map, fold}
-use Rattle.std.specs.Option.{option_map_or}
 use Rattle.std.specs.Ordering.{is_eq, is_gt, is_lt}
 use Rattle.std.specs.declared.cmp.Ordering.{Ordering}
 use Rattle.std.specs.declared.cmp.Ordering.TheVariants.{Equal, Greater, Less}
 use Rattle.log_model.proofs.ValueOrder.{number_of-some, value_cmp_linear}
 use Rattle.log_model.specs.Field.{is_empty}
 use Rattle.log_model.specs.Order.{number_of, value_cmp}
-use Rattle.lq_ast.proofs.Sorted.{Rises, all_sorted, equal_from, rises_sorted, split_bool}
-use Rattle.lq_ast.specs.Statistics.{first_text, last_text, total}
+use Rattle.lq_ast.proofs.Sorted.{Rises, all_sorted, rises_sorted, split_bool}
+use Rattle.lq_ast.specs.Statistics.{first_text, last_text}
 use Rattle.lq_ast.specs.Tuples.{insert_by, sorted_by}
-use Rattle.lq_stats.proofs.Once.{count_cons, count_more, filtered_same, once_alike, sorted_same}
-use Rattle.lq_stats.proofs.Tuples.{value_tells}
+use Rattle.lq_tuple.proofs.Once.{count_cons, count_more, filtered_same, once_alike, sorted_same}
+use Rattle.lq_tuple.proofs.Tuples.{value_tells}
 use Rattle.lq_stats.specs.Measure.{AreMeasured, are_filled, greater, lesser, sum_of, with_number, within_128}
-use Rattle.lq_stats.specs.Once.{count}
-use Rattle.lq_stats.specs.Words.{AreWords}
+use Rattle.lq_tuple.specs.Once.{count}
 use Rattle.lq_stats.specs.declared.measure.Measure.{Measure}
 use Rattle.lq_stats.specs.declared.measure.Measure.TheVariants.{Sum, Min, Max, UniqValues}
 

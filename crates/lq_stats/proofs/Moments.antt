@@ -1,6 +1,6 @@
 -- What is read of a text that may say a moment.
 use Rattle.std.proofs.Common.{◌≡◌, ℤ, pos, ◌^◌, unsigned_abs, List, ℕ, ◌&&◌, cond, true, int_le, int_lt}
-use Rattle.std.proofs.Common.{Option, Some, None, refl, ap, sym, ◌∙◌, arith}
+use Rattle.std.proofs.Common.{Option, Some, None, refl, ap, ◌∙◌, arith}
 use Rattle.std.proofs.lemmas.Int.{ints}
 use Rattle.std.specs.Option.{option_map_or}
 use Rattle.log_model.specs.MomentText.{IsMomentInRange, SpellsMoment}

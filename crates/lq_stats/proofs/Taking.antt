@@ -1,19 +1,19 @@
 -- What functions keep of records, as one more comes.
-use Rattle.std.proofs.Common.{◌≡◌, ℕ, zero, suc, ◌+◌, ◌*◌, ◌-◌, ◌^◌, ◌<◌, ◌≤◌, Bool, true, false, not, ◌||◌, cond, List, [], ◌∷◌}
-use Rattle.std.proofs.Common.{◌++◌, length, map, flat_map, append-nil, append_assoc, length-append, get_or, take, ◌&&◌, None, min, refl, sym, ap, ◌∙◌, arith}
+use Rattle.std.proofs.Common.{◌≡◌, ℕ, ◌+◌, ◌*◌, ◌-◌, ◌^◌, ◌<◌, ◌≤◌, Bool, true, false, not, ◌||◌, cond, List, [], ◌∷◌}
+use Rattle.std.proofs.Common.{◌++◌, length, map, append_assoc, length-append, get_or, take, None, min, refl, sym, ap, ◌∙◌, arith}
 use Rattle.std.proofs.lemmas.List.{length-map, length-take, map_more, map_push}
 use Rattle.std.proofs.lemmas.List.Sums.{count_by-le-length, length-filter}
-use Rattle.std.specs.List.{count_by, filter, filter_map, list_all}
+use Rattle.std.specs.List.{count_by, filter, filter_map}
 use Rattle.std.specs.Ordering.{is_eq}
 use Rattle.log_model.specs.Field.{field_value}
 use Rattle.log_model.specs.Order.{number_of, value_cmp}
 use Rattle.lq_ast.specs.Records.{Record}
 use Rattle.lq_ast.specs.Statistics.{counted, first_text, has_some, last_text, values}
-use Rattle.lq_ast.specs.Tuples.{Tuple, is_wholly_empty, sorted_by, tuple_of}
+use Rattle.lq_ast.specs.Tuples.{is_wholly_empty, sorted_by, tuple_of}
 use Rattle.lq_stats.proofs.Measuring.{filter_more}
-use Rattle.lq_stats.proofs.Once.{count_cons, count_joined, count_more}
+use Rattle.lq_tuple.proofs.Once.{count_cons, count_joined, count_more}
 use Rattle.lq_stats.specs.Measure.{are_filled, sum_of}
-use Rattle.lq_stats.specs.Once.{count}
+use Rattle.lq_tuple.specs.Once.{count}
 use Rattle.lq_stats.specs.State.{is_nil}
 use Rattle.lq_stats.specs.Words.{AreWords}
 use Rattle.lq_stats.specs.declared.words.Words.{Words}
@@ -106,11 +106,6 @@ values_few (name ∷ names) records few =
     omega arith
 
 -- ---- values of one more record
-
-pub list_all_made : {A B : Type 0} (f : A → B) (test : B → Bool) (xs : List A)
-    → list_all test (map f xs) ≡ list_all (λ x. test (f x)) xs
-list_all_made f test [] = refl
-list_all_made f test (x ∷ xs) = ap (λ t. test (f x) && t) (list_all_made f test xs)
 
 pub tuple_more : (values : List (List ℕ)) (names : List (List ℕ)) (r : Record) (i : ℕ) (name value : List ℕ)
     → i < length names → name ≡ get_or names i name → value ≡ field_value r name

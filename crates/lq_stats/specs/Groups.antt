@@ -1,13 +1,13 @@
 -- What groups have kept of some records.
-use Rattle.std.specs.Prelude.{◌≡◌, ℕ, ◌<◌, ◌^◌, List, [], ◌∷◌, ◌++◌, length, map, slice_index_or}
+use Rattle.std.specs.Prelude.{◌≡◌, ℕ, ◌+◌, ◌<◌, ◌≤◌, ◌^◌, List, [], ◌∷◌, ◌++◌, length, map, slice_index_or}
 use Rattle.lq_ast.specs.Grouping.{asked}
 use Rattle.lq_ast.specs.Groups.{key_tuple, members}
 use Rattle.lq_ast.specs.Records.{Record}
 use Rattle.lq_ast.specs.Stage.{GroupBy, Statistic}
 use Rattle.lq_ast.specs.Tuples.{Tuple, tuple_cmp}
-use Rattle.lq_stats.specs.Counted.{HaveLength, tuple_text}
-use Rattle.lq_stats.specs.Once.{HasEachOnce}
-use Rattle.lq_stats.specs.Places.{AreKnown}
+use Rattle.lq_tuple.specs.Counted.{HaveLength, tuple_text}
+use Rattle.lq_tuple.specs.Once.{HasEachOnce}
+use Rattle.lq_tuple.specs.Places.{AreKnown}
 use Rattle.lq_stats.specs.State.{AreTaken, state_call}
 use Rattle.lq_stats.specs.declared.groups.Group.{Group}
 use Rattle.lq_stats.specs.declared.groups.Groups.{Groups}
@@ -66,3 +66,9 @@ abbrev pub TakeRecord : List GroupBy → List Statistic → Groups → Groups �
 TakeRecord keys statistics old new r =
     (more : List Tuple) (records : List Record) → length records < 2 ^ 32 → AreGroups keys statistics old more records
     → AreGroups keys statistics new more (records ++ r ∷ [])
+
+-- The new groups are those of these records too, if with them there are no more than 2^32.
+abbrev pub TakeRecords : List GroupBy → List Statistic → Groups → Groups → List Record → Type 0
+TakeRecords keys statistics old new taken =
+    (more : List Tuple) (records : List Record) → length records + length taken ≤ 2 ^ 32
+    → AreGroups keys statistics old more records → AreGroups keys statistics new more (records ++ taken)

@@ -1,11 +1,8 @@
-pub mod Counted
 pub mod Finish
 pub mod Function
 pub mod Groups
 pub mod Key
 pub mod Measure
-pub mod Once
 pub mod Partial
-pub mod Places
 pub mod State
 pub mod Words

@@ -5,7 +5,7 @@ use Rattle.lq_ast.specs.Statistics.{counted, has_some, values}
 use Rattle.lq_ast.specs.Tuples.{is_wholly_empty, tuple_of}
 use Rattle.lq_ast.specs.declared.pipe.Call.{Call}
 use Rattle.lq_ast.specs.declared.pipe.Call.TheVariants as call
-use Rattle.lq_stats.specs.Counted.{AreCounted}
+use Rattle.lq_tuple.specs.Counted.{AreCounted}
 use Rattle.lq_stats.specs.Measure.{AreMeasured, measure_call}
 use Rattle.lq_stats.specs.declared.state.State.{State}
 use Rattle.lq_stats.specs.declared.state.State.TheVariants.{Count, CountEmpty, CountUniq, OfValues}

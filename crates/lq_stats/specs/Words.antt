@@ -1,8 +1,8 @@
 -- Each of many texts once.
 use Rattle.std.specs.Prelude.{ℕ, List}
 use Rattle.log_model.specs.Order.{value_cmp}
-use Rattle.lq_stats.specs.Once.{HasEachOnce}
-use Rattle.lq_stats.specs.Places.{AreKnown}
+use Rattle.lq_tuple.specs.Once.{HasEachOnce}
+use Rattle.lq_tuple.specs.Places.{AreKnown}
 use Rattle.lq_stats.specs.declared.words.Words.{Words}
 
 -- The words are these texts, each once.

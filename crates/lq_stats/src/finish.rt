@@ -7,7 +7,7 @@ ghost use Rattle.lq_ast.specs.Grouping.{all};
 ghost use Rattle.lq_ast.specs.Records.{put_field, put_fields};
 ghost use Rattle.lq_stats.specs.Key.{grouped_by};
 ghost use Rattle.lq_ast.specs.Tuples.{sorted_by, tuple_cmp};
-ghost use Rattle.log_model.specs.Order.{key_of, value_cmp};
+ghost use Rattle.log_model.specs.Order.{value_cmp};
 ghost use Rattle.lq_stats.specs.Finish.{IsFault, keyed_group, made_record, measure_text, set_states, state_text};
 ghost use Rattle.lq_stats.specs.Finish.{total_text};
 ghost use Rattle.lq_stats.specs.Function.{statistic_of};
@@ -21,8 +21,9 @@ use crate::key::Key;
 use crate::keyed::Keyed;
 use crate::measure::Measure;
 use crate::state::State;
+use lq_tuple::value_keys;
 use std::alloc::{AllocError, Global};
-use vl_row::{FieldList, Recs, Text, ValueKey, value_order};
+use vl_row::{FieldList, Recs, Text, value_order};
 
 /// The records of the groups in tuple order.
 pub(crate) fn records(
@@ -61,16 +62,6 @@ fn in_order<'a>(alloc: Global, groups: &'a [Group]) -> Result<Vec<Keyed<'a>>, Al
     }
     keyed.sort_by(|a, b| a.keys.as_slice().cmp(b.keys.as_slice()))?;
     Ok(keyed)
-}
-
-fn value_keys<'a>(alloc: Global, tuple: &'a [Text]) -> Result<Vec<ValueKey<'a>>, AllocError>
-    ensures { IfOk result (λ keys. keys.items ≡ map key_of tuple.entry.now) }
-{
-    let mut keys = Vec::with_capacity(alloc, tuple.len())?;
-    for text in tuple {
-        keys.push(ValueKey::of(text.as_str()))?;
-    }
-    Ok(keys)
 }
 
 /// The record of a group: its tuple, and the value of each function.

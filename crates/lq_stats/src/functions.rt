@@ -8,13 +8,13 @@ ghost use Rattle.lq_ast.specs.Patterns.{CanBeRead, patterns_of, patterns_of_stat
 ghost use Rattle.lq_ast.specs.View.{condition};
 ghost use Rattle.lq_filter.specs.Inner.{inner_condition};
 ghost use Rattle.lq_filter.specs.Refusal.{IsRefusal};
-ghost use Rattle.lq_stats.specs.Function.{is_asked, statistic_of};
+ghost use Rattle.lq_stats.specs.Function.{statistic_of};
 
 use crate::function::Function;
 use lq_ast::{Filter, Func};
 use lq_filter::{Inner, PrepareFault, prepare_inner_from};
 use std::alloc::{AllocError, Global};
-use vl_row::{FieldList, Text};
+use vl_row::Text;
 
 impl Function {
     /// Prepares a function, whose first pattern has the number `nth`, and raises that by the number of its patterns.
@@ -81,18 +81,4 @@ pub(crate) fn functions(alloc: Global, funcs: &[Func]) -> Result<Vec<Function>, 
         made.push(Function::of(alloc, func, &mut nth)?)?;
     }
     Ok(made)
-}
-
-/// Whether a function is asked of the record.
-pub(crate) fn is_asked(
-    alloc: Global,
-    function: &Function,
-    fields: &FieldList,
-) -> Result<bool, AllocError>
-    ensures { IfOk result (λ asked. asked ≡ is_asked (statistic_of function.now) fields.now) }
-{
-    match &function.only {
-        Some(only) => only.holds(alloc, fields),
-        None => Ok(true),
-    }
 }

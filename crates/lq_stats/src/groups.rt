@@ -2,17 +2,17 @@
 ghost use Rattle.std.specs.Prelude.{◌≡◌, [], map, IfOk, OnOk};
 ghost use Rattle.lq_ast.specs.Groups.{key_tuple};
 ghost use Rattle.lq_stats.specs.Key.{grouped_by};
-ghost use Rattle.lq_stats.specs.Function.{statistic_of};
-ghost use Rattle.lq_stats.specs.Groups.{AreStates, IsEntered, TakeRecord, TakesOne, TakesRecord};
-ghost use Rattle.lq_stats.specs.Places.{AreKnown};
+ghost use Rattle.lq_stats.specs.Function.{scanned_statistic, statistic_of};
+ghost use Rattle.lq_stats.specs.Groups.{AreStates, IsEntered, TakeRecord, TakeRecords, TakesOne, TakesRecord};
+ghost use Rattle.lq_tuple.specs.Places.{AreKnown};
 
 use crate::function::Function;
-use crate::functions::is_asked;
+use crate::function_scan::{FunctionScan, scans};
 use crate::key::Key;
 use crate::keys::key_tuple;
-use crate::places::Places;
 use crate::scratch::Scratch;
 use crate::state::State;
+use lq_tuple::Places;
 use std::alloc::{AllocError, Global};
 use vl_row::{FieldList, Text};
 
@@ -26,17 +26,17 @@ pub(crate) struct Group {
 impl Group {
     /// The group of the tuple of a record, without a record.
     fn of(
-        alloc: Global,
+        scratch: &mut Scratch,
         keys: &[Key],
-        functions: &[Function],
+        scans: &[FunctionScan],
         fields: &FieldList,
     ) -> Result<Group, AllocError>
         ensures tuple { IfOk result (λ group. group.tuple.items ≡ key_tuple (map grouped_by keys.now) fields.now) }
-        ensures states { IfOk result (λ group. AreStates (map statistic_of functions.now) group.states.items []) }
+        ensures states { IfOk result (λ group. AreStates (map scanned_statistic scans.now) group.states.items []) }
     {
         Ok(Group {
-            tuple: key_tuple(alloc, keys, fields)?,
-            states: states(alloc, functions)?,
+            tuple: key_tuple(scratch.alloc, &mut scratch.bucket, keys, fields)?,
+            states: states(scratch.alloc, scans)?,
         })
     }
 
@@ -44,16 +44,17 @@ impl Group {
     fn add(
         &mut self,
         scratch: &mut Scratch,
-        functions: &[Function],
+        scans: &mut [FunctionScan],
         fields: &FieldList,
     ) -> Result<(), AllocError>
         ensures tuple { self.new.tuple ≡ self.old.tuple }
-        ensures taken { OnOk result (TakesRecord (map statistic_of functions.now)
+        ensures same { OnOk result (map scanned_statistic scans.new ≡ map scanned_statistic scans.old) }
+        ensures taken { OnOk result (TakesRecord (map scanned_statistic scans.old)
             self.old.states.items self.new.states.items fields.now) }
     {
-        let count = functions.len().min(self.states.len());
+        let count = scans.len().min(self.states.len());
         for i in 0..count {
-            add_to(&mut self.states[i], scratch, &functions[i], fields)?;
+            add_to(&mut self.states[i], scratch, &mut scans[i], fields)?;
         }
         Ok(())
     }
@@ -63,24 +64,25 @@ impl Group {
 fn add_to(
     state: &mut State,
     scratch: &mut Scratch,
-    function: &Function,
+    scan: &mut FunctionScan,
     fields: &FieldList,
 ) -> Result<(), AllocError>
-    ensures { OnOk result (TakesOne (statistic_of function.now) state.old state.new fields.now) }
+    ensures same { scanned_statistic scan.new ≡ scanned_statistic scan.old }
+    ensures taken { OnOk result (TakesOne (scanned_statistic scan.old) state.old state.new fields.now) }
 {
-    if !is_asked(scratch.alloc, function, fields)? {
+    if !scan.is_asked(fields)? {
         return Ok(());
     }
-    state.add(scratch, function.names.as_slice(), fields)
+    state.add(scratch, scan.function.names.as_slice(), fields)
 }
 
 /// The states of functions over no records.
-fn states(alloc: Global, functions: &[Function]) -> Result<Vec<State>, AllocError>
-    ensures { IfOk result (λ states. AreStates (map statistic_of functions.now) states.items []) }
+fn states(alloc: Global, scans: &[FunctionScan]) -> Result<Vec<State>, AllocError>
+    ensures { IfOk result (λ states. AreStates (map scanned_statistic scans.now) states.items []) }
 {
-    let mut states = Vec::with_capacity(alloc, functions.len())?;
-    for function in functions {
-        states.push(State::of(alloc, function.call))?;
+    let mut states = Vec::with_capacity(alloc, scans.len())?;
+    for scan in scans {
+        states.push(State::of(alloc, scan.function.call))?;
     }
     Ok(states)
 }
@@ -104,20 +106,40 @@ impl Groups {
         }
     }
 
-    /// Takes one more record.
-    pub(crate) fn add(
+    /// Takes more records, of which the functions are asked in one scan.
+    pub(crate) fn add_all(
         &mut self,
         scratch: &mut Scratch,
         keys: &[Key],
         functions: &[Function],
+        records: &[FieldList],
+    ) -> Result<(), AllocError>
+        ensures { OnOk result (TakeRecords (map grouped_by keys.now) (map statistic_of functions.now)
+            self.old self.new records.now) }
+    {
+        let mut scans = scans(scratch.alloc, functions)?;
+        let scans = scans.as_mut_slice();
+        for record in records {
+            self.add(scratch, keys, scans, record)?;
+        }
+        Ok(())
+    }
+
+    /// Takes one more record.
+    fn add(
+        &mut self,
+        scratch: &mut Scratch,
+        keys: &[Key],
+        scans: &mut [FunctionScan],
         fields: &FieldList,
     ) -> Result<(), AllocError>
-        ensures { OnOk result (TakeRecord (map grouped_by keys.now) (map statistic_of functions.now)
+        ensures same { OnOk result (map scanned_statistic scans.new ≡ map scanned_statistic scans.old) }
+        ensures taken { OnOk result (TakeRecord (map grouped_by keys.now) (map scanned_statistic scans.old)
             self.old self.new fields.now) }
     {
-        let place = self.place(scratch, keys, functions, fields)?;
+        let place = self.place(scratch, keys, scans, fields)?;
         if place < self.list.len() {
-            self.list[place].add(scratch, functions, fields)?;
+            self.list[place].add(scratch, scans, fields)?;
         }
         Ok(())
     }
@@ -127,10 +149,10 @@ impl Groups {
         &mut self,
         scratch: &mut Scratch,
         keys: &[Key],
-        functions: &[Function],
+        scans: &[FunctionScan],
         fields: &FieldList,
     ) -> Result<usize, AllocError>
-        ensures { IfOk result (IsEntered (map grouped_by keys.now) (map statistic_of functions.now)
+        ensures { IfOk result (IsEntered (map grouped_by keys.now) (map scanned_statistic scans.now)
             self.old self.new fields.now) }
     {
         let alloc = scratch.alloc;
@@ -138,10 +160,10 @@ impl Groups {
         if let Some(place) = self.places.place_of(text) {
             return Ok(place);
         }
-        let group = Group::of(alloc, keys, functions, fields)?;
+        self.places.add(alloc, text)?;
+        let group = Group::of(scratch, keys, scans, fields)?;
         let place = self.list.len();
         self.list.push(group)?;
-        self.places.add(alloc, text)?;
         Ok(place)
     }
 }

@@ -2,9 +2,11 @@
 #![tactic(auto)]
 
 mod array;
+mod bucket;
 mod fault;
 mod finish;
 mod function;
+mod function_scan;
 mod functions;
 mod groups;
 mod key;
@@ -12,7 +14,6 @@ mod keyed;
 mod keys;
 mod measure;
 mod partial;
-mod places;
 mod scratch;
 mod state;
 mod words;

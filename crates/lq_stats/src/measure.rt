@@ -58,10 +58,10 @@ fn with_number(sum: Option<i128>, value: &str) -> Option<i128>
 fn keep_least(alloc: Global, least: &mut Text, value: &str) -> Result<(), AllocError>
     ensures { OnOk result (least.new ≡ spec.lesser least.old value.now) }
 {
-    if value.is_empty() {
+    let kept = least.as_str();
+    if value.is_empty() || value == kept {
         return Ok(());
     }
-    let kept = least.as_str();
     if kept.is_empty() || value_order(value, kept) == Ordering::Less {
         *least = Text::try_of(alloc, value)?;
     }
@@ -72,10 +72,10 @@ fn keep_least(alloc: Global, least: &mut Text, value: &str) -> Result<(), AllocE
 fn keep_greatest(alloc: Global, greatest: &mut Text, value: &str) -> Result<(), AllocError>
     ensures { OnOk result (greatest.new ≡ spec.greater greatest.old value.now) }
 {
-    if value.is_empty() {
+    let kept = greatest.as_str();
+    if value.is_empty() || value == kept {
         return Ok(());
     }
-    let kept = greatest.as_str();
     if kept.is_empty() || value_order(value, kept) == Ordering::Greater {
         *greatest = Text::try_of(alloc, value)?;
     }

@@ -16,6 +16,7 @@ ghost use Rattle.lq_stats.specs.Partial.{StandsFor, opening, rows};
 use crate::fault::StatFault;
 use crate::finish::records;
 use crate::function::Function;
+use crate::function_scan::scans;
 use crate::functions::functions;
 use crate::groups::Groups;
 use crate::key::Key;
@@ -48,7 +49,7 @@ impl Partial {
     {
         let functions = functions(alloc, p.funcs.as_slice())?;
         let keys = keys(alloc, p.keys.as_slice())?;
-        let mut scratch = Scratch::new(alloc);
+        let mut scratch = Scratch::new(alloc)?;
         let groups = groups_before(alloc, &mut scratch, keys.as_slice(), functions.as_slice())?;
         Ok(Partial {
             keys,
@@ -74,15 +75,13 @@ impl Partial {
         ensures { OnOk result ((g : Grouping) (before : List Record) → StandsFor self.old g before
             → StandsFor self.new g (before ++ records.now)) }
     {
-        for record in records {
-            self.groups.add(
-                &mut self.scratch,
-                self.keys.as_slice(),
-                self.functions.as_slice(),
-                record,
-            )?;
-            self.rows += 1;
-        }
+        self.groups.add_all(
+            &mut self.scratch,
+            self.keys.as_slice(),
+            self.functions.as_slice(),
+            records,
+        )?;
+        self.rows += records.len() as u64;
         Ok(())
     }
 
@@ -117,6 +116,7 @@ fn groups_before(
     if !keys.is_empty() {
         return Ok(groups);
     }
-    groups.place(scratch, keys, functions, &FieldList::new(alloc))?;
+    let scans = scans(alloc, functions)?;
+    groups.place(scratch, keys, scans.as_slice(), &FieldList::new(alloc))?;
     Ok(groups)
 }

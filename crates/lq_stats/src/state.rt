@@ -1,19 +1,17 @@
 //! What functions keep of the records that they are given.
 ghost use Rattle.std.specs.Prelude.{◌≡◌, ◌<◌, ◌+◌, ◌-◌, ◌^◌, ◌||◌, min, ◌++◌, [], ◌∷◌, List, ℕ, length, OnOk, if◌then◌else◌};
-ghost use Rattle.std.specs.List.{list_all};
-ghost use Rattle.log_model.specs.Field.{field_value, is_empty};
 ghost use Rattle.lq_ast.specs.Records.{Record};
 ghost use Rattle.lq_ast.specs.Statistics.{has_some};
 ghost use Rattle.lq_ast.specs.Tuples.{Tuple, tuple_of};
-ghost use Rattle.lq_stats.specs.Counted.{AreCounted};
+ghost use Rattle.lq_tuple.specs.Counted.{AreCounted};
 ghost use Rattle.lq_stats.specs.Measure.{AreMeasured, measure_call};
 ghost use Rattle.lq_stats.specs.State.{AreTaken, Takes, is_nil, state_call};
 
 use crate::measure::Measure;
-use crate::places::Places;
 use crate::scratch::Scratch;
 use crate::words::Words;
 use lq_ast::Call;
+use lq_tuple::{Places, is_wholly_empty, tuple_text};
 use std::alloc::{AllocError, Global};
 use vl_row::{FieldList, Text};
 
@@ -94,18 +92,6 @@ fn has_some(names: &[Text], fields: &FieldList) -> bool
     !is_wholly_empty(names, fields)
 }
 
-fn is_wholly_empty(names: &[Text], fields: &FieldList) -> bool
-    ensures { result ≡ list_all (λ name. is_empty (field_value fields.now name)) names.now }
-{
-    names.iter().all(|name| is_missing(name.as_str(), fields))
-}
-
-fn is_missing(name: &str, fields: &FieldList) -> bool
-    ensures { result ≡ is_empty (field_value fields.now name.now) }
-{
-    fields.get(name).is_empty()
-}
-
 /// Adds the tuple of these fields, if it is new and not wholly empty.
 fn count_tuple(
     places: &mut Places,
@@ -121,7 +107,7 @@ fn count_tuple(
         return Ok(());
     }
     let alloc = scratch.alloc;
-    let text = scratch.tuple_text(names, fields)?;
+    let text = tuple_text(&mut scratch.text, names, fields)?;
     if places.place_of(text).is_none() {
         places.add(alloc, text)?;
     }

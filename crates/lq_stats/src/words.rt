@@ -2,7 +2,7 @@
 ghost use Rattle.std.specs.Prelude.{◌++◌, [], ◌∷◌, List, ℕ, OnOk};
 ghost use Rattle.lq_stats.specs.Words.{AreWords};
 
-use crate::places::Places;
+use lq_tuple::Places;
 use std::alloc::{AllocError, Global};
 use vl_row::Text;
 

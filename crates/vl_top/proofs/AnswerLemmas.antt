@@ -9,7 +9,6 @@ use Rattle.std.proofs.lemmas.List.{length-append, length-map, take-append-drop}
 use Rattle.std.proofs.lemmas.List.Elements.{filter-append}
 use Rattle.std.proofs.lemmas.Option.{none-some}
 use Rattle.std.specs.List.{AllByRecursion, slice_get}
-use Rattle.log_model.specs.Field.{IsFieldList}
 use Rattle.log_model.specs.History.{AreInOrder, Numbered, rows_in}
 use Rattle.log_model.specs.Row.{Row, record_of}
 use Rattle.lq_ast.specs.Condition.{Condition}
@@ -20,7 +19,6 @@ use Rattle.lq_ast.specs.PipeView.{stage}
 use Rattle.lq_ast.specs.Records.{Record}
 use Rattle.lq_ast.specs.Stage.{Stage}
 use Rattle.lq_filter.specs.Tree.{condition_of}
-use Rattle.lq_pipes.specs.Needs.{narrowed}
 use Rattle.vl_top.specs.Answer.{FailsFor, FailsOver, FailsPiped, IsAnswerOver, PrintsPiped, asked_by, held_in}
 use Rattle.vl_top.specs.declared.search.Search.{Search}
 use Rattle.vl_top.specs.declared.answer.AnswerFault.{AnswerFault}
@@ -182,37 +180,6 @@ module _ (search : Search) (now : ℤ) (parts : List (List Numbered)) where
     fails ManyRows h = absurd h
     fails (Overflow name) h = all_piped_of ∙ ap piped_outcome h
     fails Memory h = tt
-
--- ---- records of the fields that matter
-
-rules_next : {X : Type 0} (P : Record → Type 0) (f : X → Record) (xs : List X) (i : ℕ) (x : X) → i < length xs
-    → x ≡ get_or xs i x → AllByRecursion P (map f (take i xs)) → P (f x) → AllByRecursion P (map f (take (suc i) xs))
-rules_next P f [] i x below is rules one = absurd (let none : ⊥ = omega (arith, below) in none)
-rules_next P f (y ∷ ys) zero x below is rules one = (subst (λ z. P (f z)) is one, tt)
-rules_next P f (y ∷ ys) (suc i) x below is rules one =
-    (rules.0, rules_next P f ys i x (omega (arith, below)) is rules.1 one)
-
--- one more of them keeps the rules
-pub rules_more : {X : Type 0} (P : Record → Type 0) (f : X → Record) (xs : List X) (i : ℕ) (x : X) → i < length xs
-    → x ≡ get_or xs i x → AllByRecursion P (map f (take i xs)) → P (f x) → AllByRecursion P (map f (take (i + 1) xs))
-rules_more P f xs i x below is rules one =
-    subst (λ n. AllByRecursion P (map f (take n xs))) (sym (add-one i)) (rules_next P f xs i x below is rules one)
-
-module _ (stages : List Stage) (needs : Option (List (List ℕ))) (whole fewer : List Record)
-    (made : fewer ≡ map (narrowed needs) whole) (rules : AllByRecursion IsFieldList whole)
-    (enough : (records : List Record) → AllByRecursion IsFieldList records
-    → all_piped stages (map (narrowed needs) records) ≡ all_piped stages records) where
-  -- the pipes make of them what they make of whole ones
-  same_piped : all_piped stages fewer ≡ all_piped stages whole
-  same_piped = ap (all_piped stages) made ∙ enough whole rules
-
-  pub prints_whole : (text : List ℕ) → PrintsPiped stages fewer text → PrintsPiped stages whole text
-  prints_whole text (found, piped, printed) = (found, sym same_piped ∙ piped, printed)
-
-  pub fails_whole : (fault : AnswerFault) → FailsPiped stages fewer fault → FailsPiped stages whole fault
-  fails_whole ManyRows h = h
-  fails_whole (Overflow name) h = sym same_piped ∙ h
-  fails_whole Memory h = tt
 
 -- the first parts are in order
 abbrev pub OrderedBelow : ℕ → List (List Numbered) → Type 0

@@ -10,8 +10,6 @@ ghost use Rattle.lq_ast.specs.Patterns.{CanBeRead, patterns_of_stage};
 ghost use Rattle.lq_ast.specs.PipeView.{stage};
 ghost use Rattle.lq_ast.specs.Pipes.{all_piped};
 ghost use Rattle.lq_filter.specs.Tree.{condition_of, moment_of, scanned};
-ghost use Rattle.log_model.specs.Field.{IsFieldList};
-ghost use Rattle.lq_pipes.specs.Needs.{narrowed};
 ghost use Rattle.vl_top.specs.Answer.{FailsFor, FailsOver, FailsPiped, HasReadablePipes, IsAnswerOver, PrintsPiped};
 ghost use Rattle.vl_top.specs.Answer.{asked_by, held_in};
 
@@ -19,7 +17,7 @@ use crate::search::Search;
 use log_core::Snapshot;
 use lq_ast::Pipe;
 use lq_filter::{Prepared, Scan};
-use lq_pipes::{Needs, PipeFault, Printer, Projector, apply, lines};
+use lq_pipes::{PipeFault, Printer, apply_rows, lines};
 use std::alloc::{AllocError, AllocFailed, Global};
 use vl_row::{Recs, Row, RowList, Text};
 
@@ -72,7 +70,7 @@ pub fn answer(
 {
     order_law(snapshot);
     let rows = held_rows(alloc, &search.filter, now, snapshot)?;
-    piped_lines(alloc, search.pipes.as_slice(), rows.as_slice())
+    piped_lines(alloc, search.pipes.as_slice(), rows)
 }
 
 /// That the rows of each part stand in their order. It does nothing: its contract is the law.
@@ -131,18 +129,19 @@ fn push_rows<'s>(
 }
 
 /// The lines of what the pipes make of the records of these rows.
-fn piped_lines(alloc: Global, pipes: &[Pipe], rows: &[&Row]) -> Result<Text, AnswerFault>
-    requires few { length rows.now < row_limit }
+fn piped_lines(alloc: Global, pipes: &[Pipe], rows: Vec<&Row>) -> Result<Text, AnswerFault>
+    requires few { length rows.items < row_limit }
     requires readable { AllByRecursion CanBeRead (flat_map patterns_of_stage (map stage pipes.now)) }
-    ensures made { IfOk result (PrintsPiped (map stage pipes.now) (map (λ row. record_of row.now) rows.now)) }
-    ensures fault { IfErr result (FailsPiped (map stage pipes.now) (map (λ row. record_of row.now) rows.now)) }
+    ensures made { IfOk result (PrintsPiped (map stage pipes.now) (map (λ row. record_of row.now) rows.entry.items)) }
+    ensures fault { IfErr result (FailsPiped (map stage pipes.now) (map (λ row. record_of row.now) rows.entry.items)) }
 {
     if pipes.is_empty() {
-        return Ok(lines_of(alloc, rows)?);
+        return Ok(lines_of(alloc, rows.as_slice())?);
     }
-    let needs = Needs::of(alloc, pipes)?;
-    let records = records(alloc, rows, &needs)?;
-    made_lines(alloc, pipes, records)
+    let made = made_of(alloc, pipes, rows)?;
+    let mut text = Text::new();
+    lines(alloc, &made, &mut text)?;
+    Ok(text)
 }
 
 /// The lines of the records of these rows, which are printed without being made.
@@ -157,42 +156,15 @@ fn lines_of(alloc: Global, rows: &[&Row]) -> Result<Text, AllocError>
     Ok(text)
 }
 
-/// The records of these rows, with those of their fields that matter.
-fn records(alloc: Global, rows: &[&Row], needs: &Needs) -> Result<Recs, AllocError>
-    ensures made { IfOk result (λ records. records
-        ≡ map (narrowed needs.now) (map (λ row. record_of row.now) rows.now)) }
-    ensures rules { IfOk result (λ _. AllByRecursion IsFieldList (map (λ row. record_of row.now) rows.now)) }
-{
-    let mut projector = Projector::new(alloc, needs)?;
-    let mut records = Vec::with_capacity(alloc, rows.len())?;
-    for row in rows {
-        let fields = projector.record(alloc, row)?;
-        records.push(fields)?;
-    }
-    Ok(Recs::of(records))
-}
-
-/// The lines of what the pipes make of these records.
-fn made_lines(alloc: Global, pipes: &[Pipe], records: Recs) -> Result<Text, AnswerFault>
-    requires few { length records < row_limit }
+/// What the pipes make of the records of these rows.
+fn made_of(alloc: Global, pipes: &[Pipe], rows: Vec<&Row>) -> Result<Recs, AnswerFault>
+    requires few { length rows.items < row_limit }
     requires readable { AllByRecursion CanBeRead (flat_map patterns_of_stage (map stage pipes.now)) }
-    ensures made { IfOk result (PrintsPiped (map stage pipes.now) records) }
-    ensures fault { IfErr result (FailsPiped (map stage pipes.now) records) }
+    ensures made { IfOk result (λ made.
+        all_piped (map stage pipes.now) (map (λ row. record_of row.now) rows.entry.items) ≡ Ok made) }
+    ensures fault { IfErr result (FailsPiped (map stage pipes.now) (map (λ row. record_of row.now) rows.entry.items)) }
 {
-    let made = made_of(alloc, pipes, records)?;
-    let mut text = Text::new();
-    lines(alloc, &made, &mut text)?;
-    Ok(text)
-}
-
-/// What the pipes make of these records.
-fn made_of(alloc: Global, pipes: &[Pipe], records: Recs) -> Result<Recs, AnswerFault>
-    requires few { length records < row_limit }
-    requires readable { AllByRecursion CanBeRead (flat_map patterns_of_stage (map stage pipes.now)) }
-    ensures made { IfOk result (λ made. all_piped (map stage pipes.now) records ≡ Ok made) }
-    ensures fault { IfErr result (FailsPiped (map stage pipes.now) records) }
-{
-    match apply(alloc, pipes, records) {
+    match apply_rows(alloc, pipes, rows) {
         Ok(made) => Ok(made),
         Err(PipeFault::RegexRefused { .. }) => unreachable!(),
         Err(PipeFault::Overflow { name }) => Err(AnswerFault::Overflow { name }),

@@ -17,7 +17,7 @@ mod search;
 mod status;
 
 use command::query_text;
-use pipe::answer_query;
+use pipe::run_pipe;
 use query::read_query;
 use report::report_refused;
 pub use report::{report_no_memory, report_usage};
@@ -58,7 +58,7 @@ pub fn run<R: AllocGlobal, S: Source, O: Sink, E: Sink, C: Clock>(
     };
     let alloc = rt.alloc();
     match read_query(alloc, text) {
-        Ok(search) => answer_query(alloc, &search, src, out, err, clock).number(),
+        Ok(search) => run_pipe(alloc, &search, src, out, err, clock).number(),
         Err(refused) => report_refused(alloc, refused, err).number(),
     }
 }

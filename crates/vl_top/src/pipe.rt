@@ -17,7 +17,7 @@ use std::alloc::Global;
 use vl_io::{Clock, Failed, Sink, Source, put_all};
 
 /// Loads the input and writes the answer, or says why not.
-pub fn answer_query<S: Source, O: Sink, E: Sink, C: Clock>(
+pub fn run_pipe<S: Source, O: Sink, E: Sink, C: Clock>(
     alloc: Global,
     search: &Search,
     src: &mut S,

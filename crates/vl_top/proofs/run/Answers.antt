@@ -11,19 +11,19 @@ returns-in-Ok-clause-run g c =
     let asked : command_of (map (λ word. word.now) c.args.words.now) ≡ Some (pipe c.in-Some.text.now) = search rules in
     let query = asked_by c.in-Ok.search in record {
       done = search rules;
-      refused = λ is. inr (without_answer _ c.in-Some.text.now query asked c.in-Ok.ensures.read c.answer_query.result
-          c.answer_query.ensures.ends (sym c.number-in-Ok.ensures ∙ is));
+      refused = λ is. inr (without_answer _ c.in-Some.text.now query asked c.in-Ok.ensures.read c.run_pipe.result
+          c.run_pipe.ensures.ends (sym c.number-in-Ok.ensures ∙ is));
       unasked = search rules;
       usage = search rules;
       said_usage = search rules;
       read_fault = search rules;
       write_fault = search rules;
       limit = search rules;
-      memory = λ is. inr (without_memory _ c.in-Some.text.now query asked c.in-Ok.ensures.read c.answer_query.result
-          c.answer_query.ensures.ends (sym c.number-in-Ok.ensures ∙ is));
+      memory = λ is. inr (without_memory _ c.in-Some.text.now query asked c.in-Ok.ensures.read c.run_pipe.result
+          c.run_pipe.ensures.ends (sym c.number-in-Ok.ensures ∙ is));
       no_other = search rules;
       complete = λ _ source output errors. complete _ c.in-Some.text.now query asked c.in-Ok.ensures.read
-          c.answer_query.result c.number-in-Ok.ensures c.answer_query.ensures.ends source output errors;
+          c.run_pipe.result c.number-in-Ok.ensures c.run_pipe.ensures.ends source output errors;
     }
 
 pub returns-in-Err-clause-run : goal.returns-in-Err-clause-run

@@ -1,22 +1,14 @@
-use Rattle.std.proofs.Common.{◌∙◌, ap, cond, map}
+use Rattle.std.proofs.Common.{[], ◌∙◌, subst, arith}
 use Rattle.std.proofs.lemmas.Result.{IfOk-weaker}
-use Rattle.lq_ast.specs.Sorting.{at_most, counted_record, tuple_record, tuples}
-use Rattle.lq_order.proofs.Answering.{kept_records}
+use Rattle.lq_order.specs.Tally.{Tallies}
 use Rattle.lq_order.proofs.uniq.uniq_recs.Goals as goal
 
 pub returns : goal.returns
 returns c =
-    let p = c.args.p.now in
-    let names = c.as_slice-names.result.now in
-    let records = c.as_slice.result.now in
-    let kept = kept_records names p.hits p.limit records c.in_ok-groups.groups.items c.kept.result.now
-    (tuples names records)
-    (c.kept.ensures ∙ ap (at_most p.limit) c.as_slice-2.ensures.value) c.in_ok-groups.ensures in
-    let same = ap
-    (λ ns. at_most p.limit (map (cond p.hits (counted_record ns records) (tuple_record ns))
-    (tuples ns records)))
-    c.as_slice-names.ensures
-    ∙ ap (λ rs. at_most p.limit (map (cond p.hits (counted_record p.names rs) (tuple_record p.names))
-    (tuples p.names rs)))
-    (c.as_slice.ensures.value ∙ c.into_vec-records.ensures) in
-    IfOk-weaker c.records_of.result _ _ (λ m e. e ∙ kept ∙ same) c.records_of.ensures
+    let names = c.args.p.now.names in
+    let none = subst (λ ns. Tallies c.new-tally.result ns []) c.as_slice.ensures c.new-tally.ensures in
+    let all = c.in_ok-add_all.ensures names []
+    (omega (arith, c.as_slice-2.ensures.len, c.into_vec-records.result.ok.0)) none in
+    let same = c.as_slice-2.ensures.value ∙ c.into_vec-records.ensures in
+    let tallied = subst (Tallies c.add_all.new.self names) same all in
+    IfOk-weaker c.uniq.result _ _ (λ made e. e c.args.r tallied) c.uniq.ensures

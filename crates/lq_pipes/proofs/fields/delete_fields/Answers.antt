@@ -1,6 +1,5 @@
-use Rattle.std.proofs.Common.{ap, map, slice_set, sym, ◌∙◌}
+use Rattle.std.proofs.Common.{ap, slice_set, sym, ◌∙◌}
 use Rattle.std.proofs.lemmas.List.Edits.{map_over_more}
-use Rattle.lq_ast.specs.PipeView.{name_pair}
 use Rattle.lq_ast.specs.Records.{Record, without_fields}
 use Rattle.lq_pipes.proofs.Walked.{each_written}
 use Rattle.lq_pipes.proofs.fields.delete_fields.Goals as goal

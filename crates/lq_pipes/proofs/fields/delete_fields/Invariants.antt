@@ -1,5 +1,4 @@
 use Rattle.std.proofs.Common.{◌≡◌, ◌++◌, drop, map, take}
-use Rattle.lq_ast.specs.PipeView.{name_pair}
 use Rattle.lq_ast.specs.Records.{without_fields}
 use Rattle.lq_pipes.proofs.fields.delete_fields.Given as goal
 

@@ -1,4 +1,4 @@
-use Rattle.std.proofs.Common.{◌≡◌, map, take, ap, ◌∙◌, sym}
+use Rattle.std.proofs.Common.{ap, ◌∙◌, sym}
 use Rattle.lq_ast.specs.PipeView.{name_pair}
 use Rattle.lq_ast.specs.Records.{renamed}
 use Rattle.lq_pipes.proofs.Walked.{fold_more}

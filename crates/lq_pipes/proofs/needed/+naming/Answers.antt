@@ -1,4 +1,4 @@
-use Rattle.std.proofs.Common.{◌≡◌, ◌+◌, ◌++◌, ap, append_assoc, map, sym, take, ◌∙◌}
+use Rattle.std.proofs.Common.{◌+◌, ◌++◌, ap, append_assoc, map, sym, take, ◌∙◌}
 use Rattle.lq_ast.specs.View.{condition}
 use Rattle.lq_pipes.specs.Needs.{asked_by}
 use Rattle.lq_pipes.proofs.Among.{asked_list}

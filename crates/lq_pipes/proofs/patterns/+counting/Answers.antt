@@ -1,4 +1,4 @@
-use Rattle.std.proofs.Common.{◌≡◌, ◌+◌, ap, length, map, take, arith}
+use Rattle.std.proofs.Common.{◌+◌, ap, length, map, take, arith}
 use Rattle.lq_ast.specs.Patterns.{patterns_of}
 use Rattle.lq_ast.specs.View.{condition}
 use Rattle.lq_pipes.proofs.Among.{among_list}

@@ -1,7 +1,7 @@
-use Rattle.std.proofs.Common.{◌≡◌, ◌+◌, ap, flat_map, length, map, sym, take, ◌∙◌, arith}
+use Rattle.std.proofs.Common.{arith}
 use Rattle.lq_ast.specs.Patterns.{patterns_of_test}
 use Rattle.lq_ast.specs.View.{test_of}
-use Rattle.lq_pipes.proofs.Walked.{count_more, whole_taken}
+use Rattle.lq_pipes.proofs.Walked.{count_more}
 use Rattle.lq_pipes.proofs.patterns.behind_group.Goals as goal
 
 pub loop-test-preserved : goal.loop-test-preserved

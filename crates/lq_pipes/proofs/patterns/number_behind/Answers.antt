@@ -1,7 +1,7 @@
-use Rattle.std.proofs.Common.{◌≡◌, ◌+◌, ap, flat_map, length, map, sym, take, ◌∙◌, arith}
+use Rattle.std.proofs.Common.{arith}
 use Rattle.lq_ast.specs.Patterns.{patterns_of_stage}
 use Rattle.lq_ast.specs.PipeView.{stage}
-use Rattle.lq_pipes.proofs.Walked.{count_more, whole_taken}
+use Rattle.lq_pipes.proofs.Walked.{count_more}
 use Rattle.lq_pipes.proofs.patterns.number_behind.Goals as goal
 
 pub loop-pipe-preserved : goal.loop-pipe-preserved

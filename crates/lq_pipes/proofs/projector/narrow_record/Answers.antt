@@ -1,4 +1,4 @@
-use Rattle.std.proofs.Common.{◌≡◌, sym, take, ◌∙◌}
+use Rattle.std.proofs.Common.{sym, ◌∙◌}
 use Rattle.log_model.specs.Field.{field_value, set_field}
 use Rattle.log_model.specs.Row.{record_of}
 use Rattle.lq_pipes.proofs.Projected.{none_kept, record_more}

@@ -1,4 +1,4 @@
-use Rattle.std.proofs.Common.{◌≡◌, [], ap, sym, ◌∙◌}
+use Rattle.std.proofs.Common.{[], ap, sym, ◌∙◌}
 use Rattle.lq_ast.specs.Grouping.{grouped}
 use Rattle.lq_ast.specs.PipeView.{grouping}
 use Rattle.lq_pipes.specs.Faults.{IsMadeFault, of_statistics}

@@ -1,4 +1,4 @@
-use Rattle.lq_stats.proofs.Finishing.{prepended_none, records_end, records_fail, records_step}
+use Rattle.lq_stats.proofs.Finishing.{prepended_none}
 use Rattle.lq_stats.proofs.finish.records.Goals as goal
 
 pub loop-left-init : goal.loop-left-init

@@ -1,7 +1,7 @@
 use Rattle.std.proofs.Common.{◌∙◌, ap, map, sym, arith}
 use Rattle.std.proofs.lemmas.List.{take_all}
 use Rattle.lq_ast.specs.Groups.{key_value}
-use Rattle.lq_stats.proofs.Finishing.{map_twice}
+use Rattle.lq_tuple.proofs.Lists.{map_twice}
 use Rattle.lq_stats.specs.Key.{grouped_by}
 use Rattle.lq_stats.proofs.keys.key_tuple.Goals as goal
 

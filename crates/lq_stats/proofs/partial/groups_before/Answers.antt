@@ -1,15 +1,19 @@
-use Rattle.std.proofs.Common.{◌≡◌, [], length, map, arith}
+use Rattle.std.proofs.Common.{◌≡◌, ◌∙◌, [], ap, length, map, subst, arith}
 use Rattle.std.proofs.lemmas.Grind.{common_steps}
 use Rattle.lq_stats.proofs.Gathering.{groups_begun, groups_none}
-use Rattle.lq_stats.specs.Function.{statistic_of}
+use Rattle.lq_stats.specs.Function.{scanned_statistic}
+use Rattle.lq_stats.specs.Groups.{AreGroups}
 use Rattle.lq_stats.specs.Key.{grouped_by}
+use Rattle.lq_stats.specs.Partial.{opening}
 use Rattle.lq_stats.proofs.partial.groups_before.Goals as goal
 
 pub returns : goal.returns
 returns c =
     let keys = map grouped_by c.args.keys.now in
-    let statistics = map statistic_of c.args.functions.now in
+    let statistics = map scanned_statistic c.as_slice.result.now in
     let none : length c.args.keys.now ≡ 0 = grind (arith, common_steps, c.is_empty.ensures, c.if-not-is_empty.false) in
-    groups_begun c.args.keys.now statistics c.place-2.new.self _ c.in_ok-place.field-0 none
+    subst (λ ss. AreGroups keys ss c.place-2.new.self (opening keys) [])
+    (ap (map scanned_statistic) c.as_slice.ensures.value ∙ c.in_ok-scans.ensures)
+    (groups_begun c.args.keys.now statistics c.place-2.new.self _ c.in_ok-place.field-0 none
     (c.in_ok-place.ensures [] []
-    (groups_none keys statistics c.new-groups.result c.new-groups.ensures.known c.new-groups.ensures.none))
+    (groups_none keys statistics c.new-groups.result c.new-groups.ensures.known c.new-groups.ensures.none)))

@@ -1,4 +1,4 @@
-use Rattle.std.proofs.Common.{◌≡◌, ◌++◌, ◌∙◌, [], ap, append-nil, refl, subst, sym, take, arith}
+use Rattle.std.proofs.Common.{◌++◌, ◌∙◌, ap, append-nil, refl, subst, sym, take, arith}
 use Rattle.lq_ast.specs.Tuples.{tuple_of}
 use Rattle.std.proofs.lemmas.List.{take_all}
 use Rattle.log_model.specs.Field.{field_value}

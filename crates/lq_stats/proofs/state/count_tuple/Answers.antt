@@ -1,9 +1,9 @@
-use Rattle.std.proofs.Common.{◌≡◌, ◌∙◌, true, false, ap, length, not, sym}
+use Rattle.std.proofs.Common.{◌≡◌, ◌∙◌, true, ap, length, not, sym}
 use Rattle.std.proofs.lemmas.List.{length-map}
 use Rattle.log_model.specs.Field.{field_value}
 use Rattle.lq_ast.specs.Statistics.{has_some}
 use Rattle.lq_ast.specs.Tuples.{tuple_of}
-use Rattle.lq_stats.proofs.Counting.{counted_new, counted_old}
+use Rattle.lq_tuple.proofs.Counting.{counted_new, counted_old}
 use Rattle.lq_stats.proofs.state.count_tuple.Goals as goal
 
 pub returns-in_ok-add : goal.returns-in_ok-add

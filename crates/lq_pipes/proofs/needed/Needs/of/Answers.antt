@@ -1,4 +1,4 @@
-use Rattle.std.proofs.Common.{◌≡◌, None, Some, map, sym, ◌∙◌}
+use Rattle.std.proofs.Common.{None, Some, map, sym, ◌∙◌}
 use Rattle.lq_ast.specs.PipeView.{stage}
 use Rattle.lq_pipes.proofs.Enough.{enough_for, stops_here, stops_nowhere}
 use Rattle.lq_pipes.proofs.needed.Needs.of.Goals as goal

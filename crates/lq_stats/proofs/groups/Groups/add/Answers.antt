@@ -1,14 +1,14 @@
-use Rattle.std.proofs.Common.{◌≡◌, ◌∙◌, ap, get_or, map, refl, subst, sym}
+use Rattle.std.proofs.Common.{◌∙◌, ap, get_or, map, refl, subst, sym}
 use Rattle.std.proofs.lemmas.List.{get_or-set_other, get_or-set_same, get_or_default, length-set}
 use Rattle.lq_stats.proofs.Gathering.{gathered}
-use Rattle.lq_stats.specs.Function.{statistic_of}
+use Rattle.lq_stats.specs.Function.{scanned_statistic}
 use Rattle.lq_stats.specs.Groups.{TakesRecord, group_tuple}
 use Rattle.lq_stats.specs.Key.{grouped_by}
 use Rattle.lq_stats.proofs.groups.Groups.add.Goals as goal
 
-pub returns-in_ok-add : goal.returns-in_ok-add
-returns-in_ok-add c = λ more records few h.
-    let statistics = map statistic_of c.args.functions.now in
+pub returns-in_ok-add-clause-taken : goal.returns-in_ok-add-clause-taken
+returns-in_ok-add-clause-taken c = λ more records few h.
+    let statistics = map scanned_statistic c.args.scans.now in
     let e = c.in_ok-place.ensures more records h in
     let list = c.place.new.self.list.items in
     let place = c.in_ok-place.place in

@@ -1,10 +1,5 @@
-use Rattle.std.proofs.Common.{◌≡◌, ◌∙◌, List, ℕ, Result, ap, map, sym, subst}
+use Rattle.std.proofs.Common.{◌∙◌, sym, subst}
 use Rattle.std.proofs.lemmas.Result.{IfErr-weaker, IfOk-weaker}
-use Rattle.std.specs.Ordering.{on}
-use Rattle.lq_ast.specs.Grouping.{all, grouped}
-use Rattle.lq_ast.specs.Records.{Record}
-use Rattle.lq_ast.specs.Stage.{GroupBy, Grouping, Statistic}
-use Rattle.lq_ast.specs.Tuples.{sorted_by, tuple_cmp}
 use Rattle.lq_stats.proofs.Finishing.{finished_as}
 use Rattle.lq_stats.specs.Finish.{IsFault}
 use Rattle.lq_stats.proofs.partial.Partial.finish.Goals as goal

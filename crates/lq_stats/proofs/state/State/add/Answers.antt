@@ -1,4 +1,4 @@
-use Rattle.std.proofs.Common.{◌≡◌, ◌+◌, ◌-◌, ◌^◌, ◌||◌, ◌++◌, [], ◌∷◌, ◌∙◌, ap, cond, length, min, not, subst, sym, arith}
+use Rattle.std.proofs.Common.{◌+◌, ◌-◌, ◌^◌, ◌||◌, ◌++◌, [], ◌∷◌, ◌∙◌, ap, cond, length, min, not, subst, sym, arith}
 use Rattle.std.proofs.lemmas.Result.{on_ok_weaker}
 use Rattle.std.specs.List.{filter}
 use Rattle.lq_ast.specs.Statistics.{counted, has_some, values}
@@ -6,7 +6,7 @@ use Rattle.lq_ast.specs.Tuples.{tuple_of}
 use Rattle.lq_stats.proofs.Measuring.{measured_alike}
 use Rattle.lq_stats.proofs.Taking.{clipped, counted_few, counted_more, empty_few, empty_more, tuples_more}
 use Rattle.lq_stats.proofs.Taking.{value_counts, values_few}
-use Rattle.lq_stats.specs.Counted.{AreCounted}
+use Rattle.lq_tuple.specs.Counted.{AreCounted}
 use Rattle.lq_stats.specs.State.{is_nil}
 use Rattle.lq_stats.proofs.state.State.add.Goals as goal
 

@@ -1,12 +1,10 @@
 use Rattle.std.proofs.Common.{◌≡◌, ◌++◌, [], ◌∷◌, ◌∙◌, true, false, ap, sym, subst, is_some}
 use Rattle.log_model.proofs.ValueOrder.{value_cmp_linear}
 use Rattle.log_model.specs.Order.{value_cmp}
-use Rattle.lq_stats.proofs.Finishing.{finished}
-use Rattle.lq_stats.proofs.Once.{once_new, once_old}
-use Rattle.lq_stats.proofs.Taking.{values_few}
-use Rattle.lq_stats.proofs.Tuples.{value_tells, words_new, words_old}
-use Rattle.lq_stats.specs.Once.{HasEachOnce}
-use Rattle.lq_stats.specs.Places.{AreKnown, place_in}
+use Rattle.lq_tuple.proofs.Once.{once_new, once_old}
+use Rattle.lq_tuple.proofs.Tuples.{value_tells, words_new, words_old}
+use Rattle.lq_tuple.specs.Once.{HasEachOnce}
+use Rattle.lq_tuple.specs.Places.{AreKnown, place_in}
 use Rattle.lq_stats.proofs.words.Words.add.Goals as goal
 
 pub returns-then-is_some : goal.returns-then-is_some

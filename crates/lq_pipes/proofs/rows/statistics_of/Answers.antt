@@ -1,0 +1,45 @@
+use Rattle.std.proofs.Common.{rules, ◌≡◌, ◌++◌, [], sym, subst, ap, ◌∙◌}
+use Rattle.lq_ast.specs.Grouping.{grouped}
+use Rattle.lq_ast.specs.PipeView.{grouping}
+use Rattle.lq_pipes.specs.RowRecords.{records_left}
+use Rattle.lq_pipes.specs.Faults.{IsMadeFault, of_statistics}
+use Rattle.lq_stats.specs.Finish.{IsFault}
+use Rattle.lq_pipes.proofs.Refusing.{handed_on, made_fault}
+use Rattle.lq_pipes.proofs.Rowwise.{pieces_end, pieces_more}
+use Rattle.lq_pipes.proofs.rows.statistics_of.Goals as goal
+
+pub loop-rows-preserved : goal.loop-rows-preserved
+loop-rows-preserved c =
+    let here = c.loop-rows.invariant in
+    let whole = records_left c.args.rows in
+    let left = records_left c.loop-rows.rows in
+    let rest = records_left c.next.new.self in
+    let gives = rw c.in-Some.is at c.in_ok-records.ensures in
+    let taken = rw c.as_slice.ensures at c.in_ok-add_all.ensures in
+    record {
+      done = here.done ++ c.in-Some.records;
+      stands = taken (grouping c.args.pipe.now) here.done here.stands;
+      split = pieces_more whole here.done c.in-Some.records left rest here.split gives.0;
+      few = here.few;
+    }
+
+pub returns-in_err-made-clause-fault : goal.returns-in_err-made-clause-fault
+returns-in_err-made-clause-fault c =
+    let g = grouping c.args.pipe.now in
+    let here = c.loop-rows.invariant in
+    let fault = c.in_err-made.field-0.0 in
+    let none : records_left c.loop-rows.rows ≡ [] = search rules in
+    let all = pieces_end (records_left c.args.rows) here.done (records_left c.loop-rows.rows) here.split none in
+    let failed = subst (λ records. IsFault (grouped g records) fault) all
+    (c.in_err-made.ensures.fault g here.done here.stands) in
+    handed_on c.from_residual-in_err-made.result (IsMadeFault (grouped g (records_left c.args.rows)))
+    (of_statistics fault) c.from_residual-in_err-made.ensures.1
+    (made_fault (grouped g (records_left c.args.rows)) fault failed)
+
+pub returns-clause-ok : goal.returns-clause-ok
+returns-clause-ok c =
+    let g = grouping c.args.pipe.now in
+    let here = c.loop-rows.invariant in
+    let none : records_left c.loop-rows.rows ≡ [] = search rules in
+    let all = pieces_end (records_left c.args.rows) here.done (records_left c.loop-rows.rows) here.split none in
+    ap (grouped g) (sym all) ∙ c.in_ok-made.ensures.made g here.done here.stands

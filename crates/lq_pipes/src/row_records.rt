@@ -1,0 +1,15 @@
+//! Rows of which some have become records.
+ghost use Rattle.std.specs.Prelude.{◌≤◌, length};
+
+use crate::projector::Projector;
+use vl_row::Row;
+
+/// The records of rows, of the fields alone that matter, of which some are still to be made.
+#[derive(Drop)]
+pub(crate) struct RowRecords<'r> {
+    pub(crate) projector: Projector<'r>,
+    pub(crate) rows: &'r [&'r Row],
+    // how many of the rows have become records
+    pub(crate) made: usize,
+    ghost within: { made ≤ length rows.now },
+}

@@ -1,0 +1,5 @@
+pub mod Counting
+pub mod Lists
+pub mod Once
+pub mod Positions
+pub mod Tuples

@@ -1,0 +1,22 @@
+//! Tests of `lq_tuple`.
+//!
+//! The program answers a table. A case is a line: names with commas between them, a tab, and the fields of a record as
+//! `name=value`, with `&` between them. The answer is the text of the tuple of these names, the number of that text
+//! among those of all lines so far, and `empty` where all of its values are. The answers are those of a Python program
+//! of its own.
+#![tactic(auto)]
+
+mod tuple_tests;
+
+use lq_tuple::Places;
+use std::io;
+use tuple_tests::answer;
+
+fn main(rt: HostRuntime) -> io::Result<()> {
+    let mut places = Places::new(rt.alloc());
+    for case in rt.lines(rt.alloc()) {
+        let answer = answer(rt.alloc(), case?.as_str(), &mut places)?;
+        println!(rt; "{answer}")?;
+    }
+    Ok(())
+}
