@@ -329,6 +329,23 @@ request_lines room buf e =
     let count = started_lines (start_of h) 1 h.fields (is_start h e.4.0) e.4.0.fields in
     omega (arith, fewer, count, ap lines_in e.2, lines_before e.0 e.1, e.5)
 
+-- a whole head has a line for each field, and one more
+pub head_lines : (h : RequestHead) → IsRequestHead h → lines_in (print_request h) ≡ length h.fields + 1
+head_lines h is =
+    let text : List ℕ = start_of h ++ flat_map print_field h.fields in
+    let whole : print_request h ≡ text ++ print_end h.last =
+    request_is h ∙ sym (append_assoc (start_of h) (flat_map print_field h.fields) (print_end h.last)) in
+    let end = lines_then false false text (print_end h.last) (started_after (start_of h) 1 h.fields (is_start h is)) in
+    let count = started_lines (start_of h) 1 h.fields (is_start h is) is.fields in
+    omega (arith, ap lines_in whole, end, blank_end h.last, count)
+
+-- a whole section has a line for each field
+pub whole_section_lines : (fields : List Field) (last : LineEnd) → All IsField fields
+    → lines_in (print_section fields last) ≡ length fields
+whole_section_lines fields last all =
+    let end = lines_then false false (flat_map print_field fields) (print_end last) (fields_after fields) in
+    omega (arith, end, blank_end last, fields_lines fields all)
+
 -- ---- too many fields, from too many lines
 
 -- the field line that is one too many ends in the bytes

@@ -15,7 +15,7 @@ use Rattle.httparse.specs.declared.spans.HeaderSpan.{HeaderSpan}
 use Rattle.httparse.specs.declared.spans.RequestSpans.{RequestSpans}
 use Rattle.httparse.specs.declared.spans.Span.{Span}
 use Rattle.httparse.proofs.GrammarLemmas.{ReadsRequest-append}
-use Rattle.http_in.specs.Faults.{HasLargeHead, HasUnframed, IsInHead}
+use Rattle.http_in.specs.Faults.{HasBadHead, HasLargeHead, HasUnframed, IsInHead}
 use Rattle.http_said.specs.Fields.{asks_to_close, framing_of, is_form}
 use Rattle.http_in.specs.Head.{ExplainsHead, HasHeadFault, IsHeadAt}
 use Rattle.http_in.specs.Limits.{field_limit, head_limit}
@@ -75,7 +75,7 @@ large_more bytes more (inr f) =
     (rw (take_append head_limit bytes more)
     (exceeds_more field_limit (take head_limit bytes) (take (head_limit - length bytes) more) f))
 
-unframed_more : (bytes more : List ℕ) (fault : FieldFault) → HasUnframed bytes fault → HasUnframed (bytes ++ more) fault
+pub unframed_more : (bytes more : List ℕ) (fault : FieldFault) → HasUnframed bytes fault → HasUnframed (bytes ++ more) fault
 unframed_more bytes more fault f = record {
   head = f.head;
   after = f.after ++ more;
@@ -83,20 +83,20 @@ unframed_more bytes more fault f = record {
   unframed = f.unframed;
 }
 
+pub bad_head_more : (bytes more : List ℕ) → HasBadHead bytes → HasBadHead (bytes ++ more)
+bad_head_more bytes more f = record {
+  front = f.front;
+  later = f.later ++ more;
+  whole = ap (λ l. l ++ more) f.whole ∙ append_assoc f.front f.later more;
+  short = f.short;
+  few = f.few;
+  never = f.never;
+}
+
 pub HasHeadFault-more : (place : ℕ) (bytes more : List ℕ) (fault : RequestFault) → HasHeadFault place bytes fault
     → HasHeadFault place (bytes ++ more) fault
 HasHeadFault-more place bytes more faults.SourceFault f = f
-HasHeadFault-more place bytes more (faults.BadHead at) f = (
-  f.0,
-  record {
-    front = f.1.front;
-    later = f.1.later ++ more;
-    whole = ap (λ l. l ++ more) f.1.whole ∙ append_assoc f.1.front f.1.later more;
-    short = f.1.short;
-    few = f.1.few;
-    never = f.1.never;
-  },
-)
+HasHeadFault-more place bytes more (faults.BadHead at) f = (f.0, bad_head_more bytes more f.1)
 HasHeadFault-more place bytes more (faults.Cut at) f = f
 HasHeadFault-more place bytes more faults.HeadLarge f = large_more bytes more f
 HasHeadFault-more place bytes more faults.BodyLarge f = unframed_more bytes more fields.BodyLarge f

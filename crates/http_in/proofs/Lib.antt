@@ -7,3 +7,7 @@ pub mod BodyLemmas
 pub mod MoveLemmas
 pub mod ReadingLemmas
 pub mod TurnLemmas
+pub mod StayLemmas
+pub mod RemainLemmas
+pub mod UniqueLemmas
+pub mod RequestsLemmas

@@ -1,0 +1,92 @@
+-- A reply, and its bytes (RFC 9112, sections 2.1 and 4).
+use Rattle.std.specs.Prelude.{ℕ, Bool, List, [], ◌∷◌, ◌++◌, length, flat_map, codes, decimal, if◌then◌else◌}
+use Rattle.http_reply.specs.declared.status.Delivery.{Delivery}
+use Rattle.http_reply.specs.declared.status.Kind.{Kind}
+use Rattle.http_reply.specs.declared.status.Kind.TheVariants as kinds
+use Rattle.http_reply.specs.declared.status.Methods.{Methods}
+use Rattle.http_reply.specs.declared.status.Methods.TheVariants as methods
+use Rattle.http_reply.specs.declared.status.Status.{Status}
+use Rattle.http_reply.specs.declared.status.Status.TheVariants as statuses
+
+-- ---- the words
+
+-- the code and its reason (RFC 9110, section 15; RFC 4918, section 11.5)
+abbrev pub status_text : Status → List ℕ
+status_text (statuses.Served kind) = codes "200 OK"
+status_text statuses.BadRequest = codes "400 Bad Request"
+status_text statuses.NotFound = codes "404 Not Found"
+status_text (statuses.MethodNotAllowed methods) = codes "405 Method Not Allowed"
+status_text statuses.ContentTooLarge = codes "413 Content Too Large"
+status_text statuses.UnsupportedMediaType = codes "415 Unsupported Media Type"
+status_text statuses.UnprocessableContent = codes "422 Unprocessable Content"
+status_text statuses.ServiceUnavailable = codes "503 Service Unavailable"
+status_text statuses.InsufficientStorage = codes "507 Insufficient Storage"
+
+-- the type of the content (RFC 9110, section 8.3)
+abbrev pub kind_text : Kind → List ℕ
+kind_text kinds.Text = codes "text/plain; charset=utf-8"
+kind_text kinds.Json = codes "application/json"
+kind_text kinds.JsonLines = codes "application/stream+json"
+
+-- what is no answer is said in text
+abbrev pub kind_of : Status → Kind
+kind_of (statuses.Served kind) = kind
+kind_of other = kinds.Text
+
+-- the methods of a path (RFC 9110, section 10.2.1)
+abbrev pub methods_text : Methods → List ℕ
+methods_text methods.Get = codes "GET"
+methods_text methods.Post = codes "POST"
+methods_text methods.GetAndPost = codes "GET, POST"
+
+-- ---- the header lines, as names and values
+
+-- a refused method is told which ones there are (RFC 9110, section 15.5.6)
+abbrev pub allow_fields : Status → List (List ℕ × List ℕ)
+allow_fields (statuses.MethodNotAllowed methods) = (codes "Allow", methods_text methods) ∷ []
+allow_fields other = []
+
+-- how long the content is (RFC 9112, section 6.2); a reply to HEAD does not say it
+abbrev pub length_fields : Bool → ℕ → List (List ℕ × List ℕ)
+length_fields bare length = if bare then [] else (codes "Content-Length", decimal length) ∷ []
+
+-- the connection ends behind the reply (RFC 9112, section 9.6)
+abbrev pub close_fields : Bool → List (List ℕ × List ℕ)
+close_fields closes = if closes then (codes "Connection", codes "close") ∷ [] else []
+
+-- exactly these, in this order
+abbrev pub fields_of : Status → ℕ → Delivery → List (List ℕ × List ℕ)
+fields_of status length delivery =
+    allow_fields status
+    ++ ((codes "Content-Type", kind_text (kind_of status))
+    ∷ (length_fields delivery.bare length ++ close_fields delivery.closes))
+
+-- ---- bytes
+
+-- the end of a line
+abbrev pub line_end : List ℕ
+line_end = 13 ∷ 10 ∷ []
+
+-- field-line = field-name ":" OWS field-value OWS (RFC 9112, section 5)
+abbrev pub field_line : List ℕ × List ℕ → List ℕ
+field_line field = field.0 ++ (codes ": " ++ (field.1 ++ line_end))
+
+-- The status line, the field lines, and an empty line. The content has this length.
+unfoldable pub head_bytes : Status → ℕ → Delivery → List ℕ
+head_bytes status length delivery =
+    codes "HTTP/1.1 "
+    ++ (status_text status
+    ++ (line_end ++ (flat_map field_line (fields_of status length delivery) ++ line_end)))
+
+-- what follows the head: the content, or nothing
+abbrev pub body_bytes : Bool → List ℕ → List ℕ
+body_bytes bare content = if bare then [] else content
+
+-- the reply with this content
+abbrev pub reply_bytes : Status → List ℕ → Delivery → List ℕ
+reply_bytes status content delivery =
+    head_bytes status (length content) delivery ++ body_bytes delivery.bare content
+
+-- the reply where there is no memory
+abbrev pub no_memory_bytes : Delivery → List ℕ
+no_memory_bytes delivery = reply_bytes statuses.InsufficientStorage (codes "no memory\n") delivery

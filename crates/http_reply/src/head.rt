@@ -1,0 +1,71 @@
+//! The head of a reply.
+ghost use Rattle.std.specs.Prelude.{◌≡◌, ◌++◌, IfOk, OnOk, flat_map, string_bytes};
+ghost use Rattle.http_reply.specs.Reply.{allow_fields, close_fields, field_line, head_bytes, length_fields};
+
+use crate::status::{Delivery, Status};
+use itoa::Buffer;
+use std::alloc::{AllocError, Global};
+
+/// The head of a reply, whose content has this length.
+#[tactic(auto, unfolding(crate::specs::Reply::head_bytes))]
+pub fn reply_head(
+    alloc: Global,
+    status: Status,
+    length: usize,
+    delivery: Delivery,
+) -> Result<String, AllocError>
+    ensures { IfOk result (λ text. string_bytes text ≡ head_bytes status length delivery) }
+{
+    let mut text = String::from_str(alloc, "HTTP/1.1 ")?;
+    text.push_str(status.text())?;
+    text.push_str("\r\n")?;
+    push_allow(&mut text, status)?;
+    push_field(&mut text, "Content-Type", status.kind().text())?;
+    push_length(&mut text, delivery.bare, length)?;
+    push_close(&mut text, delivery.closes)?;
+    text.push_str("\r\n")?;
+    Ok(text)
+}
+
+/// Appends the methods of the path, where another was asked for.
+fn push_allow(text: &mut String, status: Status) -> Result<(), AllocError>
+    ensures { OnOk result (string_bytes text.new ≡ string_bytes text.old ++ flat_map field_line (allow_fields status)) }
+{
+    match status {
+        Status::MethodNotAllowed(methods) => push_field(text, "Allow", methods.text()),
+        _ => Ok(()),
+    }
+}
+
+/// Appends the length of the content, unless the reply has none.
+fn push_length(text: &mut String, bare: bool, length: usize) -> Result<(), AllocError>
+    ensures { OnOk result (string_bytes text.new
+        ≡ string_bytes text.old ++ flat_map field_line (length_fields bare length)) }
+{
+    if bare {
+        return Ok(());
+    }
+    let mut digits = Buffer::new();
+    push_field(text, "Content-Length", digits.format(length))
+}
+
+/// Appends that the connection ends, where it does.
+fn push_close(text: &mut String, closes: bool) -> Result<(), AllocError>
+    ensures { OnOk result (string_bytes text.new ≡ string_bytes text.old ++ flat_map field_line (close_fields closes)) }
+{
+    if closes {
+        push_field(text, "Connection", "close")
+    } else {
+        Ok(())
+    }
+}
+
+/// Appends a field line.
+fn push_field(text: &mut String, name: &str, value: &str) -> Result<(), AllocError>
+    ensures { OnOk result (string_bytes text.new ≡ string_bytes text.old ++ field_line (name.now, value.now)) }
+{
+    text.push_str(name)?;
+    text.push_str(": ")?;
+    text.push_str(value)?;
+    text.push_str("\r\n")
+}

@@ -1,0 +1,53 @@
+//! The arguments of a query.
+ghost use Rattle.std.specs.Prelude.{◌≡◌, option_map, is_some, IfOk, IfErr, Ok, Err};
+ghost use Rattle.std.specs.List.{find};
+ghost use Rattle.ingest_row.specs.Asked.{argument};
+ghost use Rattle.http_route.specs.Refusal.{argument_name};
+ghost use Rattle.http_route.specs.Route.{query_of};
+
+use crate::refusal::{Argument, Refusal};
+use vl_row::Field;
+
+/// Arguments of VictoriaLogs that are not served: a query says with its pipes what they say.
+const NOT_SERVED: [Argument; 4] = [
+    Argument::Limit,
+    Argument::Start,
+    Argument::End,
+    Argument::Offset,
+];
+
+/// The text of the query.
+pub(crate) fn query_text(args: &[Field]) -> Result<&str, Refusal>
+    ensures ok { IfOk result (λ text. query_of args.now ≡ Ok text.now) }
+    ensures err { IfErr result (λ refusal. query_of args.now ≡ Err refusal) }
+{
+    match (argument(args, "query"), first_there(args, &NOT_SERVED)) {
+        (None, _) => Err(Refusal::BadArgument(Argument::Query)),
+        (Some(_), Some(argument)) => Err(Refusal::BadArgument(argument)),
+        (Some(text), None) => Ok(text),
+    }
+}
+
+/// The value of the first argument of this name.
+fn argument<'a>(args: &'a [Field], name: &str) -> Option<&'a str>
+    ensures { option_map (λ text. text.now) result ≡ argument args.now name.now }
+{
+    for field in args {
+        if name == field.name() {
+            return Some(field.value());
+        }
+    }
+    None
+}
+
+/// The first of these that is among the arguments.
+fn first_there(args: &[Field], wanted: &[Argument]) -> Option<Argument>
+    ensures { result ≡ find (λ name. is_some (argument args.now (argument_name name))) wanted.now }
+{
+    for name in wanted {
+        if argument(args, name.name()).is_some() {
+            return Some(*name);
+        }
+    }
+    None
+}

@@ -1,0 +1,5 @@
+pub mod GrowLemmas
+pub mod TurnLemmas
+pub mod RequestLemmas
+pub mod Going
+pub mod StatusLemmas

@@ -1,0 +1,98 @@
+-- What becomes of a body that is to be taken in (VictoriaLogs, "Data ingestion").
+use Rattle.std.specs.Prelude.{◌≡◌, ℕ, ◌+◌, ◌-◌, ◌^◌, ◌<◌, ◌≤◌, pos, List, [], ◌∷◌, ◌++◌, length, map, take, codes}
+use Rattle.std.specs.Prelude.{decimal}
+use Rattle.log_model.specs.Core.{held_limit}
+use Rattle.log_model.specs.Field.{Field}
+use Rattle.log_model.specs.Print.{line_text}
+use Rattle.log_model.specs.Row.{batch_limit, batch_weight}
+use Rattle.http_reply.specs.declared.status.Kind.TheVariants as kinds
+use Rattle.http_reply.specs.declared.status.Status.{Status}
+use Rattle.http_reply.specs.declared.status.Status.TheVariants as statuses
+use Rattle.ingest_row.specs.Ingest.{Options}
+use Rattle.ingest_row.specs.Intake.{IsIntake, Outcome, refused_from, rows_read}
+use Rattle.ingest_row.specs.Refusal.{kind_text}
+use Rattle.ingest_row.specs.declared.body.LineFault.{LineFault}
+use Rattle.vl_session.specs.Seen.{Effect, Seen, adds, looks, nothing}
+
+-- what a body comes to, whose lines have these outcomes
+pub data InsertOutcome : Type 0 where
+  -- no line has a row
+  no_row : List Outcome → InsertOutcome
+  -- the rows are one batch
+  taken : List Outcome → InsertOutcome
+  -- they weigh so much, which is too much for a batch
+  large : ℕ → InsertOutcome
+  -- as many batches wait to be settled as may
+  full : InsertOutcome
+  -- there is no number for another batch
+  spent : InsertOutcome
+
+-- the lines have these outcomes, and some have rows, which can be a batch
+pub record CanBeBatch (options : Options) (now : ℕ) (body : List ℕ) (outcomes : List Outcome) : Type 0 where
+  pub given : IsIntake options (pos now) body outcomes
+  pub some : 0 < length (rows_read outcomes)
+  pub light : batch_weight (rows_read outcomes) ≤ batch_limit
+
+-- a body that came in at that moment, and what had been seen once it was served
+abbrev pub HasInsertOutcome : Options → ℕ → List ℕ → Seen → InsertOutcome → Type 0
+HasInsertOutcome options now body seen (no_row outcomes) =
+    IsIntake options (pos now) body outcomes × (rows_read outcomes ≡ [])
+HasInsertOutcome options now body seen (taken outcomes) = CanBeBatch options now body outcomes
+HasInsertOutcome options now body seen (large weight) =
+    (outcomes : List Outcome) × IsIntake options (pos now) body outcomes
+    × (weight ≡ batch_weight (rows_read outcomes)) × (batch_limit < weight)
+HasInsertOutcome options now body seen full =
+    (outcomes : List Outcome) × CanBeBatch options now body outcomes
+    × (length seen.history ≡ seen.settled + held_limit)
+HasInsertOutcome options now body seen spent =
+    (outcomes : List Outcome) × CanBeBatch options now body outcomes × (length seen.history ≡ 2 ^ 63 - 1)
+
+abbrev pub insert_effect : InsertOutcome → Effect
+insert_effect (no_row outcomes) = nothing
+insert_effect (taken outcomes) = adds (rows_read outcomes)
+insert_effect (large weight) = nothing
+insert_effect full = looks
+insert_effect spent = looks
+
+abbrev pub insert_status : InsertOutcome → Status
+insert_status (no_row outcomes) = statuses.Served kinds.Json
+insert_status (taken outcomes) = statuses.Served kinds.Json
+insert_status (large weight) = statuses.ContentTooLarge
+insert_status full = statuses.ServiceUnavailable
+insert_status spent = statuses.ServiceUnavailable
+
+-- ---- what is said
+
+-- so many refused lines are named
+abbrev pub named_limit : ℕ
+named_limit = 16
+
+abbrev pub named_line : LineFault → List ℕ
+named_line fault = decimal fault.line ++ (codes " " ++ kind_text fault.kind)
+
+-- with a comma and a blank between each two
+abbrev pub joined : List (List ℕ) → List ℕ
+joined [] = []
+joined (text ∷ []) = text
+joined (text ∷ next ∷ texts) = text ++ (codes ", " ++ joined (next ∷ texts))
+
+abbrev pub fault_fields : List LineFault → List Field
+fault_fields [] = []
+fault_fields (fault ∷ faults) =
+    (codes "faults", joined (map named_line (take named_limit (fault ∷ faults)))) ∷ []
+
+-- the counts, the number of the batch where there is one, and the first refused lines where there are any
+abbrev pub insert_fields : List Outcome → List Field → List Field
+insert_fields outcomes batch =
+    let refused = refused_from 1 outcomes in
+    (codes "accepted", decimal (length (rows_read outcomes)))
+    ∷ (batch ++ (fault_fields refused ++ (codes "refused", decimal (length refused)) ∷ []))
+
+-- The batch is the last of what was seen, so its number is the length of that.
+abbrev pub insert_content : Seen → InsertOutcome → List ℕ
+insert_content seen (no_row outcomes) = line_text (insert_fields outcomes [])
+insert_content seen (taken outcomes) =
+    line_text (insert_fields outcomes ((codes "batch", decimal (length seen.history)) ∷ []))
+insert_content seen (large weight) = codes "Large " ++ (decimal weight ++ codes "\n")
+insert_content seen full = codes "Full 4096\n"
+insert_content seen spent = codes "Spent\n"

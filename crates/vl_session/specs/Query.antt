@@ -1,0 +1,69 @@
+-- The answer to a query over the history that was seen (VictoriaLogs, "Querying").
+use Rattle.std.specs.Prelude.{◌≡◌, ℕ, pos, List, ◌++◌, codes, decimal, Err, slice_get, IsSomeAnd}
+use Rattle.std.specs.List.{AllByRecursion}
+use Rattle.log_model.specs.History.{History, rows_of}
+use Rattle.log_model.specs.Print.{lines_text}
+use Rattle.http_reply.specs.declared.status.Kind.TheVariants as kinds
+use Rattle.http_reply.specs.declared.status.Status.{Status}
+use Rattle.http_reply.specs.declared.status.Status.TheVariants as statuses
+use Rattle.lq_ast.specs.Evaluation as evaluation
+use Rattle.lq_ast.specs.Evaluation.{evaluate}
+use Rattle.lq_ast.specs.Patterns.{CanBeRead, all_patterns}
+use Rattle.lq_ast.specs.Question.{Question}
+use Rattle.lq_ast.specs.Records.{Record}
+use Rattle.lq_grammar.specs.Faults.{fault_text}
+use Rattle.lq_grammar.specs.Query.{IsQueryText, QueryOf}
+use Rattle.lq_grammar.specs.declared.fault.QueryFault.{QueryFault}
+use Rattle.vl_session.specs.Seen.{Effect, looks, nothing}
+
+-- what a query comes to
+pub data QueryOutcome : Type 0 where
+  -- its text spells none
+  unspelled : QueryFault → QueryOutcome
+  -- its regular expression with this number, from 0 on, cannot be read
+  unreadable : ℕ → QueryOutcome
+  -- it has these records
+  found : List Record → QueryOutcome
+  -- 2^32 rows hold, or more
+  many_rows : QueryOutcome
+  -- the total of the function with this name is no 64-bit integer
+  overflows : List ℕ → QueryOutcome
+
+-- The text spells a query whose patterns can all be read, and this is its evaluation at that moment.
+pub record Evaluates (text : List ℕ) (now : ℕ) (history : History) (outcome : evaluation.Outcome) : Type 0 where
+  pub query : Question
+  pub spelled : IsQueryText text query
+  pub readable : AllByRecursion CanBeRead (all_patterns query)
+  pub evaluated : evaluate query (pos now) (rows_of history) ≡ outcome
+
+-- the text of a query, over the history that was seen
+abbrev pub HasQueryOutcome : List ℕ → ℕ → History → QueryOutcome → Type 0
+HasQueryOutcome text now history (unspelled fault) = QueryOf text (Err fault)
+HasQueryOutcome text now history (unreadable nth) =
+    (query : Question) × IsQueryText text query
+    × IsSomeAnd (slice_get (all_patterns query) nth) (λ pattern. CanBeRead pattern → ⊥)
+HasQueryOutcome text now history (found records) = Evaluates text now history (evaluation.records records)
+HasQueryOutcome text now history many_rows = Evaluates text now history evaluation.many_rows
+HasQueryOutcome text now history (overflows name) = Evaluates text now history (evaluation.overflow name)
+
+-- Only a query that can be asked looks at the log.
+abbrev pub query_effect : QueryOutcome → Effect
+query_effect (unspelled fault) = nothing
+query_effect (unreadable nth) = nothing
+query_effect (found records) = looks
+query_effect many_rows = looks
+query_effect (overflows name) = looks
+
+abbrev pub query_status : QueryOutcome → Status
+query_status (unspelled fault) = statuses.BadRequest
+query_status (unreadable nth) = statuses.BadRequest
+query_status (found records) = statuses.Served kinds.JsonLines
+query_status many_rows = statuses.UnprocessableContent
+query_status (overflows name) = statuses.UnprocessableContent
+
+abbrev pub query_content : QueryOutcome → List ℕ
+query_content (unspelled fault) = fault_text fault ++ codes "\n"
+query_content (unreadable nth) = codes "RegexRefused number " ++ (decimal nth ++ codes "\n")
+query_content (found records) = lines_text records
+query_content many_rows = codes "ManyRows\n"
+query_content (overflows name) = codes "Overflow in " ++ (name ++ codes "\n")

@@ -1,0 +1,46 @@
+//! What a session asks of the log.
+ghost use Rattle.std.specs.Prelude.{◌≡◌, ◌<◌, ◌^◌, Bool, length};
+ghost use Rattle.log_model.specs.History.{Entry};
+ghost use Rattle.http_in.specs.Reading.{asked_by};
+ghost use Rattle.vl_session.specs.Reply.{IsServed};
+ghost use Rattle.vl_session.specs.Seen.{Effect, Seen};
+ghost use Rattle.vl_session.specs.Sent.{bytes_of};
+
+use http_in::Request;
+use vl_row::Text;
+
+/// A reply that is to be written.
+#[derive(Drop)]
+pub enum Reply {
+    /// All of it.
+    Whole(String),
+    /// Its head, and its content, which is not copied behind that.
+    Parts { head: String, content: Text },
+    /// A fixed text, which needs no memory.
+    Fixed(&'static str),
+}
+
+/// The log, as one caller sees it.
+pub trait Log {
+    // What the caller has seen.
+    ghost seen: { Self → Seen };
+
+    // Which entries are the caller's own.
+    ghost mine: { Self → Entry → Bool };
+
+    /// Serves a request that was whole at the moment `now`, in nanoseconds since the start of 1970, and gives the
+    /// reply, behind which the connection ends or goes on.
+    fn serve(&mut self, request: &Request, now: u64, closes: bool) -> Reply
+        requires { now < 2 ^ 63 }
+        ensures served { (effect : Effect) × IsServed (mine self.old) (asked_by request.now) closes now (seen self.old)
+            (seen self.new) effect (bytes_of result) }
+        ensures own { mine self.new ≡ mine self.old };
+
+    /// How many batches the caller has seen.
+    fn front(&self) -> u64
+        ensures { result ≡ length (seen self.now).history };
+
+    /// How many of them, as it has seen, are settled.
+    fn settled(&self) -> u64
+        ensures { result ≡ (seen self.now).settled };
+}

@@ -1,0 +1,98 @@
+//! One turn of a session.
+ghost use Rattle.std.specs.Prelude.{◌≡◌, ◌+◌, ◌++◌, ◌<◌, ◌≤◌, ◌^◌, [], ◌∷◌, ◌||◌, ◌==◌, pos, vec_capacity, vec_len};
+ghost use Rattle.vl_io.specs.Change.{change_of};
+ghost use Rattle.vl_io.specs.Moments.{Tells};
+ghost use Rattle.http_in.specs.Reading.{asked_by};
+ghost use Rattle.vl_session.specs.Sent.{GoesOn, Serves, bytes_of};
+ghost use Rattle.vl_session.specs.Turns.{Turn, turn_limit};
+
+use crate::log::{Log, Reply};
+use crate::report::{Done, End};
+use crate::send::put_reply;
+use http_in::Request;
+use vl_io::{Clock, Failed, Sink};
+
+/// The requests of one connection.
+pub(crate) const TURN_LIMIT: usize = 1_000;
+
+/// Serves one request, notes it in the list, which has room for it, and writes the reply.
+pub(crate) fn take_turn<L: Log, K: Sink, C: Clock>(
+    log: &mut L,
+    request: &Request,
+    turns: &mut Vec<Done>,
+    sink: &mut K,
+    clock: &mut C,
+) -> Result<(), End>
+    requires room { vec_len turns.old < vec_capacity turns.old }
+    requires few { vec_len turns.old < turn_limit }
+    ensures turn { (turn : Turn) × Serves (L.mine log.old) (asked_by request.now) (L.seen log.old) (L.seen log.new)
+        turns.old.items turns.new.items turn
+        × Tells (C.moments clock.old) (C.moments clock.new) (pos turn.now)
+        × GoesOn turn (change_of K.written K.faults sink.old sink.new) result }
+    ensures own { L.mine log.new ≡ L.mine log.old }
+    ensures faults { K.faults sink.old ≤ K.faults sink.new }
+{
+    let now = moment(clock);
+    let reply = serve(log, request, turns, now);
+    match put_reply(sink, &reply) {
+        Err(Failed) => Err(End::SinkFault),
+        Ok(()) if request.last => Err(End::AskedClose),
+        Ok(()) => Ok(()),
+    }
+}
+
+/// Serves one request, and notes it in the list, which has room for it.
+fn serve<L: Log>(log: &mut L, request: &Request, turns: &mut Vec<Done>, now: u64) -> Reply
+    requires room { vec_len turns.old < vec_capacity turns.old }
+    requires few { vec_len turns.old < turn_limit }
+    requires moment { now < 2 ^ 63 }
+    ensures served { (turn : Turn) × Serves (L.mine log.old) (asked_by request.now) (L.seen log.old) (L.seen log.new)
+        turns.old.items turns.new.items turn × (turn.now ≡ now) × (turn.reply ≡ bytes_of result) }
+    ensures own { L.mine log.new ≡ L.mine log.old }
+{
+    let closes = closes_after(turns.len(), request.last);
+    let reply = log.serve(request, now, closes);
+    note(turns, done_at(now, log.front(), log.settled()));
+    reply
+}
+
+/// The clock's moment, which is not negative.
+fn moment<C: Clock>(clock: &mut C) -> u64
+    ensures told { Tells (C.moments clock.old) (C.moments clock.new) (pos result) }
+    ensures small { result < 2 ^ 63 }
+{
+    clock.now().unsigned_abs()
+}
+
+/// What is noted of a turn.
+fn done_at(now: u64, front: u64, settled: u64) -> Done
+    requires { now < 2 ^ 63 }
+    ensures now { result.now ≡ pos now }
+    ensures front { result.front ≡ front }
+    ensures settled { result.settled ≡ settled }
+{
+    Done {
+        now: now as i64,
+        front,
+        settled,
+    }
+}
+
+/// Whether the connection ends behind the reply to a request before which so many were served.
+fn closes_after(before: usize, last: bool) -> bool
+    requires { before < turn_limit }
+    ensures { result ≡ (last || (before + 1 == turn_limit)) }
+{
+    last || before + 1 == TURN_LIMIT
+}
+
+/// Notes a turn in the list, which has room for it.
+fn note(turns: &mut Vec<Done>, done: Done)
+    requires { vec_len turns.old < vec_capacity turns.old }
+    ensures { turns.new.items ≡ turns.old.items ++ done ∷ [] }
+{
+    match turns.push(done) {
+        Ok(()) => {}
+        Err(_) => unreachable!(),
+    }
+}

@@ -1,0 +1,104 @@
+//! What connections come to.
+use crate::sessions_tests::{Setting, Told, tell};
+use crate::spelling_tests::bytes_of;
+use std::alloc::{AllocError, Global};
+use vl_session::End;
+
+/// The longest connection that is also cut and of which each read fails.
+const SHORT: usize = 400;
+
+/// More writes than any case has.
+const WRITES: u64 = 8;
+
+pub fn answer(alloc: Global, line: &str) -> Result<String, AllocError> {
+    let (name, case) = line.split_once(" | ").unwrap_or((line, ""));
+    let bytes = connection(alloc, case)?;
+    let whole = tell(alloc, &bytes, Setting::default())?;
+    let mut answer = format!(in alloc; "{name} | {}", whole.text)?;
+    if bytes.len() <= SHORT {
+        push_cut(alloc, &bytes, &whole, &mut answer)?;
+        push_reads(alloc, &bytes, &whole, &mut answer)?;
+    }
+    push_writes(alloc, &bytes, &whole, &mut answer)?;
+    Ok(answer)
+}
+
+/// The bytes of a connection: so many times the same, and then others.
+fn connection(alloc: Global, case: &str) -> Result<Vec<u8>, AllocError> {
+    let (count, case) = case.split_once(" | ").unwrap_or((case, ""));
+    let (first, last) = case.split_once(" | ").unwrap_or((case, ""));
+    let count: u32 = count.parse().unwrap_or(1);
+    let first = bytes_of(alloc, first)?;
+    let mut bytes = Vec::new(alloc);
+    for _ in 0..count {
+        bytes.extend_from_slice(&first)?;
+    }
+    bytes.extend_from_slice(&bytes_of(alloc, last)?)?;
+    Ok(bytes)
+}
+
+/// Reads a byte at a time.
+fn push_cut(
+    alloc: Global,
+    bytes: &[u8],
+    whole: &Told,
+    answer: &mut String,
+) -> Result<(), AllocError> {
+    let cut = Setting {
+        by_bytes: true,
+        ..Setting::default()
+    };
+    let told = tell(alloc, bytes, cut)?;
+    if told.text.as_str() != whole.text.as_str() {
+        answer.push_str("; a byte at a time: ")?;
+        answer.push_str(told.text.as_str())?;
+    }
+    Ok(())
+}
+
+/// Lets each read fail in turn. The session ends there, and what was written is the front of what is written else.
+fn push_reads(
+    alloc: Global,
+    bytes: &[u8],
+    whole: &Told,
+    answer: &mut String,
+) -> Result<(), AllocError> {
+    for call in 0..bytes.len() as u64 {
+        let failing = Setting {
+            by_bytes: true,
+            failing_read: Some(call),
+            ..Setting::default()
+        };
+        let told = tell(alloc, bytes, failing)?;
+        let same = told.text.as_str() == whole.text.as_str();
+        let front = whole.written.as_slice().starts_with(&told.written);
+        if !same && (told.end != End::SourceFault || !front) {
+            answer.push_str("; a read fails: ")?;
+            answer.push_str(told.text.as_str())?;
+        }
+    }
+    Ok(())
+}
+
+/// Lets each write fail in turn.
+fn push_writes(
+    alloc: Global,
+    bytes: &[u8],
+    whole: &Told,
+    answer: &mut String,
+) -> Result<(), AllocError> {
+    for call in 0..WRITES {
+        let failing = Setting {
+            failing_write: Some(call),
+            ..Setting::default()
+        };
+        let told = tell(alloc, bytes, failing)?;
+        let same = told.text.as_str() == whole.text.as_str();
+        let front = whole.written.as_slice().starts_with(&told.written);
+        if !same && (told.end != End::SinkFault || !front) {
+            answer.push_str("; a write fails: ")?;
+            answer.push_str(told.text.as_str())?;
+        }
+    }
+    Ok(())
+}

@@ -1,0 +1,69 @@
+//! One session over a log that never has a batch.
+ghost use Rattle.std.specs.Prelude.{◌<◌, All, IfOk};
+
+use crate::log_tests::QuietLog;
+use crate::spelling_tests::push_spelled;
+use std::alloc::{AllocError, Global};
+use std::fmt::Write;
+use vl_io::{MemClock, MemSink, MemSource};
+use vl_session::{End, Report, serve_requests};
+
+/// How the outside behaves.
+#[derive(Clone, Copy, Default)]
+pub struct Setting {
+    pub by_bytes: bool,
+    pub failing_read: Option<u64>,
+    pub failing_write: Option<u64>,
+}
+
+/// What a session came to.
+#[derive(Drop)]
+pub struct Told {
+    pub text: String,
+    pub written: Vec<u8>,
+    pub end: End,
+}
+
+pub fn tell(alloc: Global, bytes: &[u8], setting: Setting) -> Result<Told, AllocError> {
+    let pieces = pieces(alloc, bytes.len(), setting.by_bytes)?;
+    let reads = listed(alloc, setting.failing_read)?;
+    let writes = listed(alloc, setting.failing_write)?;
+    let mut source = MemSource::of(alloc, bytes, &pieces, &reads)?;
+    let mut sink = MemSink::of(alloc, &writes)?;
+    let mut clock = MemClock::of(alloc, &[5, 6, 7])?;
+    let mut log = QuietLog { alloc };
+    let report = serve_requests(alloc, &mut log, &mut source, &mut sink, &mut clock);
+    let written = Vec::from_slice(alloc, sink.bytes())?;
+    let text = shown(alloc, &written, &report)?;
+    Ok(Told {
+        text,
+        written,
+        end: report.end,
+    })
+}
+
+fn shown(alloc: Global, written: &[u8], report: &Report) -> Result<String, AllocError> {
+    let mut text = String::new(alloc);
+    push_spelled(written, &mut text)?;
+    for done in report.turns.iter().take(4) {
+        write!(text, " at {}", done.now)?;
+    }
+    write!(text, ", {} turns, {:?}", report.turns.len(), report.end)?;
+    Ok(text)
+}
+
+/// A piece for each byte, or no pieces.
+fn pieces(alloc: Global, count: usize, by_bytes: bool) -> Result<Vec<usize>, AllocError>
+    ensures { IfOk result (λ pieces. All (λ piece. 0 < piece) pieces.items) }
+{
+    let count = if by_bytes { count } else { 0 };
+    vec![in alloc; 1; count]
+}
+
+fn listed(alloc: Global, call: Option<u64>) -> Result<Vec<u64>, AllocError> {
+    let mut calls = Vec::new(alloc);
+    if let Some(call) = call {
+        calls.push(call)?;
+    }
+    Ok(calls)
+}
