@@ -1,0 +1,5 @@
+pub mod Labels
+pub mod Keys
+pub mod Columns
+pub mod Found
+pub mod Parts

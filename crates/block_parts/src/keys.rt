@@ -1,0 +1,100 @@
+//! The keys of rows.
+
+ghost use Rattle.std.specs.Prelude.{◌≡◌, ◌++◌, IfOk, OnOk, length};
+ghost use Rattle.std.specs.List.{flat_map};
+ghost use Rattle.byte_format.specs.Format.{front};
+ghost use Rattle.byte_format.specs.Gives.{Gives};
+ghost use Rattle.block_parts.specs.Keys.{batch_bytes, keys, keys_bytes, keys_steps, place_bytes, time_bytes, zipped};
+
+use byte_format::{Stop, take_i64s, take_u32s, take_u64s};
+use row_columns::Key;
+use std::alloc::{AllocError, Global};
+
+/// Appends the times of the keys, then the numbers of their batches, and then their places.
+#[tactic(auto, unfolding(crate::specs::Keys::keys_bytes))]
+pub fn put_keys(out: &mut Vec<u8>, keys: &[Key]) -> Result<(), AllocError>
+    ensures { OnOk result (out.new.items ≡ out.old.items ++ keys_bytes keys.now) }
+{
+    put_times(out, keys)?;
+    put_batches(out, keys)?;
+    put_places(out, keys)?;
+    Ok(())
+}
+
+fn put_times(out: &mut Vec<u8>, keys: &[Key]) -> Result<(), AllocError>
+    ensures { OnOk result (out.new.items ≡ out.old.items ++ flat_map time_bytes keys.now) }
+{
+    for key in keys {
+        put_time(out, key)?;
+    }
+    Ok(())
+}
+
+fn put_time(out: &mut Vec<u8>, key: &Key) -> Result<(), AllocError>
+    ensures { OnOk result (out.new.items ≡ out.old.items ++ time_bytes key.now) }
+{
+    out.extend_from_slice(&key.time.to_le_bytes())?;
+    Ok(())
+}
+
+fn put_batches(out: &mut Vec<u8>, keys: &[Key]) -> Result<(), AllocError>
+    ensures { OnOk result (out.new.items ≡ out.old.items ++ flat_map batch_bytes keys.now) }
+{
+    for key in keys {
+        out.extend_from_slice(&key.batch.to_le_bytes())?;
+    }
+    Ok(())
+}
+
+fn put_places(out: &mut Vec<u8>, keys: &[Key]) -> Result<(), AllocError>
+    ensures { OnOk result (out.new.items ≡ out.old.items ++ flat_map place_bytes keys.now) }
+{
+    for key in keys {
+        out.extend_from_slice(&key.place.to_le_bytes())?;
+    }
+    Ok(())
+}
+
+/// The keys of so many rows at the front of the bytes, and the bytes behind them.
+pub(crate) fn take_keys(alloc: Global, rows: usize, bytes: &[u8]) -> Result<(Vec<Key>, &[u8]), Stop>
+    ensures { Gives (λ x. (x.0.items, x.1.now)) result (front (keys rows) bytes.now) }
+{
+    take_steps(alloc, rows, bytes)
+}
+
+#[tactic(auto, unfolding(crate::specs::Keys::keys_steps))]
+fn take_steps(alloc: Global, rows: usize, bytes: &[u8]) -> Result<(Vec<Key>, &[u8]), Stop>
+    ensures { Gives (λ x. (x.0.items, x.1.now)) result (keys_steps rows bytes.now) }
+{
+    let (times, rest) = take_i64s(alloc, rows, bytes)?;
+    let (batches, rest) = take_u64s(alloc, rows, rest)?;
+    let (places, rest) = take_u32s(alloc, rows, rest)?;
+    let keys = zipped(
+        alloc,
+        times.as_slice(),
+        batches.as_slice(),
+        places.as_slice(),
+    )?;
+    Ok((keys, rest))
+}
+
+fn zipped(
+    alloc: Global,
+    times: &[i64],
+    batches: &[u64],
+    places: &[u32],
+) -> Result<Vec<Key>, AllocError>
+    requires batches { length batches.now ≡ length times.now }
+    requires places { length places.now ≡ length times.now }
+    ensures { IfOk result (λ keys. keys.items ≡ zipped times.now batches.now places.now) }
+{
+    let mut keys = Vec::with_capacity(alloc, times.len())?;
+    for i in 0..times.len() {
+        keys.push(Key {
+            time: times[i],
+            batch: batches[i],
+            place: places[i],
+        })?;
+    }
+    Ok(keys)
+}

@@ -1,0 +1,67 @@
+//! All parts of a block.
+
+ghost use Rattle.std.specs.Prelude.{◌≡◌};
+ghost use Rattle.byte_format.specs.Format.{front, whole};
+ghost use Rattle.byte_format.specs.Gives.{Gives};
+ghost use Rattle.block_parts.specs.Parts.{parts, parts_steps};
+
+use crate::columns::{NamedColumn, take_columns};
+use crate::keys::take_keys;
+use crate::labels::take_labels;
+use byte_format::{Stop, take_u16};
+use row_columns::Key;
+use std::alloc::Global;
+use std::marker::Model;
+use vl_row::Field;
+
+/// What the items of a block say. They may still be no block.
+#[derive(Drop)]
+pub struct Parts {
+    pub labels: Vec<Field>,
+    pub keys: Vec<Key>,
+    pub columns: Vec<NamedColumn>,
+}
+
+impl Model for Parts {
+    ghost use Rattle.block_parts.specs.Found.{Found};
+
+    ghost Value = { Found };
+
+    ghost view = { λ p. record { labels = p.labels.items; keys = p.keys.items; columns = p.columns.items } };
+}
+
+/// What all of the bytes say, or how many bytes are left from the first item on that is not whole or has not its form.
+pub fn take_parts(alloc: Global, bytes: &[u8]) -> Result<Parts, Stop>
+    ensures { Gives (λ found. found) result (whole parts bytes.now) }
+{
+    let (parts, rest) = take_front(alloc, bytes)?;
+    if !rest.is_empty() {
+        return Err(Stop::Left(rest.len()));
+    }
+    Ok(parts)
+}
+
+fn take_front(alloc: Global, bytes: &[u8]) -> Result<(Parts, &[u8]), Stop>
+    ensures { Gives (λ x. (x.0, x.1.now)) result (front parts bytes.now) }
+{
+    take_steps(alloc, bytes)
+}
+
+#[tactic(auto, unfolding(crate::specs::Parts::parts_steps))]
+fn take_steps(alloc: Global, bytes: &[u8]) -> Result<(Parts, &[u8]), Stop>
+    ensures { Gives (λ x. (x.0, x.1.now)) result (parts_steps bytes.now) }
+{
+    let (labels, rest) = take_labels(alloc, bytes)?;
+    let (rows, rest) = take_u16(rest)?;
+    let (columns, rest) = take_u16(rest)?;
+    let (keys, rest) = take_keys(alloc, rows as usize, rest)?;
+    let (columns, rest) = take_columns(alloc, columns, rows as usize, rest)?;
+    Ok((
+        Parts {
+            labels,
+            keys,
+            columns,
+        },
+        rest,
+    ))
+}

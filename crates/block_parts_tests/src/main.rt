@@ -1,0 +1,20 @@
+//! Tests of `block_parts`.
+//!
+//! Each line is bytes in hexadecimal digits. The program writes the labels, the keys and the columns that they say, and
+//! the bytes of the keys again; or how many bytes are left from the damaged item on. The answers are those of a plain
+//! reader in Python.
+#![tactic(auto)]
+
+mod hex_tests;
+mod part_tests;
+
+use part_tests::answer;
+use std::io;
+
+fn main(rt: HostRuntime) -> io::Result<()> {
+    for line in rt.stdin().lines(rt.alloc()) {
+        let answer = answer(rt.alloc(), line?.as_str())?;
+        println!(rt; "{answer}")?;
+    }
+    Ok(())
+}

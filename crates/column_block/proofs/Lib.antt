@@ -1,0 +1,5 @@
+pub mod HeldLaws
+pub mod LabelLaws
+pub mod OutlineLaws
+pub mod SpellingLaws
+pub mod OpenLaws

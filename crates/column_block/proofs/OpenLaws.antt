@@ -1,0 +1,133 @@
+-- What an opened block lends is that of the rows.
+use Rattle.std.proofs.Common.{◌≡◌, ℕ, zero, suc, ◌+◌, ◌<◌, List, [], ◌∷◌, length, map, take, get_or, Option}
+use Rattle.std.proofs.Common.{Some, None, IfSome, subst, refl, sym, ap, ◌∙◌, arith, slice_get}
+use Rattle.std.specs.List.{AllByRecursion}
+use Rattle.std.proofs.lemmas.List.{length-map, map_more}
+use Rattle.std.proofs.lemmas.List.Sums.{fold_push}
+use Rattle.std.proofs.lemmas.Option.{slice_get-get_or}
+use Rattle.byte_format.proofs.Cases.{some_is}
+use Rattle.log_model.specs.Field.{Field, field_value, set_all, set_field}
+use Rattle.log_model.specs.History.{Numbered}
+use Rattle.row_columns.specs.Columns.{names_of, row_of, values_of}
+use Rattle.row_columns.specs.Keys.{IsNumbered, key_of, keys_of}
+use Rattle.row_columns.specs.declared.keys.Key.{Key}
+use Rattle.row_columns.proofs.FieldLaws.{AreListed, set-again, value_named}
+use Rattle.row_columns.proofs.NameLaws.{are-named, names-rising}
+use Rattle.row_columns.proofs.RowLaws.{none-below}
+use Rattle.column_block.specs.Held.{IsHeld}
+use Rattle.column_block.specs.Outline.{NamedFilter, Outline}
+use Rattle.column_block.specs.Outlines.{filter_named, labels_of}
+use Rattle.column_block.specs.Rows.{key_in}
+use Rattle.column_block.proofs.HeldLaws.{get-map}
+
+-- ---- elements
+
+pub found : {X : Type 0} (xs : List X) (i : ℕ) → i < length xs → (x : X) × (slice_get xs i ≡ Some x)
+found [] i lt = absurd (omega (arith, lt))
+found (x ∷ xs) zero lt = (x, refl)
+found (x ∷ xs) (suc i) lt = found xs i (omega (arith, lt))
+
+pub found-map : {X Y : Type 0} (f : X → Y) (xs : List X) (i : ℕ) (x : X) → slice_get xs i ≡ Some x
+    → slice_get (map f xs) i ≡ Some (f x)
+found-map f [] i x e = absurd cc
+found-map f (y ∷ ys) zero x e = ap (λ o. Some (f o)) (some_is y x e)
+found-map f (y ∷ ys) (suc i) x e = found-map f ys i x e
+
+pub all-at : {X : Type 0} (P : X → Type 0) (xs : List X) (i : ℕ) (x : X) → AllByRecursion P xs
+    → slice_get xs i ≡ Some x → P x
+all-at P [] i x h e = absurd cc
+all-at P (y ∷ ys) zero x h e = subst P (some_is y x e) h.0
+all-at P (y ∷ ys) (suc i) x h e = all-at P ys i x h.1 e
+
+pub if-some : {X : Type 0} (o : Option X) (P : X → Type 0) → ((x : X) → o ≡ Some x → P x) → IfSome o P
+if-some None P h = tt
+if-some (Some x) P h = h x refl
+
+pub at-some : {X : Type 0} (o : Option X) (P : X → Type 0) (x : X) → IfSome o P → o ≡ Some x → P x
+at-some None P x h e = absurd cc
+at-some (Some y) P x h e = subst P (some_is y x e) h
+
+-- ---- keys
+
+key-of-row : (rows : List Numbered) (i : ℕ) (k : Key) (n : Numbered) → slice_get rows i ≡ Some n
+    → k ≡ get_or (keys_of rows) i k → k ≡ key_of n
+key-of-row [] i k n e f = absurd cc
+key-of-row (m ∷ ms) zero k n e f = f ∙ ap key_of (some_is m n e)
+key-of-row (m ∷ ms) (suc i) k n e f = key-of-row ms i k n e f
+
+pub key-is : (rows : List Numbered) (head : Outline) (keys : List Key) (columns : List (List (List ℕ))) (i : ℕ)
+    (k : Key) (n : Numbered) → IsHeld rows head keys columns → slice_get rows i ≡ Some n → k ≡ get_or keys i k
+    → k ≡ key_of n
+key-is rows head keys columns i k n h e f =
+    key-of-row rows i k n e (f ∙ ap (λ (l : List Key). get_or l i k) h.keys_are)
+
+pub key-at : (rows : List Numbered) (head : Outline) (keys : List Key) (columns : List (List (List ℕ))) (i : ℕ)
+    (k : Key) → IsHeld rows head keys columns → i < length rows → k ≡ get_or keys i k
+    → slice_get (map key_in rows) i ≡ Some (k.time, k.batch, k.place)
+key-at rows head keys columns i k h lt f =
+    let n = found rows i lt in
+    found-map key_in rows i n.0 n.1
+    ∙ ap (λ (x : Key). Some (x.time, x.batch, x.place)) (sym (key-is rows head keys columns i k n.0 h n.1 f))
+
+-- ---- values
+
+pub values-at : (rows : List Numbered) (head : Outline) (keys : List Key) (columns : List (List (List ℕ))) (c : ℕ)
+    (v : List (List ℕ)) → IsHeld rows head keys columns → c < length (names_of rows) → v ≡ get_or columns c v
+    → v ≡ values_of rows (get_or (names_of rows) c [])
+values-at rows head keys columns c v h lt e =
+    e ∙ ap (λ (l : List (List (List ℕ))). get_or l c v) h.columns_are
+    ∙ get-map (values_of rows) (names_of rows) c [] v lt
+
+names-again : (rows : List Numbered) (names : List (List ℕ))
+    → map (λ (column : NamedFilter). column.0) (map (filter_named rows) names) ≡ names
+names-again rows [] = refl
+names-again rows (name ∷ names) = ap (λ (l : List (List ℕ)). name ∷ l) (names-again rows names)
+
+pub column-count : (rows : List Numbered) (head : Outline) (keys : List Key) (columns : List (List (List ℕ)))
+    → IsHeld rows head keys columns → length head.columns ≡ length (names_of rows)
+column-count rows head keys columns h =
+    ap (λ (o : Outline). length o.columns) h.head_is ∙ length-map (names_of rows) (filter_named rows)
+
+pub name-at : (rows : List Numbered) (head : Outline) (keys : List Key) (columns : List (List (List ℕ))) (c : ℕ)
+    (name : List ℕ) → IsHeld rows head keys columns → c < length (names_of rows)
+    → slice_get (map (λ (column : NamedFilter). column.0) head.columns) c ≡ Some name
+    → name ≡ get_or (names_of rows) c []
+name-at rows head keys columns c name h lt e =
+    let all : map (λ (column : NamedFilter). column.0) head.columns ≡ names_of rows =
+    ap (λ (o : Outline). map (λ (column : NamedFilter). column.0) o.columns) h.head_is
+    ∙ names-again rows (names_of rows) in
+    some_is name (get_or (names_of rows) c []) (sym e ∙ ap (λ (l : List (List ℕ)). slice_get l c) all
+    ∙ slice_get-get_or (names_of rows) c [] lt)
+
+-- ---- fields
+
+pub fields-more : (all : List Field) (names : List (List ℕ)) (c : ℕ) (fields new : List Field) (name value : List ℕ)
+    → c < length names → fields ≡ set_all [] (map (value_named all) (take c names)) → name ≡ get_or names c []
+    → value ≡ field_value all (get_or names c []) → new ≡ set_field fields name value
+    → new ≡ set_all [] (map (value_named all) (take (c + 1) names))
+fields-more all names c fields new name value lt so_far n v put =
+    put ∙ ap (λ (l : List Field). set_field l name value) so_far
+    ∙ ap (λ (k : List ℕ). set_field (set_all [] (map (value_named all) (take c names))) k value) n
+    ∙ ap (set_field (set_all [] (map (value_named all) (take c names))) (get_or names c [])) v
+    ∙ sym (fold_push (λ (old : List Field) (field : Field). set_field old field.0 field.1) [] (map (value_named all)
+    (take c names)) (value_named all (get_or names c [])))
+    ∙ ap (set_all []) (sym (map_more (value_named all) names c [] lt))
+
+pub fields-whole : (rows : List Numbered) (i : ℕ) (n : Numbered) → AllByRecursion IsNumbered rows
+    → slice_get rows i ≡ Some n → set_all [] (map (value_named n.row.fields) (names_of rows)) ≡ n.row.fields
+fields-whole rows i n each e =
+    let numbered = all-at IsNumbered rows i n each e in
+    let listed = all-at (λ (m : Numbered). AreListed m.row.fields (names_of rows)) rows i n (are-named rows) e in
+    set-again (names_of rows) [] n.row.fields (names-rising rows) numbered.row.fields.ordered
+    numbered.row.fields.filled listed (none-below (names_of rows))
+
+pub row-is : (labels : List Field) (key : Key) (fields : List Field) (n : Numbered) → labels ≡ n.row.labels
+    → key ≡ key_of n → fields ≡ n.row.fields → row_of labels key fields ≡ n
+row-is labels key fields n l k f = rw (l, k, f) refl
+
+-- the labels of each row are those of the stream
+pub labels-at : (rows : List Numbered) (head : Outline) (keys : List Key) (columns : List (List (List ℕ))) (i : ℕ)
+    (n : Numbered) → IsHeld rows head keys columns → slice_get rows i ≡ Some n → head.labels ≡ n.row.labels
+labels-at rows head keys columns i n h e =
+    ap (λ (o : Outline). o.labels) h.head_is
+    ∙ sym (all-at (λ (m : Numbered). m.row.labels ≡ labels_of rows) rows i n h.block.stream e)

@@ -1,0 +1,5 @@
+pub mod Outline
+pub mod Outlines
+pub mod Rows
+pub mod Held
+pub mod Spelling

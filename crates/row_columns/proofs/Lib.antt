@@ -1,0 +1,4 @@
+pub mod FieldLaws
+pub mod NameLaws
+pub mod Sizes
+pub mod RowLaws

@@ -1,0 +1,73 @@
+//! The columns of rows.
+
+ghost use Rattle.std.specs.Prelude.{◌≡◌, ◌≤◌, ◌*◌, IfOk, OnOk, length, map, sum_by};
+ghost use Rattle.std.specs.BTreeSet.{keys};
+ghost use Rattle.log_model.specs.Field.{field_value};
+ghost use Rattle.row_columns.specs.Columns.{names_of, put_names, values_of};
+
+use std::alloc::{AllocError, Global};
+use std::collections::BTreeSet;
+use vl_row::{Field, Numbered, Text};
+
+/// The names of the fields that the rows have, each once, in byte order.
+pub fn column_names(alloc: Global, rows: &[Numbered]) -> Result<Vec<Text>, AllocError>
+    ensures { IfOk result (λ names. names.items ≡ names_of rows.now) }
+{
+    let names = name_set(alloc, rows)?;
+    let texts = listed(alloc, &names)?;
+    Ok(texts)
+}
+
+fn listed(alloc: Global, names: &BTreeSet<&str>) -> Result<Vec<Text>, AllocError>
+    ensures { IfOk result (λ texts. texts.items ≡ map (λ t. t.now) (keys names.now)) }
+{
+    let mut texts = Vec::with_capacity(alloc, names.len())?;
+    for name in names {
+        texts.push(Text::try_of(alloc, name)?)?;
+    }
+    Ok(texts)
+}
+
+fn name_set<'a>(alloc: Global, rows: &'a [Numbered]) -> Result<BTreeSet<&'a str>, AllocError>
+    ensures { IfOk result (λ names. map (λ t. t.now) (keys names) ≡ names_of rows.now) }
+{
+    let mut names = BTreeSet::new(alloc);
+    for numbered in rows {
+        put_names(&mut names, numbered.row.fields().as_slice())?;
+    }
+    Ok(names)
+}
+
+/// Puts the names of some fields to the others.
+fn put_names<'a>(names: &mut BTreeSet<&'a str>, fields: &'a [Field]) -> Result<(), AllocError>
+    ensures { OnOk result (map (λ t. t.now) (keys names.new)
+        ≡ put_names (map (λ t. t.now) (keys names.old)) fields.now) }
+{
+    for field in fields {
+        names.insert(field.name())?;
+    }
+    Ok(())
+}
+
+/// The values of the fields of this name, empty where a row has none.
+pub fn column_values<'a>(
+    alloc: Global,
+    rows: &'a [Numbered],
+    name: &str,
+) -> Result<Vec<&'a str>, AllocError>
+    ensures values { IfOk result (λ values. map (λ t. t.now) values.items ≡ values_of rows.now name.now) }
+    ensures size { IfOk result (λ values. sum_by (λ t. length t.now) values.items ≤ 262_144 * length rows.now) }
+{
+    let mut values = Vec::with_capacity(alloc, rows.len())?;
+    for numbered in rows {
+        values.push(value_in(numbered, name))?;
+    }
+    Ok(values)
+}
+
+fn value_in<'a>(numbered: &'a Numbered, name: &str) -> &'a str
+    ensures value { result.now ≡ field_value numbered.now.row.fields name.now }
+    ensures size { length result.now ≤ 262_144 }
+{
+    numbered.row.fields().get(name)
+}

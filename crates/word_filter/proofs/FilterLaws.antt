@@ -1,0 +1,47 @@
+-- Filters of words, and filters in bytes.
+use Rattle.std.proofs.Common.{◌≡◌, ℕ, ◌*◌, ◌/◌, ◌%◌, ◌<◌, ◌^◌, Bool, true, false, cond, eqb, get_or, List, [], ◌∷◌}
+use Rattle.std.proofs.Common.{length, Ok, refl, sym, ◌∙◌, arith}
+use Rattle.std.specs.Prelude.{bit_or}
+use Rattle.std.specs.Int.{w32, w64}
+use Rattle.std.specs.List.{fold}
+use Rattle.std.proofs.Math.ListN.{length-set}
+use Rattle.std.proofs.lemmas.List.{length-replicate}
+use Rattle.byte_format.specs.Format.{value, followed, many, front}
+use Rattle.byte_format.specs.Items.{number}
+use Rattle.byte_format.proofs.Cases.{bind_assoc, bind_same}
+use Rattle.byte_format.proofs.Readings.{front-followed}
+use Rattle.token_bloom.specs.Bits.{bit_count, fnv, places, with_bit, with_bits}
+use Rattle.token_bloom.specs.Filter.{empty_filter, with_word, words_for}
+use Rattle.word_filter.specs.Words.{filter_item, filter_steps}
+
+pub filter-steps : (bytes : List ℕ) → front filter_item bytes ≡ filter_steps bytes
+unfolding filter_item filter_steps
+filter-steps bytes =
+    front-followed (number w32) (λ count. followed (many count (number w64)) (λ filter. value count)) bytes
+    ∙ bind_same (front (number w32) bytes) _ _ (λ count.
+    front-followed (many count.0 (number w64)) (λ filter. value count.0) count.1
+    ∙ sym (bind_assoc (front (many count.0 (number w64)) count.1) (λ filter. Ok filter.1)
+    (λ (rest : List ℕ). Ok (count.0, rest))))
+
+-- words that are added make no filter longer
+bits-length : (filter bits : List ℕ) → length (with_bits filter bits) ≡ length filter
+bits-length filter [] = refl
+bits-length filter (b ∷ bits) =
+    bits-length (with_bit filter b) bits
+    ∙ length-set filter (b / 64) (bit_or (get_or filter (b / 64) 0) (1 * 2 ^ (b % 64) % 2 ^ 64))
+
+word-length : (filter word : List ℕ) → length (with_word filter word) ≡ length filter
+word-length filter word = by (eqb (length filter) 0)
+  where
+    by : (none : Bool) → length (cond none filter (with_bits filter (places (bit_count filter) (fnv word))))
+        ≡ length filter
+    by true = refl
+    by false = bits-length filter (places (bit_count filter) (fnv word))
+
+words-length : (filter : List ℕ) (words : List (List ℕ)) → length (fold with_word filter words) ≡ length filter
+words-length filter [] = refl
+words-length filter (word ∷ words) = words-length (with_word filter word) words ∙ word-length filter word
+
+pub small-filter : (n : ℕ) (words : List (List ℕ)) → n < 2 ^ 32 → length (fold with_word (empty_filter n) words) < 2 ^ 32
+small-filter n words small =
+    omega (arith, words-length (empty_filter n) words, length-replicate {A = ℕ} (words_for n) 0, small)

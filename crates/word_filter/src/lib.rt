@@ -1,0 +1,104 @@
+//! The filter of a column: a Bloom filter that has the words of the column's values, and the filter as bytes.
+#![tactic(auto)]
+
+ghost use Rattle.std.specs.Prelude.{◌≡◌, ◌<◌, ◌^◌, ◌≤◌, ◌+◌, ◌++◌, IfOk, OnOk, length, map, sum_by};
+ghost use Rattle.std.specs.BTreeSet.{keys};
+ghost use Rattle.std.specs.List.{fold};
+ghost use Rattle.std.specs.Int.{w64};
+ghost use Rattle.byte_format.specs.Format.{front, many};
+ghost use Rattle.byte_format.specs.Gives.{Gives};
+ghost use Rattle.byte_format.specs.Items.{number};
+ghost use Rattle.token_bloom.specs.Filter.{with_word};
+ghost use Rattle.word_filter.specs.Words.{column_words, counted_filter, filter_item, filter_of, filter_steps};
+ghost use Rattle.word_filter.specs.Words.{put_words, skipped};
+
+use byte_format::{Stop, put_u64s, take_u32, take_u64};
+use std::alloc::{AllocError, Global};
+use std::collections::BTreeSet;
+use token_bloom::Bloom;
+use word_tokens::words;
+
+/// A filter with room for the distinct words of these values, and with all of them.
+pub fn filter_of(alloc: Global, values: &[&str]) -> Result<Bloom, AllocError>
+    requires { sum_by (λ t. length t.now) values.now < 2 ^ 32 }
+    ensures filter { IfOk result (λ bloom. bloom ≡ filter_of (map (λ t. t.now) values.now)) }
+    ensures small { IfOk result (λ bloom. length bloom < 2 ^ 32) }
+{
+    let words = words_of(alloc, values)?;
+    let mut bloom = Bloom::with_room(alloc, words.len())?;
+    add_words(&mut bloom, &words);
+    Ok(bloom)
+}
+
+/// The words of the values, each once.
+fn words_of<'a>(alloc: Global, values: &[&'a str]) -> Result<BTreeSet<&'a str>, AllocError>
+    ensures words { IfOk result (λ words. map (λ t. t.now) (keys words) ≡ column_words (map (λ t. t.now) values.now)) }
+    ensures few { IfOk result (λ words. length (keys words) ≤ sum_by (λ t. length t.now) values.now) }
+{
+    let mut words = BTreeSet::new(alloc);
+    for value in values {
+        put_words(&mut words, value)?;
+    }
+    Ok(words)
+}
+
+/// Puts the words of one value to the others.
+fn put_words<'a>(all: &mut BTreeSet<&'a str>, value: &'a str) -> Result<(), AllocError>
+    ensures words { OnOk result (map (λ t. t.now) (keys all.new)
+        ≡ put_words (map (λ t. t.now) (keys all.old)) value.now) }
+    ensures few { OnOk result (length (keys all.new) ≤ length (keys all.old) + length value.now) }
+{
+    for (start, end) in words(value) {
+        all.insert(&value[start..end])?;
+    }
+    Ok(())
+}
+
+fn add_words(bloom: &mut Bloom, words: &BTreeSet<&str>)
+    ensures { bloom.new ≡ fold with_word bloom.old (map (λ t. t.now) (keys words.now)) }
+{
+    for word in words {
+        bloom.add(word.as_bytes());
+    }
+}
+
+/// Appends a filter: the number of its words of 64 bits, and these words.
+#[tactic(auto, unfolding(crate::specs::Words::counted_filter))]
+pub fn put_filter(out: &mut Vec<u8>, bloom: &Bloom) -> Result<(), AllocError>
+    requires { length bloom.now < 2 ^ 32 }
+    ensures { OnOk result (out.new.items ≡ out.old.items ++ counted_filter bloom.now) }
+{
+    let filter = bloom.as_slice();
+    out.extend_from_slice(&(filter.len() as u32).to_le_bytes())?;
+    put_u64s(out, filter)?;
+    Ok(())
+}
+
+/// The filter at the front of the bytes, of which the number of its words of 64 bits is kept alone, and the bytes
+/// behind it.
+pub fn take_filter(bytes: &[u8]) -> Result<(u32, &[u8]), Stop>
+    ensures { Gives (λ x. (x.0, x.1.now)) result (front filter_item bytes.now) }
+{
+    take_steps(bytes)
+}
+
+#[tactic(auto, unfolding(crate::specs::Words::filter_steps))]
+fn take_steps(bytes: &[u8]) -> Result<(u32, &[u8]), Stop>
+    ensures { Gives (λ x. (x.0, x.1.now)) result (filter_steps bytes.now) }
+{
+    let (count, rest) = take_u32(bytes)?;
+    let rest = skip_u64s(count, rest)?;
+    Ok((count, rest))
+}
+
+/// The bytes behind so many numbers of eight bytes.
+fn skip_u64s(count: u32, bytes: &[u8]) -> Result<&[u8], Stop>
+    ensures { Gives (λ x. x.now) result (skipped count bytes.now) }
+{
+    let mut rest = bytes;
+    for _ in 0..count {
+        let (_, after) = take_u64(rest)?;
+        rest = after;
+    }
+    Ok(rest)
+}
