@@ -12,7 +12,7 @@ use Rattle.std.specs.List.{slice_index}
 use Rattle.std.specs.Ordering.{nat_cmp, on}
 use Rattle.log_model.specs.Order.{value_cmp}
 use Rattle.lq_ast.proofs.Sorted.{split_bool}
-use Rattle.lq_order.specs.Dictionary.{AreKnown, IsDictionary, IsEntered}
+use Rattle.lq_order.specs.Dictionary.{AreAtWords, IsDictionary, IsAtWord}
 use Rattle.lq_order.specs.Mirror.{Mirrors}
 
 pub get_front : {A : Type 0} (xs ys : List A) (k : ℕ) (d : A) → k < length xs → get_or (xs ++ ys) k d ≡ get_or xs k d
@@ -35,7 +35,7 @@ some_weaker P Q f None h = tt
 pub known_pushed : {S : Type 0} (old new : HashMap (Bor (List ℕ)) ℕ S) (words : List (List ℕ)) (text : List ℕ)
     → ((q : List ℕ) → get_by (λ key. bytes_eq q key.now) new
     ≡ cond (bytes_eq text q) (Some (length words)) (get_by (λ key. bytes_eq q key.now) old))
-    → AreKnown old words → AreKnown new (words ++ text ∷ [])
+    → AreAtWords old words → AreAtWords new (words ++ text ∷ [])
 known_pushed old new words text written known q =
     let Stands = λ (place : ℕ). (place < length (words ++ text ∷ [])) × (get_or (words ++ text ∷ []) place [] ≡ q) in
     let long = length-append words (text ∷ []) in
@@ -48,7 +48,7 @@ known_pushed old new words text written known q =
     (get_by (λ key. bytes_eq q key.now) old) (known q)))
 
 pub entered_pushed : (words : List (List ℕ)) (text : List ℕ)
-    → IsEntered words (words ++ text ∷ []) text (length words)
+    → IsAtWord words (words ++ text ∷ []) text (length words)
 entered_pushed words text =
     let long = length-append words (text ∷ []) in
     record {
@@ -60,11 +60,11 @@ entered_pushed words text =
 
 pub entered_known : (words : List (List ℕ)) (text : List ℕ) (place : ℕ) → (place < length words)
     × (get_or words place [] ≡ text)
-    → IsEntered words words text place
+    → IsAtWord words words text place
 entered_known words text place h = record { inside = h.0; is = h.1; grows = omega arith; stay = λ k l. refl }
 
 pub entered_found : (found : Option ℕ) (words : List (List ℕ)) (text : List ℕ) (place : ℕ) → Some place ≡ found
-    → IfSome found (λ (p : ℕ). (p < length words) × (get_or words p [] ≡ text)) → IsEntered words words text place
+    → IfSome found (λ (p : ℕ). (p < length words) × (get_or words p [] ≡ text)) → IsAtWord words words text place
 entered_found found words text place is known =
     entered_known words text place
     (subst (λ o. IfSome o (λ (p : ℕ). (p < length words) × (get_or words p [] ≡ text))) (sym is) known)
@@ -75,7 +75,7 @@ pub dictionary_none : (words : List (List ℕ)) → IsDictionary [] words []
 dictionary_none words = record { long = refl; inside = λ k h. absurd (omega arith); is = λ k h. absurd (omega arith) }
 
 pub dictionary_more : (texts words more : List (List ℕ)) (ids : List ℕ) (text : List ℕ) (place : ℕ)
-    → IsDictionary texts words ids → IsEntered words more text place
+    → IsDictionary texts words ids → IsAtWord words more text place
     → IsDictionary (texts ++ text ∷ []) more (ids ++ place ∷ [])
 dictionary_more texts words more ids text place all one =
     let long_texts = length-append texts (text ∷ []) in

@@ -7,5 +7,6 @@ pub mod Orders
 pub mod Picked
 pub mod Places
 pub mod Ranking
+mod ReadGroups
 pub mod SortedPlaces
 pub mod Tallying

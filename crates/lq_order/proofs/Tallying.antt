@@ -1,30 +1,30 @@
 -- A tally, as one more record comes.
-use Rattle.std.proofs.Common.{◌≡◌, ◌≢◌, ℕ, zero, suc, ◌+◌, ◌-◌, ◌^◌, ◌<◌, ◌≤◌, Bool, true, false, cond, List, [], ◌∷◌}
-use Rattle.std.proofs.Common.{◌++◌}
-use Rattle.std.proofs.Common.{length, map, get_or, set, min, Option, Some, None, length-append}
-use Rattle.std.proofs.Common.{refl, sym, ap, subst, ◌∙◌, inl, inr, arith}
-use Rattle.std.proofs.Math.Seq.{map-set_same}
-use Rattle.std.proofs.lemmas.Bool.{cases_eq, cases_lt, false_from_ne_true}
-use Rattle.std.proofs.lemmas.List.{get_or-map, get_or-set_other, get_or-set_same, length-map, length-set, map_push}
+use Rattle.std.proofs.Common.{◌≡◌, ◌≢◌, ℕ, zero, suc, ◌+◌, ◌-◌, ◌^◌, ◌<◌, ◌≤◌, Bool, true, false, not, cond, List, []}
+use Rattle.std.proofs.Common.{◌∷◌, ◌++◌, length, map, get_or, set, min, refl, sym, ap, subst, ◌∙◌, inl, inr, ◌⊎◌, arith}
+use Rattle.std.proofs.lemmas.Bool.{cases_lt, false_from_ne_true}
+use Rattle.std.proofs.lemmas.List.{get_or-map, get_or_default, length-map, map_push}
 use Rattle.std.proofs.lemmas.List.Sums.{count_by-le-length, length-filter}
-use Rattle.std.specs.List.{count_by}
+use Rattle.std.specs.List.{AllByRecursion, count_by, filter}
 use Rattle.std.specs.Ordering.{is_eq, ordering_reverse}
 use Rattle.std.specs.declared.cmp.Ordering.{Ordering}
 use Rattle.std.specs.declared.cmp.Ordering.TheVariants.{Equal, Greater, Less}
+use Rattle.log_model.specs.Field.{field_value}
+use Rattle.vl_row.proofs.Sorted.{all_append}
+use Rattle.lq_ast.proofs.Sorted.{all_from_places, all_weaker, split_bool}
 use Rattle.lq_ast.proofs.TupleOrder.{tuple_cmp_total}
 use Rattle.lq_ast.specs.Records.{Record}
 use Rattle.lq_ast.specs.Sorting.{hits}
-use Rattle.lq_ast.specs.Tuples.{Tuple, tuple_cmp, tuple_of}
-use Rattle.lq_tuple.proofs.Counting.{known_more, wide_more}
-use Rattle.lq_tuple.proofs.Once.{count_at, count_cons, count_made, count_more, count_same, itself, once_new, once_old}
-use Rattle.lq_tuple.proofs.Tuples.{tuple_new, tuple_old, tuple_tells}
+use Rattle.lq_ast.specs.Tuples.{Tuple, is_wholly_empty, tuple_cmp, tuple_of}
+use Rattle.lq_tuple.proofs.Counting.{IsAmong, IsNewAmong, placed_tuple, wide_more}
+use Rattle.lq_tuple.proofs.Once.{count_at, count_cons, count_made, count_more, count_same, itself, kept_count}
+use Rattle.lq_tuple.proofs.Once.{once_new, once_old}
+use Rattle.lq_tuple.proofs.Tuples.{tuple_tells}
 use Rattle.lq_tuple.specs.Counted.{AreShort, HaveLength, tuple_text}
 use Rattle.lq_tuple.specs.Once.{HasEachOnce, count}
-use Rattle.lq_tuple.specs.Places.{AreKnown, place_in}
-use Rattle.lq_order.proofs.Dictionaries.{get_front, get_last}
-use Rattle.lq_order.specs.Groups.{IsNamed, group_tuple}
-use Rattle.lq_order.specs.Tally.{Tallies}
-use Rattle.lq_order.specs.declared.group.Group.{Group}
+use Rattle.lq_tuple.specs.Places.{AreKnown, IsPlaced}
+use Rattle.lq_tuple.specs.declared.places.Places.{Places}
+use Rattle.lq_order.specs.Groups.{IsNamed}
+use Rattle.lq_order.specs.Tally.{Tallies, filled_tuples}
 use Rattle.lq_order.specs.declared.tally.Tally.{Tally}
 
 -- ---- how many records have a tuple
@@ -59,7 +59,52 @@ hits_none names records t none =
     ∙ count_same has (λ s. is_eq (tuple_cmp t (tuple_of names s))) (λ s. eq_turned (tuple_of names s) t) records
     ∙ sym (count_made (λ u. is_eq (tuple_cmp t u)) (tuple_of names) records) ∙ none
 
--- ---- two groups have different tuples
+-- ---- lists that are made of tuples
+
+pub filter_one_more : {A : Type 0} (keep : A → Bool) (xs : List A) (x : A)
+    → filter keep (xs ++ x ∷ []) ≡ cond (keep x) (filter keep xs ++ x ∷ []) (filter keep xs)
+filter_one_more keep [] x = refl
+filter_one_more keep (y ∷ ys) x =
+    elim (keep y) as
+    (λ t. cond t (y ∷ filter keep (ys ++ x ∷ [])) (filter keep (ys ++ x ∷ []))
+    ≡ cond (keep x) (cond t (y ∷ filter keep ys) (filter keep ys) ++ x ∷ []) (cond t (y ∷ filter keep ys)
+    (filter keep ys))) [
+      | true ↦ ap (λ l. y ∷ l) (filter_one_more keep ys x) ∙ moved (keep x)
+      | false ↦ filter_one_more keep ys x
+    ]
+  where
+    moved : (t : Bool) → y ∷ cond t (filter keep ys ++ x ∷ []) (filter keep ys)
+        ≡ cond t (y ∷ (filter keep ys ++ x ∷ [])) (y ∷ filter keep ys)
+    moved true = refl
+    moved false = refl
+
+map_alike : {A B : Type 0} (f g : A → B) (xs : List A) → AllByRecursion (λ x. f x ≡ g x) xs → map f xs ≡ map g xs
+map_alike f g [] h = refl
+map_alike f g (x ∷ xs) h = ap (λ y. y ∷ map f xs) h.0 ∙ ap (λ l. g x ∷ l) (map_alike f g xs h.1)
+
+-- what is made anew at one place alone
+map_raised : {A B : Type 0} (f g : A → B) (xs : List A) (place : ℕ) (d : A) → place < length xs
+    → ((k : ℕ) → k < length xs → k ≢ place → g (get_or xs k d) ≡ f (get_or xs k d))
+    → map g xs ≡ set (map f xs) place (g (get_or xs place d))
+map_raised f g [] place d inside same = absurd (omega arith)
+map_raised f g (x ∷ xs) zero d inside same =
+    ap (λ l. g x ∷ l) (map_alike g f xs (all_from_places (λ y. g y ≡ f y) xs (λ k e within.
+    ap (λ y. g y) (get_or_default xs k e d within) ∙ same (suc k) (omega arith) (omega arith)
+    ∙ ap (λ y. f y) (sym (get_or_default xs k e d within)))))
+map_raised f g (x ∷ xs) (suc place) d inside same =
+    ap (λ y. y ∷ map g xs) (same 0 (omega arith) (omega arith))
+    ∙ ap (λ l. f x ∷ l) (map_raised f g xs place d (omega arith)
+    (λ k within ne. same (suc k) (omega arith) (omega (arith, ne))))
+
+all_apart : (t : Tuple) (some : List Tuple) → count tuple_cmp t some ≡ 0
+    → AllByRecursion (λ u. is_eq (tuple_cmp t u) ≡ false) some
+all_apart t [] none = tt
+all_apart t (u ∷ us) none =
+    let whole = count_cons (λ v. is_eq (tuple_cmp t v)) u us in
+    split_bool (is_eq (tuple_cmp t u))
+    (λ b. count tuple_cmp t (u ∷ us) ≡ cond b 1 0 + count tuple_cmp t us
+    → (b ≡ false) × AllByRecursion (λ v. is_eq (tuple_cmp t v) ≡ false) us)
+    (λ _ e. absurd (omega arith)) (λ _ e. (refl, all_apart t us (omega arith))) whole
 
 count_two : {A : Type 0} (p : A → Bool) (xs : List A) (i j : ℕ) (d : A) → i < j → j < length xs
     → p (get_or xs i d) ≡ true → p (get_or xs j d) ≡ true → 2 ≤ count_by p xs
@@ -75,177 +120,161 @@ count_two p (x ∷ xs) (suc i) (suc j) d up within a b =
     let whole = count_cons p x xs in
     omega arith
 
-twice : (list : List Group) (t : Tuple) (k place : ℕ) (d : Group) → k ≢ place → k < length list → place < length list
-    → group_tuple (get_or list k d) ≡ t → group_tuple (get_or list place d) ≡ t
-    → 2 ≤ count tuple_cmp t (map group_tuple list)
-twice list t k place d ne a b e f =
-    let passes : (u : Tuple) → u ≡ t → is_eq (tuple_cmp t u) ≡ true =
-    λ u is. ap (λ v. is_eq (tuple_cmp t v)) is ∙ itself tuple_cmp tuple_cmp_total tuple_tells t in
-    let made = count_made (λ u. is_eq (tuple_cmp t u)) group_tuple list in
-    let test = λ (g : Group). is_eq (tuple_cmp t (group_tuple g)) in
+-- a tuple that stands once stands at one place
+elsewhere : (some : List Tuple) (t : Tuple) (k place : ℕ) (d : Tuple) → count tuple_cmp t some ≤ 1 → k ≢ place
+    → k < length some → place < length some → get_or some place d ≡ t → is_eq (tuple_cmp t (get_or some k d)) ≡ false
+elsewhere some t k place d once ne a b at =
+    false_from_ne_true (is_eq (tuple_cmp t (get_or some k d))) (λ e.
+    let test = λ (u : Tuple). is_eq (tuple_cmp t u) in
+    let here : test (get_or some place d) ≡ true =
+    ap (λ u. is_eq (tuple_cmp t u)) at ∙ itself tuple_cmp tuple_cmp_total tuple_tells t in
     elim (cases_lt k place) [
-      | inl up ↦
-          let two = count_two test list k place d up b (passes _ e) (passes _ f) in
-          omega arith
-      | inr down ↦
-          let two = count_two test list place k d (omega (arith, ne)) a (passes _ f) (passes _ e) in
-          omega arith
-    ]
+      | inl up ↦ let two = count_two test some k place d up b e here in omega arith
+      | inr down ↦ let two = count_two test some place k d (omega (arith, ne)) a here e in omega arith
+    ])
 
 -- ---- one more record
 
-module _ (old : Tally) (names : List (List ℕ)) (records : List Record) (r : Record) (h : Tallies old names records)
-    (short : AreShort (tuple_of old.names.now r)) (text : List ℕ) (is : text ≡ tuple_text (tuple_of old.names.now r))
-    (found : Option ℕ)
-    (answers : (texts : List (List ℕ)) → AreKnown old.places texts → found ≡ place_in texts text) where
-  text_is : text ≡ tuple_text (tuple_of names r)
-  text_is = is ∙ ap (λ ns. tuple_text (tuple_of ns r)) h.fields
+module _ (old : Tally) (names : List (List ℕ)) (records : List Record) (r : Record) (h : Tallies old names records) where
+  -- how many records have a tuple now, and before
+  now_hits : Tuple → ℕ
+  now_hits = hits names (records ++ r ∷ [])
 
-  is_short : AreShort (tuple_of names r)
-  is_short = subst (λ ns. AreShort (tuple_of ns r)) h.fields short
+  all_tuples : map (tuple_of names) (records ++ r ∷ []) ≡ map (tuple_of names) records ++ tuple_of names r ∷ []
+  all_tuples = map_push (tuple_of names) records r
 
-  tuples_more : map (tuple_of names) (records ++ r ∷ []) ≡ map (tuple_of names) records ++ tuple_of names r ∷ []
-  tuples_more = map_push (tuple_of names) records r
+  all_filled : (t : Bool) → is_wholly_empty (tuple_of names r) ≡ t
+      → filled_tuples names (records ++ r ∷ [])
+      ≡ cond (not t) (filled_tuples names records ++ tuple_of names r ∷ []) (filled_tuples names records)
+  all_filled t e =
+      ap (filter (λ u. not (is_wholly_empty u))) all_tuples
+      ∙ filter_one_more (λ u. not (is_wholly_empty u)) (map (tuple_of names) records) (tuple_of names r)
+      ∙ ap (λ b. cond (not b) (filled_tuples names records ++ tuple_of names r ∷ []) (filled_tuples names records)) e
 
-  -- where the group of its tuple stands
-  pub stands : (place : ℕ) → found ≡ Some place
-      → (place < length old.groups.items)
-      × ((d : Group) → group_tuple (get_or old.groups.items place d) ≡ tuple_of names r)
-      × (1 ≤ count tuple_cmp (tuple_of names r) (map group_tuple old.groups.items))
-  stands place some =
-      let tuples = map group_tuple old.groups.items in
-      let wide : HaveLength (length (tuple_of names r)) tuples =
-      subst (λ n. HaveLength n tuples) (sym (length-map names _)) h.wide in
-      let there = tuple_old tuples (tuple_of names r) place wide is_short
-      (ap (place_in (map tuple_text tuples)) (sym text_is) ∙ sym (answers (map tuple_text tuples) h.known) ∙ some) in
-      let long = length-map old.groups.items group_tuple in
-      let inside : place < length old.groups.items = omega (arith, there.0, long) in (
-        inside,
-        λ d. sym (get_or-map group_tuple old.groups.items place d (group_tuple d) inside) ∙ there.1 (group_tuple d),
-        there.2,
-      )
+  same_hits : (u : Tuple) → is_eq (tuple_cmp (tuple_of names r) u) ≡ false → now_hits u ≡ hits names records u
+  unfolding now_hits
+  same_hits u apart =
+      let more = hits_more names records r u ∙ ap (λ b. hits names records u + cond b 1 0) apart in
+      omega arith
 
-  -- a record whose tuple has a group
-  pub tallied_old : (new : Tally) (place : ℕ) (group was : Group) → found ≡ Some place → new.names ≡ old.names
-      → new.places ≡ old.places → new.groups.items ≡ set old.groups.items place group
-      → was ≡ get_or old.groups.items place was → group.tuple ≡ was.tuple
-      → group.hits ≡ min (was.hits + 1) (2 ^ 64 - 1) → length records + 1 < 2 ^ 64
-      → Tallies new names (records ++ r ∷ [])
-  tallied_old new place group was some fields places written at same more few =
-      let items = old.groups.items in
+  one_more_hit : now_hits (tuple_of names r) ≡ hits names records (tuple_of names r) + 1
+  unfolding now_hits
+  one_more_hit =
+      hits_more names records r (tuple_of names r)
+      ∙ ap (λ b. hits names records (tuple_of names r) + cond b 1 0)
+      (itself tuple_cmp tuple_cmp_total tuple_tells (tuple_of names r))
+
+  -- a record whose tuple is wholly empty
+  pub tallied_empty : is_wholly_empty (tuple_of old.names.now r) ≡ true → Tallies old names (records ++ r ∷ [])
+  unfolding now_hits
+  tallied_empty empty =
       let t = tuple_of names r in
-      let there = stands place some in
-      let kept : map group_tuple new.groups.items ≡ map group_tuple items =
-      ap (map group_tuple) written
-      ∙ map-set_same group_tuple items place group was (ap (λ v. v.items) same ∙ ap group_tuple at) in
-      let long : length new.groups.items ≡ length items = ap length written ∙ length-set items place group in
-      let mine : group_tuple group ≡ t = ap (λ v. v.items) same ∙ ap group_tuple at ∙ there.1 was in
-      let here : (d : Group) → get_or new.groups.items place d ≡ group = λ d.
-      ap (λ l. get_or l place d) written ∙ get_or-set_same items place group d there.0 in
-      let other : (k : ℕ) (d : Group) → k ≢ place → get_or new.groups.items k d ≡ get_or items k d = λ k d ne.
-      ap (λ l. get_or l k d) written ∙ get_or-set_other items place k group d ne in
+      let is : is_wholly_empty t ≡ true = ap (λ ns. is_wholly_empty (tuple_of ns r)) (sym h.fields) ∙ empty in
       record {
-        fields = ap (λ b. b.now) fields ∙ h.fields;
-        known = subst (λ p. AreKnown p (map tuple_text (map group_tuple new.groups.items))) (sym places)
-            (subst (λ l. AreKnown old.places (map tuple_text l)) (sym kept) h.known);
-        once = subst (λ l. HasEachOnce tuple_cmp l (map (tuple_of names) (records ++ r ∷ []))) (sym kept)
-            (subst (HasEachOnce tuple_cmp (map group_tuple items)) (sym tuples_more)
-            (once_old tuple_cmp tuple_cmp_total tuple_tells (map group_tuple items) (map (tuple_of names) records) t
-            h.once there.2));
-        wide = subst (HaveLength (length names)) (sym kept) h.wide;
-        named = λ k d within. elim (cases_eq k place) [
-          | inl e ↦
-              subst (λ g. IsNamed names (group_tuple g)) (sym (ap (λ j. get_or new.groups.items j d) e ∙ here d))
-              (subst (IsNamed names) (there.1 was ∙ sym mine) (h.named place was there.0))
-          | inr ne ↦
-              subst (λ g. IsNamed names (group_tuple g)) (sym (other k d ne)) (h.named k d (omega arith))
-        ];
-        counted = λ k d within. elim (cases_eq k place) [
-          | inl e ↦
-              let before : was.hits ≡ hits names records t =
-              ap (λ g. g.hits) at ∙ h.counted place was there.0 ∙ ap (hits names records) (there.1 was) in
+        fields = h.fields;
+        tuples = h.tuples;
+        known = h.known;
+        once = subst (HasEachOnce tuple_cmp h.tuples) (sym (all_filled true is)) h.once;
+        wide = h.wide;
+        filled = h.filled;
+        named = h.named;
+        counted = h.counted ∙ map_alike (hits names records) now_hits h.tuples
+            (all_weaker (λ u. is_wholly_empty u ≡ false) (λ u. hits names records u ≡ now_hits u)
+            (λ u full. sym (same_hits u (false_from_ne_true (is_eq (tuple_cmp t u)) (λ e.
+            let bad : true ≡ false = sym is ∙ ap is_wholly_empty (tuple_tells t u e) ∙ full in absurd cc))))
+            h.tuples h.filled);
+      }
+
+  module _ (short : AreShort (tuple_of old.names.now r)) (full : is_wholly_empty (tuple_of old.names.now r) ≡ false)
+      (text : List ℕ) (is : text ≡ tuple_text (tuple_of old.names.now r)) (places : Places) (place : ℕ)
+      (placed : (texts : List (List ℕ)) → AreKnown old.places texts → IsPlaced places texts text place) where
+    full_is : is_wholly_empty (tuple_of names r) ≡ false
+    full_is = ap (λ ns. is_wholly_empty (tuple_of ns r)) (sym h.fields) ∙ full
+
+    short_is : AreShort (tuple_of names r)
+    short_is = subst (λ ns. AreShort (tuple_of ns r)) h.fields short
+
+    stands : IsNewAmong places h.tuples (tuple_of names r) place ⊎ IsAmong places h.tuples (tuple_of names r) place
+    stands =
+        placed_tuple places h.tuples (tuple_of names r) text place
+        (is ∙ ap (λ ns. tuple_text (tuple_of ns r)) h.fields)
+        (subst (λ n. HaveLength n h.tuples) (sym (length-map names (field_value r))) h.wide) short_is
+        (placed (map tuple_text h.tuples) h.known)
+
+    long : length old.hits.items ≡ length h.tuples
+    long = ap length h.counted ∙ length-map h.tuples (hits names records)
+
+    -- a record whose tuple is new
+    pub tallied_new : (new : Tally) → length old.hits.items ≤ place → new.names ≡ old.names → new.places ≡ places
+        → new.hits.items ≡ old.hits.items ++ 1 ∷ [] → IsNamed old.names.now (tuple_of old.names.now r)
+        → Tallies new names (records ++ r ∷ [])
+    unfolding now_hits
+    tallied_new new above fields same pushed has_names =
+        let t = tuple_of names r in
+        elim stands [
+          | inl one ↦
+              let none : hits names records t ≡ 0 =
+              let had = h.once.each t in
+              let kept = kept_count tuple_cmp tuple_cmp_total tuple_tells (λ u. not (is_wholly_empty u)) t
+              (map (tuple_of names) records)
+              ∙ ap (λ b. cond (not b) (count tuple_cmp t (map (tuple_of names) records)) 0) full_is in
+              hits_none names records t (omega (arith, had, kept, one.free)) in
+              let first : now_hits t ≡ 1 = one_more_hit ∙ ap (λ n. n + 1) none in
+              record {
+                fields = ap (λ b. b.now) fields ∙ h.fields;
+                tuples = h.tuples ++ t ∷ [];
+                known = subst (λ p. AreKnown p (map tuple_text (h.tuples ++ t ∷ []))) (sym same) one.known;
+                once = subst (HasEachOnce tuple_cmp (h.tuples ++ t ∷ [])) (sym (all_filled false full_is))
+                    (once_new tuple_cmp tuple_cmp_total tuple_tells h.tuples (filled_tuples names records) t h.once
+                    one.free);
+                wide = wide_more (length names) h.tuples t h.wide (length-map names (field_value r)) short_is;
+                filled = all_append (λ u. is_wholly_empty u ≡ false) h.tuples (t ∷ []) h.filled (full_is, tt);
+                named = all_append (IsNamed names) h.tuples (t ∷ []) h.named
+                    (subst (λ ns. IsNamed ns (tuple_of ns r)) h.fields has_names, tt);
+                counted = pushed ∙ ap (λ l. l ++ 1 ∷ []) (h.counted
+                    ∙ map_alike (hits names records) now_hits h.tuples
+                    (all_weaker (λ u. is_eq (tuple_cmp t u) ≡ false) (λ u. hits names records u ≡ now_hits u)
+                    (λ u apart. sym (same_hits u apart)) h.tuples (all_apart t h.tuples one.free)))
+                    ∙ ap (λ n. map now_hits h.tuples ++ n ∷ []) (sym first) ∙ sym (map_push now_hits h.tuples t);
+              }
+          | inr one ↦ absurd (omega (arith, one.inside, above, long))
+        ]
+
+    -- a record whose tuple has a number
+    pub tallied_old : (new : Tally) (was : ℕ) → place < length old.hits.items → new.names ≡ old.names
+        → new.places ≡ places → was ≡ get_or old.hits.items place was
+        → new.hits.items ≡ set old.hits.items place (min (was + 1) (2 ^ 64 - 1)) → length records + 1 < 2 ^ 64
+        → Tallies new names (records ++ r ∷ [])
+    unfolding now_hits
+    tallied_old new was below fields same at written few =
+        let t = tuple_of names r in
+        elim stands [
+          | inl one ↦ absurd (omega (arith, one.behind, below, long))
+          | inr one ↦
+              let number : was ≡ hits names records t =
+              at ∙ ap (λ l. get_or l place was) h.counted
+              ∙ get_or_default (map (hits names records) h.tuples) place was (hits names records [])
+              (omega (arith, below, ap length h.counted))
+              ∙ get_or-map (hits names records) h.tuples place [] (hits names records []) one.inside
+              ∙ ap (hits names records) (one.there []) in
               let small = hits_few names records t in
-              let after : hits names (records ++ r ∷ []) t ≡ hits names records t + 1 =
-              hits_more names records r t
-              ∙ ap (λ b. hits names records t + cond b 1 0) (itself tuple_cmp tuple_cmp_total tuple_tells t) in
-              let now : group.hits ≡ hits names (records ++ r ∷ []) t = omega arith in
-              subst (λ g. g.hits ≡ hits names (records ++ r ∷ []) (group_tuple g))
-              (sym (ap (λ j. get_or new.groups.items j d) e ∙ here d))
-              (now ∙ ap (hits names (records ++ r ∷ [])) (sym mine))
-          | inr ne ↦
-              let below : k < length items = omega arith in
-              let u = group_tuple (get_or items k d) in
-              let apart : is_eq (tuple_cmp t u) ≡ false =
-              false_from_ne_true (is_eq (tuple_cmp t u)) (λ eq.
-              let two = twice items t k place d ne below there.0 (sym (tuple_tells t u eq)) (there.1 d) in
-              let one = h.once.each t in
-              omega arith) in
-              let after : hits names (records ++ r ∷ []) u ≡ hits names records u + 0 =
-              hits_more names records r u ∙ ap (λ b. hits names records u + cond b 1 0) apart in
-              let before = h.counted k d below in
-              let now : (get_or items k d).hits ≡ hits names (records ++ r ∷ []) u = omega arith in
-              subst (λ g. g.hits ≡ hits names (records ++ r ∷ []) (group_tuple g)) (sym (other k d ne)) now
-        ];
-      }
-
-  -- a record whose tuple is new
-  pub tallied_new : (new : Tally) (group : Group) → found ≡ None → new.names ≡ old.names
-      → ((texts : List (List ℕ)) → AreKnown old.places texts → place_in texts text ≡ None
-      → AreKnown new.places (texts ++ text ∷ []))
-      → new.groups.items ≡ old.groups.items ++ group ∷ [] → group_tuple group ≡ tuple_of old.names.now r
-      → IsNamed old.names.now (group_tuple group) → group.hits ≡ 1 → Tallies new names (records ++ r ∷ [])
-  tallied_new new group none fields adds pushed same has_names one =
-      let items = old.groups.items in
-      let t = tuple_of names r in
-      let before = map group_tuple items in
-      let mine : group_tuple group ≡ t = same ∙ ap (λ ns. tuple_of ns r) h.fields in
-      let free : place_in (map tuple_text before) text ≡ None =
-      sym (answers (map tuple_text before) h.known) ∙ none in
-      let gone : count tuple_cmp t before ≡ 0 =
-      tuple_new before t (ap (place_in (map tuple_text before)) (sym text_is) ∙ free) in
-      let made : map group_tuple new.groups.items ≡ before ++ t ∷ [] =
-      ap (map group_tuple) pushed ∙ map_push group_tuple items group ∙ ap (λ u. before ++ u ∷ []) mine in
-      let had = h.once.each t in
-      let empty : hits names records t ≡ 0 = hits_none names records t (omega arith) in
-      let long : length new.groups.items ≡ length items + 1 = ap length pushed ∙ length-append items (group ∷ []) in
-      let last : (k : ℕ) (d : Group) → k ≡ length items → get_or new.groups.items k d ≡ group = λ k d e.
-      ap (λ l. get_or l k d) pushed ∙ get_last items group k d e in
-      let front : (k : ℕ) (d : Group) → k < length items → get_or new.groups.items k d ≡ get_or items k d =
-      λ k d below. ap (λ l. get_or l k d) pushed ∙ get_front items (group ∷ []) k d below in
-      record {
-        fields = ap (λ b. b.now) fields ∙ h.fields;
-        known = subst (λ l. AreKnown new.places (map tuple_text l)) (sym made)
-            (known_more new.places before t text text_is (adds (map tuple_text before) h.known free));
-        once = subst (λ l. HasEachOnce tuple_cmp l (map (tuple_of names) (records ++ r ∷ []))) (sym made)
-            (subst (HasEachOnce tuple_cmp (before ++ t ∷ [])) (sym tuples_more)
-            (once_new tuple_cmp tuple_cmp_total tuple_tells before (map (tuple_of names) records) t h.once gone));
-        wide = subst (HaveLength (length names)) (sym made)
-            (wide_more (length names) before t h.wide (length-map names _) is_short);
-        named = λ k d within. elim (cases_lt k (length items)) [
-          | inl below ↦ subst (λ g. IsNamed names (group_tuple g)) (sym (front k d below)) (h.named k d below)
-          | inr above ↦
-              subst (λ g. IsNamed names (group_tuple g)) (sym (last k d (omega arith)))
-              (subst (λ ns. IsNamed ns (group_tuple group)) h.fields has_names)
-        ];
-        counted = λ k d within. elim (cases_lt k (length items)) [
-          | inl below ↦
-              let u = group_tuple (get_or items k d) in
-              let apart : is_eq (tuple_cmp t u) ≡ false =
-              false_from_ne_true (is_eq (tuple_cmp t u)) (λ eq.
-              let at = count_at (λ g. is_eq (tuple_cmp t (group_tuple g))) items k d below eq in
-              let counts = count_made (λ u. is_eq (tuple_cmp t u)) group_tuple items in
-              omega arith) in
-              let after : hits names (records ++ r ∷ []) u ≡ hits names records u + 0 =
-              hits_more names records r u ∙ ap (λ b. hits names records u + cond b 1 0) apart in
-              let so_far = h.counted k d below in
-              let now : (get_or items k d).hits ≡ hits names (records ++ r ∷ []) u = omega arith in
-              subst (λ g. g.hits ≡ hits names (records ++ r ∷ []) (group_tuple g)) (sym (front k d below)) now
-          | inr above ↦
-              let after : hits names (records ++ r ∷ []) t ≡ hits names records t + 1 =
-              hits_more names records r t
-              ∙ ap (λ b. hits names records t + cond b 1 0) (itself tuple_cmp tuple_cmp_total tuple_tells t) in
-              let now : group.hits ≡ hits names (records ++ r ∷ []) t = omega arith in
-              subst (λ g. g.hits ≡ hits names (records ++ r ∷ []) (group_tuple g)) (sym (last k d (omega arith)))
-              (now ∙ ap (hits names (records ++ r ∷ [])) (sym mine))
-        ];
-      }
+              let raised : min (was + 1) (2 ^ 64 - 1) ≡ now_hits t =
+              let more = one_more_hit in omega arith in
+              record {
+                fields = ap (λ b. b.now) fields ∙ h.fields;
+                tuples = h.tuples;
+                known = subst (λ p. AreKnown p (map tuple_text h.tuples)) (sym same) one.known;
+                once = subst (HasEachOnce tuple_cmp h.tuples) (sym (all_filled false full_is))
+                    (once_old tuple_cmp tuple_cmp_total tuple_tells h.tuples (filled_tuples names records) t h.once
+                    one.had);
+                wide = h.wide;
+                filled = h.filled;
+                named = h.named;
+                counted = written ∙ ap (λ l. set l place (min (was + 1) (2 ^ 64 - 1))) h.counted
+                    ∙ ap (set (map (hits names records) h.tuples) place) (raised ∙ ap now_hits (sym (one.there t)))
+                    ∙ sym (map_raised (hits names records) now_hits h.tuples place t one.inside
+                    (λ k within ne. same_hits (get_or h.tuples k t)
+                    (elsewhere h.tuples t k place t (let had = h.once.each t in omega arith) ne within one.inside
+                    (one.there t))));
+              }
+        ]

@@ -4,13 +4,13 @@ use Rattle.std.specs.Borrow.{Bor}
 use Rattle.std.specs.HashMap.{HashMap, get_by}
 
 -- Each text that a map has stands at its place among the words.
-abbrev pub AreKnown : {S : Type 0} → HashMap (Bor (List ℕ)) ℕ S → List (List ℕ) → Type 0
-AreKnown places words =
+abbrev pub AreAtWords : {S : Type 0} → HashMap (Bor (List ℕ)) ℕ S → List (List ℕ) → Type 0
+AreAtWords places words =
     (text : List ℕ) → IfSome (get_by (λ key. bytes_eq text key.now) places)
     (λ place. (place < length words) × (slice_index_or words place [] ≡ text))
 
 -- The words stay where they are, and a text stands at this place.
-pub record IsEntered (words more : List (List ℕ)) (text : List ℕ) (place : ℕ) : Type 0 where
+pub record IsAtWord (words more : List (List ℕ)) (text : List ℕ) (place : ℕ) : Type 0 where
   pub inside : place < length more
   pub is : slice_index_or more place [] ≡ text
   pub grows : length words ≤ length more

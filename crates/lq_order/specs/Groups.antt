@@ -1,9 +1,10 @@
 -- Groups of records, and the records that are made of them.
-use Rattle.std.specs.Prelude.{◌≡◌, ◌≤◌, Bool, List, ℕ, [], codes, decimal, filter, length, map, min, nat_le, not, zip}
-use Rattle.std.specs.Prelude.{if◌then◌else◌}
+use Rattle.std.specs.Prelude.{◌≡◌, ◌<◌, ◌≤◌, Bool, List, ℕ, [], codes, decimal, filter, length, map, min}
+use Rattle.std.specs.Prelude.{nat_le, nat_lt, zip, if◌then◌else◌}
 use Rattle.log_model.specs.Field.{Field, is_empty, set_all, set_field}
 use Rattle.lq_ast.specs.Records.{Record}
-use Rattle.lq_ast.specs.Tuples.{Tuple, is_wholly_empty}
+use Rattle.lq_ast.specs.Sorting.{hits}
+use Rattle.lq_ast.specs.Tuples.{Tuple}
 use Rattle.lq_order.specs.declared.group.Group.{Group}
 use Rattle.lq_order.specs.declared.keyed.KeyedGroup.{KeyedGroup}
 
@@ -13,17 +14,13 @@ group_tuple group = group.tuple.items
 abbrev pub group_hits : Group → ℕ
 group_hits group = group.hits
 
--- so many records or more
-abbrev pub has_hits : ℕ → Group → Bool
-has_hits least group = nat_le least (group_hits group)
+abbrev pub group_pair : Group → Tuple × ℕ
+group_pair group = (group_tuple group, group_hits group)
 
--- the groups whose tuples are not wholly empty
-abbrev pub placed : List Group → List Group
-placed groups = filter (λ group. not (is_wholly_empty (group_tuple group))) groups
-
--- At least n of the numbers are not below this one, or all of them.
-abbrev pub AreEnough : ℕ → ℕ → List ℕ → Type 0
-AreEnough n least numbers = min n (length numbers) ≤ length (filter (nat_le least) numbers)
+-- Fewer than n of the numbers are above this one, and n of them, or all, are not below it.
+pub record IsNthGreatest (n nth : ℕ) (numbers : List ℕ) : Type 0 where
+  pub few : 0 < n → length (filter (nat_lt nth) numbers) < n
+  pub enough : min n (length numbers) ≤ length (filter (nat_le nth) numbers)
 
 abbrev pub keyed_group : KeyedGroup → Group
 keyed_group keyed = keyed.group.now
@@ -37,7 +34,12 @@ abbrev pub IsNamed : List (List ℕ) → Tuple → Type 0
 IsNamed names tuple = map named (zip names tuple) ≡ zip names tuple
 
 -- the record of a group's tuple, with its number where that is wanted
-abbrev pub made_record : List (List ℕ) → Bool → Group → Record
-made_record names counted group =
+abbrev pub counted_group : List (List ℕ) → Bool → Group → Record
+counted_group names counted group =
     let fields = set_all [] (map named (zip names (group_tuple group))) in
     if counted then set_field fields (codes "hits") (decimal group.hits) else fields
+
+-- The values have names, and the number of the group is that of the records that have its tuple.
+abbrev pub IsGroup : List (List ℕ) → List Record → Group → Type 0
+IsGroup names records group =
+    IsNamed names (group_tuple group) × (group_hits group ≡ hits names records (group_tuple group))

@@ -1,6 +1,6 @@
 //! The distinct ones of many texts.
-ghost use Rattle.std.specs.Prelude.{◌≡◌, ◌++◌, IfOk, OnOk, length, map};
-ghost use Rattle.lq_order.specs.Dictionary.{AreKnown, IsDictionary, IsEntered};
+ghost use Rattle.std.specs.Prelude.{IfOk, OnOk, map};
+ghost use Rattle.lq_order.specs.Dictionary.{AreAtWords, IsDictionary, IsAtWord};
 
 use std::alloc::{AllocError, Global};
 use std::collections::HashMap;
@@ -34,9 +34,9 @@ fn entered<'a>(
     words: &mut Vec<&'a str>,
     text: &'a str,
 ) -> Result<usize, AllocError>
-    requires { AreKnown places.old (map (λ word. word.now) words.old.items) }
-    ensures known { OnOk result (AreKnown places.new (map (λ word. word.now) words.new.items)) }
-    ensures entered { IfOk result (IsEntered (map (λ word. word.now) words.old.items)
+    requires { AreAtWords places.old (map (λ word. word.now) words.old.items) }
+    ensures known { OnOk result (AreAtWords places.new (map (λ word. word.now) words.new.items)) }
+    ensures entered { IfOk result (IsAtWord (map (λ word. word.now) words.old.items)
         (map (λ word. word.now) words.new.items) text.entry.now) }
 {
     if let Some(place) = places.get(text) {

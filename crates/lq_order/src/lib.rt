@@ -4,6 +4,7 @@
 mod column;
 mod dictionary;
 mod group;
+mod groups;
 mod keyed;
 mod ranks;
 mod records;

@@ -1,8 +1,8 @@
 //! Groups in tuple order, and the records of groups.
-ghost use Rattle.std.specs.Prelude.{◌≡◌, IfOk, filter, map, not};
+ghost use Rattle.std.specs.Prelude.{◌≡◌, IfOk, map};
 ghost use Rattle.std.specs.Ordering.{on};
-ghost use Rattle.lq_ast.specs.Tuples.{is_wholly_empty, sorted_by, tuple_cmp};
-ghost use Rattle.lq_order.specs.Groups.{group_tuple, keyed_group, made_record};
+ghost use Rattle.lq_ast.specs.Tuples.{sorted_by, tuple_cmp};
+ghost use Rattle.lq_order.specs.Groups.{group_tuple, keyed_group, counted_group};
 
 use crate::group::Group;
 use crate::keyed::KeyedGroup;
@@ -10,18 +10,16 @@ use lq_tuple::value_keys;
 use std::alloc::{AllocError, Global};
 use vl_row::{Recs, Text};
 
-/// The groups in tuple order, without one whose tuple is wholly empty.
+/// The groups in tuple order.
 pub(crate) fn in_order<'a>(
     alloc: Global,
     groups: &'a [Group],
 ) -> Result<Vec<KeyedGroup<'a>>, AllocError>
     ensures { IfOk result (λ keyed. map keyed_group keyed.items
-        ≡ filter (λ group. not (is_wholly_empty (group_tuple group)))
-        (sorted_by (on group_tuple tuple_cmp) groups.entry.now)) }
+        ≡ sorted_by (on group_tuple tuple_cmp) groups.entry.now) }
 {
     let mut keyed = all_keyed(alloc, groups)?;
     keyed.sort_by(|a, b| a.keys.as_slice().cmp(b.keys.as_slice()))?;
-    keyed.retain(|one| !one.group.is_wholly_empty());
     Ok(keyed)
 }
 
@@ -45,7 +43,7 @@ pub(crate) fn records_of(
     counted: bool,
     groups: &[KeyedGroup<'_>],
 ) -> Result<Recs, AllocError>
-    ensures { IfOk result (λ made. made ≡ map (made_record names.now counted) (map keyed_group groups.now)) }
+    ensures { IfOk result (λ made. made ≡ map (counted_group names.now counted) (map keyed_group groups.now)) }
 {
     let mut records = Vec::with_capacity(alloc, groups.len())?;
     for keyed in groups {

@@ -1,21 +1,21 @@
 //! How many records have each tuple of the values of some fields.
 ghost use Rattle.std.specs.Prelude.{◌<◌, ◌+◌, ◌^◌, ◌++◌, [], List, ℕ, OnOk, length};
 ghost use Rattle.lq_ast.specs.Records.{Record};
-ghost use Rattle.lq_order.specs.Tally.{TakesRecord, Tallies};
+ghost use Rattle.lq_order.specs.Tally.{TalliesRecord, Tallies};
 
-use crate::group::Group;
-use lq_tuple::{Places, tuple_text};
+use lq_tuple::{Places, is_wholly_empty, tuple_text};
 use std::alloc::{AllocError, Global};
 use vl_row::{FieldList, Text};
 
-/// How many of some records have each tuple of the values of some fields. The records may come in pieces; of them
-/// only the different tuples are kept, in the order in which they came first.
+/// How many of some records have each tuple of the values of some fields, but for a tuple that is wholly empty. The
+/// records may come in pieces; of them only the texts of the different tuples are kept. No number is greater than
+/// 2^64 - 1.
 #[derive(Drop)]
 pub struct Tally<'p> {
     pub(crate) names: &'p [Text],
     pub(crate) places: Places,
     pub(crate) scratch: String,
-    pub(crate) groups: Vec<Group>,
+    pub(crate) hits: Vec<u64>,
 }
 
 impl<'p> Tally<'p> {
@@ -27,7 +27,7 @@ impl<'p> Tally<'p> {
             names,
             places: Places::new(alloc),
             scratch: String::new(alloc),
-            groups: Vec::new(alloc),
+            hits: Vec::new(alloc),
         }
     }
 
@@ -45,17 +45,20 @@ impl<'p> Tally<'p> {
 
     /// Takes one more record.
     fn add(&mut self, alloc: Global, fields: &FieldList) -> Result<(), AllocError>
-        ensures { OnOk result (TakesRecord self.old self.new fields.now) }
+        ensures { OnOk result (TalliesRecord self.old self.new fields.now) }
     {
-        let text = tuple_text(&mut self.scratch, self.names, fields)?;
-        if let Some(place) = self.places.place_of(text) {
-            if place < self.groups.len() {
-                self.groups[place].add_one();
-            }
+        if is_wholly_empty(self.names, fields) {
             return Ok(());
         }
-        let group = Group::of(alloc, self.names, fields)?;
-        self.groups.push(group)?;
-        self.places.add(alloc, text)
+        // What a list of fields tells of itself: none of them has an empty name.
+        let _ = fields.as_slice();
+        let text = tuple_text(&mut self.scratch, self.names, fields)?;
+        let place = self.places.place(alloc, text)?;
+        if place < self.hits.len() {
+            self.hits[place] = self.hits[place].saturating_add(1);
+        } else {
+            self.hits.push(1)?;
+        }
+        Ok(())
     }
 }

@@ -1,12 +1,11 @@
 //! The `top` pipe.
-ghost use Rattle.std.specs.Prelude.{◌≡◌, IfOk, List, map};
+ghost use Rattle.std.specs.Prelude.{◌≡◌, IfOk, List};
 ghost use Rattle.lq_ast.specs.PipeView.{ranking};
 ghost use Rattle.lq_ast.specs.Records.{Record};
 ghost use Rattle.lq_ast.specs.Sorting as sorting;
-ghost use Rattle.lq_order.specs.Groups.{AreEnough, group_hits, placed};
+ghost use Rattle.lq_order.specs.Groups.{IsNthGreatest};
 ghost use Rattle.lq_order.specs.Tally.{Tallies};
 
-use crate::group::Group;
 use crate::records::{in_order, records_of};
 use crate::sort::kept;
 use crate::tally::Tally;
@@ -28,37 +27,32 @@ pub fn top_recs(alloc: Global, p: &TopPipe, r: Recs) -> Result<Recs, AllocError>
 
 impl<'p> Tally<'p> {
     /// What the pipe makes of the records of the tally of its fields.
-    pub fn top(mut self, alloc: Global, p: &TopPipe) -> Result<Recs, AllocError>
+    pub fn top(self, alloc: Global, p: &TopPipe) -> Result<Recs, AllocError>
         ensures { IfOk result (λ made. (records : List Record) → Tallies self.entry (ranking p.now).names records
             → made ≡ sorting.top (ranking p.now) records) }
     {
-        // Only the groups that can be among the first `n` are worth putting in tuple order.
-        let least = least_hits(alloc, self.groups.as_slice(), p.n)?;
-        self.groups.retain(|group| group.hits >= least);
-        let mut groups = in_order(alloc, self.groups.as_slice())?;
-        groups.sort_by(|a, b| b.group.hits.cmp(&a.group.hits))?;
-        let kept = kept(groups.as_slice(), 0, Some(p.n));
+        // Only the groups that can be among the first `n` are worth reading and putting in tuple order.
+        let least = least_hits(alloc, self.hits.as_slice(), p.n)?;
+        let groups = self.groups(alloc, least)?;
+        drop(self.places);
+        let mut keyed = in_order(alloc, groups.as_slice())?;
+        keyed.sort_by(|a, b| b.group.hits.cmp(&a.group.hits))?;
+        let kept = kept(keyed.as_slice(), 0, Some(p.n));
         records_of(alloc, self.names, true, kept)
     }
 }
 
-/// The number of the group that stands at the `n`-th place from the most records down, and 0 where there are fewer
-/// groups. A wholly empty tuple has no place.
-fn least_hits(alloc: Global, groups: &[Group], n: u64) -> Result<u64, AllocError>
-    ensures { IfOk result (λ least. AreEnough n least (map group_hits (placed groups.now))) }
+/// The number that stands at the `n`-th place from the greatest down, and 0 where there are fewer.
+fn least_hits(alloc: Global, hits: &[u64], n: u64) -> Result<u64, AllocError>
+    ensures { IfOk result (λ least. IsNthGreatest n least hits.now) }
 {
-    let mut numbers = Vec::with_capacity(alloc, groups.len())?;
-    for group in groups {
-        if !group.is_wholly_empty() {
-            numbers.push(group.hits)?;
-        }
-    }
+    let mut numbers = hits.to_vec(alloc)?;
     Ok(nth_greatest(numbers.as_mut_slice(), n as usize))
 }
 
-/// The `n`-th greatest of these numbers, and 0 where there are fewer of them.
+/// The `n`-th greatest of these numbers, and 0 where there are fewer of them or `n` is 0.
 fn nth_greatest(numbers: &mut [u64], n: usize) -> u64
-    ensures { AreEnough n result numbers.old }
+    ensures { IsNthGreatest n result numbers.old }
 {
     if n == 0 || numbers.len() < n {
         return 0;

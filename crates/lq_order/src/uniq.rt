@@ -30,8 +30,10 @@ impl<'p> Tally<'p> {
         ensures { IfOk result (λ made. (records : List Record) → Tallies self.entry (distinct p.now).names records
             → made ≡ sorting.uniq (distinct p.now) records) }
     {
-        let groups = in_order(alloc, self.groups.as_slice())?;
-        let kept = kept(groups.as_slice(), 0, p.limit);
+        let groups = self.groups(alloc, 0)?;
+        drop(self.places);
+        let keyed = in_order(alloc, groups.as_slice())?;
+        let kept = kept(keyed.as_slice(), 0, p.limit);
         records_of(alloc, self.names, p.hits, kept)
     }
 }

@@ -11,7 +11,7 @@ records_left rows =
     map (narrowed (projected rows.projector)) (map (λ row. record_of row.now) (drop rows.made rows.rows.now))
 
 -- The first of them were made, and some at least; none only where none was left.
-abbrev pub Gives : RowRecords → RowRecords → Option (List Record) → Type 0
-Gives old new None = records_left old ≡ []
-Gives old new (Some records) =
+abbrev pub MakesNext : RowRecords → RowRecords → Option (List Record) → Type 0
+MakesNext old new None = records_left old ≡ []
+MakesNext old new (Some records) =
     (records_left old ≡ records ++ records_left new) × (length (records_left new) < length (records_left old))

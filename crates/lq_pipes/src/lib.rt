@@ -9,7 +9,6 @@ mod needed;
 mod output;
 mod patterns;
 mod pipes;
-pub mod plain;
 mod printed_stream;
 mod project;
 mod projector;

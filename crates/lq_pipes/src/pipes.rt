@@ -4,7 +4,6 @@ ghost use Rattle.std.specs.List.{AllByRecursion};
 ghost use Rattle.lq_ast.specs.Patterns.{CanBeRead, patterns_of_stage};
 ghost use Rattle.lq_ast.specs.PipeView.{stage};
 ghost use Rattle.lq_ast.specs.Pipes.{all_piped};
-ghost use Rattle.lq_filter.specs.Refusal.{IsRefusal};
 ghost use Rattle.lq_pipes.specs.Faults.{IsMadeFault, IsPipeFault, IsRefused, IsRefusedBehind};
 ghost use Rattle.lq_pipes.specs.Steps.{IsFresh, stage_of};
 

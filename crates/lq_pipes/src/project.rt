@@ -1,9 +1,9 @@
 //! Rows that become records a piece at a time.
-ghost use Rattle.std.specs.Prelude.{◌≡◌, IfOk, length, map};
+ghost use Rattle.std.specs.Prelude.{◌≡◌, IfOk, map};
 ghost use Rattle.log_model.specs.Row.{record_of};
 ghost use Rattle.lq_pipes.specs.Needs.{narrowed};
 ghost use Rattle.lq_pipes.specs.Projector.{projected};
-ghost use Rattle.lq_pipes.specs.RowRecords.{Gives, records_left};
+ghost use Rattle.lq_pipes.specs.RowRecords.{MakesNext, records_left};
 
 use crate::needed::Needs;
 use crate::projector::Projector;
@@ -33,7 +33,7 @@ impl<'r> RowRecords<'r> {
 
     /// The next records, if any are left.
     pub(crate) fn next(&mut self, alloc: Global) -> Result<Option<Recs>, AllocError>
-        ensures { IfOk result (Gives self.old self.new) }
+        ensures { IfOk result (MakesNext self.old self.new) }
     {
         let left = &self.rows[self.made..];
         if left.is_empty() {

@@ -1,5 +1,5 @@
 //! The pipes that leave records as they are, over rows that are no records yet: `limit`, `offset` and `sort`.
-ghost use Rattle.std.specs.Prelude.{◌≡◌, ◌≤◌, ◌<◌, [], IfOk, drop, length, map, slice_index_or};
+ghost use Rattle.std.specs.Prelude.{◌≡◌, ◌<◌, [], IfOk, drop, length, map, slice_index_or};
 ghost use Rattle.std.specs.List.{All};
 ghost use Rattle.log_model.specs.Row.{record_of};
 ghost use Rattle.lq_ast.specs.PipeView.{sorting, stage};

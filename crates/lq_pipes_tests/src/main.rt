@@ -19,6 +19,7 @@
 
 mod notation_tests;
 mod pipe_tests;
+mod plain;
 mod printed_tests;
 mod row_tests;
 

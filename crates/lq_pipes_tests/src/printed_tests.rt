@@ -1,5 +1,6 @@
 //! The lines of rows: by the printer, by the plain program, and of their records.
-use lq_pipes::{Printer, lines, plain, rec_of};
+use crate::plain::write_row;
+use lq_pipes::{Printer, lines, rec_of};
 use std::alloc::{AllocError, Global};
 use vl_row::{FieldList, Recs, Row, Text, number};
 
@@ -15,7 +16,7 @@ pub fn printed(alloc: Global, rows: &[Row]) -> Result<Text, AllocError> {
 pub fn plainly_printed(alloc: Global, rows: &[Row]) -> Result<Vec<u8>, AllocError> {
     let mut out = Vec::from_slice(alloc, b"plainly printed\n")?;
     for row in rows {
-        plain::write_row(alloc, row, &mut out)?;
+        write_row(alloc, row, &mut out)?;
     }
     Ok(out)
 }

@@ -60,9 +60,9 @@ state_is : (state : State) (names : List (List ℕ)) (records : List Record) →
     → state_text state ≡ call_text (state_call state) names records
 state_is (Count number) names records h = ap (λ n. Some (decimal n)) h
 state_is (CountEmpty number) names records h = ap (λ n. Some (decimal n)) h
-state_is (CountUniq places) names records h =
+state_is (CountUniq texts) names records h =
     ap (λ n. Some (decimal n))
-    (h.known.counted ∙ length-map h.distinct _
+    (h.held.counted ∙ length-map h.distinct _
     ∙ once_kept tuple_cmp tuple_cmp_total tuple_tells (λ tuple. not (is_wholly_empty tuple)) h.distinct
     (map (tuple_of names) records) h.once)
 state_is (OfValues measure) names records h = measure_is measure names records h

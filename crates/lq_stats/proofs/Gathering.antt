@@ -1,7 +1,7 @@
 -- Groups, as one more record comes.
 use Rattle.std.proofs.Common.{◌≡◌, ◌≢◌, ℕ, zero, suc, ◌+◌, ◌^◌, ◌<◌, ◌≤◌, Bool, true, false, cond, List, [], ◌∷◌, ◌++◌}
 use Rattle.std.proofs.Common.{length, map, take, get_or, set, Option, Some, None, append_assoc, length-append}
-use Rattle.std.proofs.Common.{refl, sym, ap, subst, ◌∙◌, inl, inr, arith}
+use Rattle.std.proofs.Common.{refl, sym, ap, subst, ◌∙◌, inl, inr, ◌⊎◌, arith}
 use Rattle.std.proofs.lemmas.Bool.{cases_eq, cases_lt, false_from_ne_true}
 use Rattle.std.proofs.lemmas.List.{get_or-map, get_or-set_same, get_or_default, length-map, length-take, map_push, take_more}
 use Rattle.std.proofs.lemmas.List.Sums.{count_by-le-length, length-filter}
@@ -14,16 +14,17 @@ use Rattle.lq_ast.proofs.Sorted.{split_bool}
 use Rattle.lq_ast.proofs.TupleOrder.{tuple_cmp_total}
 use Rattle.lq_ast.specs.Condition.{Condition}
 use Rattle.lq_ast.specs.Grouping.{asked}
-use Rattle.lq_ast.specs.Groups.{key_tuple, members}
+use Rattle.lq_ast.specs.Groups.{key_tuple, key_value, members}
 use Rattle.lq_ast.specs.Holds.{record_holds}
 use Rattle.lq_ast.specs.Records.{Record}
 use Rattle.lq_ast.specs.Stage.{GroupBy, Statistic}
 use Rattle.lq_ast.specs.Tuples.{Tuple, tuple_cmp}
-use Rattle.lq_tuple.proofs.Counting.{known_more, wide_more}
+use Rattle.lq_tuple.proofs.Counting.{IsAmong, IsNewAmong, placed_tuple, wide_more}
 use Rattle.lq_stats.proofs.Measuring.{filter_more}
+use Rattle.lq_tuple.proofs.Numbered.{get_front, get_last}
 use Rattle.lq_tuple.proofs.Once.{count_at, count_cons, count_joined, count_made, count_same, itself}
 use Rattle.lq_tuple.proofs.Once.{once_alike, once_new, once_old}
-use Rattle.lq_tuple.proofs.Tuples.{tuple_new, tuple_old, tuple_tells}
+use Rattle.lq_tuple.proofs.Tuples.{tuple_tells}
 use Rattle.lq_tuple.specs.Counted.{AreShort, HaveLength, tuple_text}
 use Rattle.lq_stats.specs.Function.{is_asked}
 use Rattle.lq_stats.specs.Groups.{AreGroups, AreStates, IsEnteredIn, IsStateOf, TakeRecord, TakesOne}
@@ -31,7 +32,8 @@ use Rattle.lq_stats.specs.Groups.{TakesRecord, group_tuple}
 use Rattle.lq_stats.specs.Key.{grouped_by}
 use Rattle.lq_tuple.specs.Once.{HasEachOnce, count}
 use Rattle.lq_stats.specs.Partial.{opening}
-use Rattle.lq_tuple.specs.Places.{AreKnown, place_in}
+use Rattle.lq_tuple.specs.Places.{AreKnown, IsPlaced}
+use Rattle.lq_tuple.specs.declared.places.Places.{Places}
 use Rattle.lq_stats.specs.State.{AreTaken, Takes, state_call}
 use Rattle.lq_stats.specs.declared.groups.Group.{Group}
 use Rattle.lq_stats.specs.declared.groups.Groups.{Groups}
@@ -120,17 +122,6 @@ count_two p (x ∷ xs) (suc i) (suc j) d up within a b =
     let whole = count_cons p x xs in
     omega arith
 
-get_front : {A : Type 0} (xs ys : List A) (k : ℕ) (d : A) → k < length xs → get_or (xs ++ ys) k d ≡ get_or xs k d
-get_front [] ys k d h = absurd (omega arith)
-get_front (x ∷ xs) ys zero d h = refl
-get_front (x ∷ xs) ys (suc k) d h = get_front xs ys k d (omega arith)
-
-get_last : {A : Type 0} (xs : List A) (x : A) (k : ℕ) (d : A) → k ≡ length xs → get_or (xs ++ x ∷ []) k d ≡ x
-get_last [] x zero d e = refl
-get_last [] x (suc k) d e = absurd (omega arith)
-get_last (y ∷ ys) x zero d e = absurd (omega arith)
-get_last (y ∷ ys) x (suc k) d e = get_last ys x k d (omega arith)
-
 tuples_same : (xs ys : List Group) → length xs ≡ length ys
     → ((k : ℕ) (d : Group) → k < length ys → group_tuple (get_or xs k d) ≡ group_tuple (get_or ys k d))
     → map group_tuple xs ≡ map group_tuple ys
@@ -182,87 +173,95 @@ module _ (keys : List GroupBy) (statistics : List Statistic) (more : List Tuple)
       sums whole other front back one both a b both' e f = omega arith
 
   module _ (groups : Groups) (h : AreGroups keys statistics groups more records)
-      (short : AreShort (key_tuple keys r)) (text : List ℕ) (is : text ≡ tuple_text (key_tuple keys r)) where
-    tuples : List Tuple
-    tuples = map group_tuple groups.list.items
+      (short : AreShort (key_tuple keys r)) (text : List ℕ) (is : text ≡ tuple_text (key_tuple keys r))
+      (places : Places) (place : ℕ)
+      (placed : (texts : List (List ℕ)) → AreKnown groups.places texts → IsPlaced places texts text place) where
+    stands : IsNewAmong places (map group_tuple groups.list.items) (key_tuple keys r) place
+        ⊎ IsAmong places (map group_tuple groups.list.items) (key_tuple keys r) place
+    stands =
+        let list = map group_tuple groups.list.items in
+        placed_tuple places list (key_tuple keys r) text place is
+        (subst (λ n. HaveLength n list) (sym (length-map keys (key_value r))) h.wide) short
+        (placed (map tuple_text list) h.known)
 
-    pub entered_old : (found : Option ℕ) (place : ℕ) → found ≡ Some place
-        → ((texts : List (List ℕ)) → AreKnown groups.places texts → found ≡ place_in texts text)
-        → IsEnteredIn keys statistics groups (more ++ key_tuple keys r ∷ []) records r place
-    unfolding tuple tuples
-    entered_old found place some answers =
+    pub entered_old : place < length groups.list.items
+        → IsEnteredIn keys statistics (record { places = places; list = groups.list }) (more ++ key_tuple keys r ∷ [])
+        records r place
+    unfolding tuple
+    entered_old below =
         let list = groups.list.items in
-        let wide : HaveLength (length (key_tuple keys r)) (map group_tuple list) =
-        subst (λ n. HaveLength n (map group_tuple list)) (sym (length-map keys _)) h.wide in
-        let there = tuple_old (map group_tuple list) (key_tuple keys r) place wide short
-        (ap (place_in (map tuple_text (map group_tuple list))) (sym is)
-        ∙ sym (answers (map tuple_text (map group_tuple list)) h.known) ∙ some) in
-        let inside : place < length list = omega (arith, there.0, length-map list group_tuple) in
-        record {
-          inside = inside;
-          tuple = λ d. sym (get_or-map group_tuple list place d (group_tuple d) inside) ∙ there.1 (group_tuple d);
-          are = record {
-            known = h.known;
-            once = once_alike tuple_cmp tuple_cmp_total tuple_tells (map group_tuple list)
-                ((more ++ map (key_tuple keys) records) ++ key_tuple keys r ∷ [])
-                ((more ++ key_tuple keys r ∷ []) ++ map (key_tuple keys) records) entered_alike
-                (once_old tuple_cmp tuple_cmp_total tuple_tells (map group_tuple list)
-                (more ++ map (key_tuple keys) records) (key_tuple keys r) h.once there.2);
-            wide = h.wide;
-            states = h.states;
-          };
-        }
+        let long = length-map list group_tuple in
+        elim stands [
+          | inl one ↦ absurd (omega (arith, one.behind, below, long))
+          | inr one ↦ record {
+            inside = below;
+            tuple = λ d. sym (get_or-map group_tuple list place d (group_tuple d) below) ∙ one.there (group_tuple d);
+            are = record {
+              known = one.known;
+              once = once_alike tuple_cmp tuple_cmp_total tuple_tells (map group_tuple list)
+                  ((more ++ map (key_tuple keys) records) ++ key_tuple keys r ∷ [])
+                  ((more ++ key_tuple keys r ∷ []) ++ map (key_tuple keys) records) entered_alike
+                  (once_old tuple_cmp tuple_cmp_total tuple_tells (map group_tuple list)
+                  (more ++ map (key_tuple keys) records) (key_tuple keys r) h.once one.had);
+              wide = h.wide;
+              states = h.states;
+            };
+          }
+        ]
 
-    pub entered_new : (new : Groups) (group : Group) (found : Option ℕ) (place : ℕ) → found ≡ None
-        → ((texts : List (List ℕ)) → AreKnown groups.places texts → found ≡ place_in texts text)
-        → ((texts : List (List ℕ)) → AreKnown groups.places texts → place_in texts text ≡ None
-        → AreKnown new.places (texts ++ text ∷ []))
+    pub entered_new : (new : Groups) (group : Group) → length groups.list.items ≤ place → new.places ≡ places
         → new.list.items ≡ groups.list.items ++ group ∷ [] → group_tuple group ≡ key_tuple keys r
-        → AreStates statistics group.states.items [] → place ≡ length groups.list.items
+        → AreStates statistics group.states.items []
         → IsEnteredIn keys statistics new (more ++ key_tuple keys r ∷ []) records r place
-    unfolding tuple tuples
-    entered_new new group found place none answers adds pushed same states at =
+    unfolding tuple
+    entered_new new group above kept pushed same states =
         let list = groups.list.items in
         let t = key_tuple keys r in
         let before = map group_tuple list in
-        let free : place_in (map tuple_text before) text ≡ None =
-        sym (answers (map tuple_text before) h.known) ∙ none in
-        let gone : count tuple_cmp t before ≡ 0 = tuple_new before t (ap (place_in (map tuple_text before)) (sym is) ∙ free) in
-        let made : map group_tuple new.list.items ≡ before ++ t ∷ [] =
-        ap (map group_tuple) pushed ∙ map_push group_tuple list group ∙ ap (λ u. before ++ u ∷ []) same in
-        let had = h.once.each t in
-        let split = count_joined (λ u. is_eq (tuple_cmp t u)) more (map (key_tuple keys) records) in
-        let empty : members keys records t ≡ [] = members_none keys records t (omega arith) in
-        let long : length new.list.items ≡ length list + 1 = ap length pushed ∙ length-append list (group ∷ []) in
-        record {
-          inside = omega arith;
-          tuple = λ d. ap group_tuple (ap (λ l. get_or l place d) pushed ∙ get_last list group place d at) ∙ same;
-          are = record {
-            known = subst (λ l. AreKnown new.places (map tuple_text l)) (sym made)
-                (known_more new.places before t text is (adds (map tuple_text before) h.known free));
-            once = subst (λ l. HasEachOnce tuple_cmp l ((more ++ t ∷ []) ++ map (key_tuple keys) records)) (sym made)
-                (once_alike tuple_cmp tuple_cmp_total tuple_tells (before ++ t ∷ [])
-                ((more ++ map (key_tuple keys) records) ++ t ∷ []) ((more ++ t ∷ []) ++ map (key_tuple keys) records)
-                entered_alike
-                (once_new tuple_cmp tuple_cmp_total tuple_tells before (more ++ map (key_tuple keys) records) t h.once gone));
-            wide = subst (HaveLength (length keys)) (sym made)
-                (wide_more (length keys) before t h.wide (length-map keys _) short);
-            states = λ k d within. elim (cases_eq k place) [
-              | inl e ↦
-                  let one : get_or new.list.items k d ≡ group =
-                  ap (λ l. get_or l k d) pushed ∙ get_last list group k d (e ∙ at) in
-                  subst (λ g. AreStates statistics g.states.items (members keys records (group_tuple g))) (sym one)
-                  (subst (λ u. AreStates statistics group.states.items (members keys records u)) (sym same)
-                  (subst (AreStates statistics group.states.items) (sym empty) states))
-              | inr ne ↦
-                  let below : k < length list = omega (arith, ne) in
-                  let one : get_or new.list.items k d ≡ get_or list k d =
-                  ap (λ l. get_or l k d) pushed ∙ get_front list (group ∷ []) k d below in
-                  subst (λ g. AreStates statistics g.states.items (members keys records (group_tuple g))) (sym one)
-                  (h.states k d below)
-            ];
-          };
-        }
+        let width = length-map list group_tuple in
+        elim stands [
+          | inr one ↦ absurd (omega (arith, one.inside, above, width))
+          | inl one ↦
+              let at : place ≡ length list = omega (arith, one.behind, width) in
+              let made : map group_tuple new.list.items ≡ before ++ t ∷ [] =
+              ap (map group_tuple) pushed ∙ map_push group_tuple list group ∙ ap (λ u. before ++ u ∷ []) same in
+              let had = h.once.each t in
+              let split = count_joined (λ u. is_eq (tuple_cmp t u)) more (map (key_tuple keys) records) in
+              let empty : members keys records t ≡ [] =
+              members_none keys records t (omega (arith, had, split, one.free)) in
+              let long : length new.list.items ≡ length list + 1 = ap length pushed ∙ length-append list (group ∷ []) in
+              record {
+                inside = omega arith;
+                tuple = λ d. ap group_tuple (ap (λ l. get_or l place d) pushed ∙ get_last list group place d at) ∙ same;
+                are = record {
+                  known = subst (λ p. AreKnown p (map tuple_text (map group_tuple new.list.items))) (sym kept)
+                      (subst (λ l. AreKnown places (map tuple_text l)) (sym made) one.known);
+                  once = subst (λ l. HasEachOnce tuple_cmp l ((more ++ t ∷ []) ++ map (key_tuple keys) records)) (sym made)
+                      (once_alike tuple_cmp tuple_cmp_total tuple_tells (before ++ t ∷ [])
+                      ((more ++ map (key_tuple keys) records) ++ t ∷ [])
+                      ((more ++ t ∷ []) ++ map (key_tuple keys) records) entered_alike
+                      (once_new tuple_cmp tuple_cmp_total tuple_tells before (more ++ map (key_tuple keys) records) t
+                      h.once one.free));
+                  wide = subst (HaveLength (length keys)) (sym made)
+                      (wide_more (length keys) before t h.wide (length-map keys (key_value r)) short);
+                  states = λ k d within. elim (cases_eq k place) [
+                    | inl e ↦
+                        let one_is : get_or new.list.items k d ≡ group =
+                        ap (λ l. get_or l k d) pushed ∙ get_last list group k d (e ∙ at) in
+                        subst (λ g. AreStates statistics g.states.items (members keys records (group_tuple g)))
+                        (sym one_is)
+                        (subst (λ u. AreStates statistics group.states.items (members keys records u)) (sym same)
+                        (subst (AreStates statistics group.states.items) (sym empty) states))
+                    | inr ne ↦
+                        let below : k < length list = omega (arith, ne) in
+                        let one_is : get_or new.list.items k d ≡ get_or list k d =
+                        ap (λ l. get_or l k d) pushed ∙ get_front list (group ∷ []) k d below in
+                        subst (λ g. AreStates statistics g.states.items (members keys records (group_tuple g)))
+                        (sym one_is) (h.states k d below)
+                  ];
+                };
+              }
+        ]
 
   -- ---- the group takes the record
 

@@ -2,13 +2,13 @@
 use Rattle.std.specs.Prelude.{◌≡◌, ℕ, ◌^◌, ◌&&◌, List, [], ◌∷◌, map, zip, decimal, ℤ, pos, neg_ℤ, int_le, int_lt}
 use Rattle.std.specs.Prelude.{Option, Some, None, Result, Ok, Err, if◌then◌else◌}
 use Rattle.std.specs.Fmt.{signed_decimal}
-use Rattle.std.specs.HashMap.{hash_map_len}
 use Rattle.log_model.specs.Order.{value_cmp}
 use Rattle.lq_ast.specs.Grouping.{◌>>=◌, put}
 use Rattle.lq_ast.specs.Records.{Record, put_fields}
 use Rattle.lq_ast.specs.Stage.{GroupBy, Statistic}
 use Rattle.lq_ast.specs.Statistics.{array_text}
 use Rattle.lq_ast.specs.Tuples.{sorted_by}
+use Rattle.lq_tuple.specs.Texts.{count_of}
 use Rattle.lq_stats.specs.declared.fault.StatFault.{StatFault}
 use Rattle.lq_stats.specs.declared.fault.StatFault.TheVariants.{Overflow, Memory}
 use Rattle.lq_stats.specs.declared.keyed.Keyed.{Keyed}
@@ -35,7 +35,7 @@ measure_text (UniqValues words) = Some (array_text (sorted_by value_cmp words.wo
 abbrev pub state_text : State → Option (List ℕ)
 state_text (Count number) = Some (decimal number)
 state_text (CountEmpty number) = Some (decimal number)
-state_text (CountUniq places) = Some (decimal (hash_map_len places.numbers))
+state_text (CountUniq texts) = Some (decimal (count_of texts))
 state_text (OfValues measure) = measure_text measure
 
 -- The values are set from left to right. The first that is no text gives its name.

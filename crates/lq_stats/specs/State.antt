@@ -18,15 +18,15 @@ is_nil (name ∷ names) = false
 abbrev pub state_call : State → Call
 state_call (Count number) = call.Count
 state_call (CountEmpty number) = call.CountEmpty
-state_call (CountUniq places) = call.CountUniq
+state_call (CountUniq texts) = call.CountUniq
 state_call (OfValues measure) = measure_call measure
 
 -- The state is what the function of these fields keeps of the records.
 abbrev pub AreTaken : List (List ℕ) → State → List Record → Type 0
 AreTaken names (Count number) records = number ≡ counted names records
 AreTaken names (CountEmpty number) records = number ≡ length (filter (λ r. not (has_some names r)) records)
-AreTaken names (CountUniq places) records =
-    AreCounted places (length names) (filter (λ tuple. not (is_wholly_empty tuple)) (map (tuple_of names) records))
+AreTaken names (CountUniq texts) records =
+    AreCounted texts (length names) (filter (λ tuple. not (is_wholly_empty tuple)) (map (tuple_of names) records))
 AreTaken names (OfValues measure) records = AreMeasured measure (values names records)
 
 -- The new state is that of one more record, if these were fewer than 2^32.

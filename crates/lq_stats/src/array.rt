@@ -1,5 +1,5 @@
 //! JSON arrays of texts.
-ghost use Rattle.std.specs.Prelude.{◌≡◌, ◌++◌, [], ◌∷◌, IfOk, OnOk, map, string_bytes};
+ghost use Rattle.std.specs.Prelude.{◌≡◌, ◌++◌, ◌∷◌, IfOk, OnOk, map, string_bytes};
 ghost use Rattle.json.specs.Print.{quoted};
 ghost use Rattle.lq_ast.specs.Statistics.{array_text};
 

@@ -8,7 +8,7 @@ ghost use Rattle.lq_ast.specs.Records.{put_field, put_fields};
 ghost use Rattle.lq_stats.specs.Key.{grouped_by};
 ghost use Rattle.lq_ast.specs.Tuples.{sorted_by, tuple_cmp};
 ghost use Rattle.log_model.specs.Order.{value_cmp};
-ghost use Rattle.lq_stats.specs.Finish.{IsFault, keyed_group, made_record, measure_text, set_states, state_text};
+ghost use Rattle.lq_stats.specs.Finish.{IsFault, keyed_group, made_record, measure_text, state_text};
 ghost use Rattle.lq_stats.specs.Finish.{total_text};
 ghost use Rattle.lq_stats.specs.Function.{statistic_of};
 ghost use Rattle.lq_stats.specs.Groups.{group_tuple};
@@ -135,7 +135,7 @@ impl State {
     {
         match self {
             State::Count(number) | State::CountEmpty(number) => Ok(Some(decimal(alloc, *number)?)),
-            State::CountUniq(places) => Ok(Some(decimal(alloc, places.len() as u64)?)),
+            State::CountUniq(texts) => Ok(Some(decimal(alloc, texts.len() as u64)?)),
             State::OfValues(measure) => measure.text(alloc),
         }
     }

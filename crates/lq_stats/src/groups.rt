@@ -157,12 +157,11 @@ impl Groups {
     {
         let alloc = scratch.alloc;
         let text = scratch.key_text(keys, fields)?;
-        if let Some(place) = self.places.place_of(text) {
+        let place = self.places.place(alloc, text)?;
+        if place < self.list.len() {
             return Ok(place);
         }
-        self.places.add(alloc, text)?;
         let group = Group::of(scratch, keys, scans, fields)?;
-        let place = self.list.len();
         self.list.push(group)?;
         Ok(place)
     }

@@ -1,8 +1,6 @@
 //! What some functions keep of the values that they are given.
 ghost use Rattle.std.specs.Prelude.{◌≡◌, ◌<◌, ◌^◌, ◌++◌, [], ◌∷◌, List, ℕ, length, OnOk, if◌then◌else◌};
-ghost use Rattle.std.specs.Ordering.{is_lt, is_gt};
 ghost use Rattle.log_model.specs.Field.{is_empty};
-ghost use Rattle.log_model.specs.Order.{value_cmp};
 ghost use Rattle.lq_stats.specs.Measure.{AreMeasured, measure_call};
 ghost use Rattle.lq_stats.specs.Measure as spec;
 ghost use Rattle.lq_stats.specs.Words.{AreWords};

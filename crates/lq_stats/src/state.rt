@@ -1,6 +1,6 @@
 //! What functions keep of the records that they are given.
-ghost use Rattle.std.specs.Prelude.{◌≡◌, ◌<◌, ◌+◌, ◌-◌, ◌^◌, ◌||◌, min, ◌++◌, [], ◌∷◌, List, ℕ, length, OnOk, if◌then◌else◌};
-ghost use Rattle.lq_ast.specs.Records.{Record};
+ghost use Rattle.std.specs.Prelude.{◌≡◌, ◌<◌, ◌+◌, ◌-◌, ◌^◌, ◌||◌, ◌++◌, [], ◌∷◌, List, ℕ, OnOk, length, min};
+ghost use Rattle.std.specs.Prelude.{if◌then◌else◌};
 ghost use Rattle.lq_ast.specs.Statistics.{has_some};
 ghost use Rattle.lq_ast.specs.Tuples.{Tuple, tuple_of};
 ghost use Rattle.lq_tuple.specs.Counted.{AreCounted};
@@ -11,7 +11,7 @@ use crate::measure::Measure;
 use crate::scratch::Scratch;
 use crate::words::Words;
 use lq_ast::Call;
-use lq_tuple::{Places, is_wholly_empty, tuple_text};
+use lq_tuple::{Texts, is_wholly_empty, tuple_text};
 use std::alloc::{AllocError, Global};
 use vl_row::{FieldList, Text};
 
@@ -23,7 +23,7 @@ pub(crate) enum State {
     /// How many records have none of the fields.
     CountEmpty(u64),
     /// The tuples of values, but the one that is wholly empty.
-    CountUniq(Places),
+    CountUniq(Texts),
     /// A state over the values of the fields.
     OfValues(Measure),
 }
@@ -37,7 +37,7 @@ impl State {
         match call {
             Call::Count => State::Count(0),
             Call::CountEmpty => State::CountEmpty(0),
-            Call::CountUniq => State::CountUniq(Places::new(alloc)),
+            Call::CountUniq => State::CountUniq(Texts::new(alloc)),
             Call::Sum => State::OfValues(Measure::Sum(None)),
             Call::Min => State::OfValues(Measure::Min(Text::new())),
             Call::Max => State::OfValues(Measure::Max(Text::new())),
@@ -65,7 +65,7 @@ impl State {
                 *number = with_one(*number, !has_some(names, fields));
                 Ok(())
             }
-            State::CountUniq(places) => count_tuple(places, scratch, names, fields),
+            State::CountUniq(texts) => count_tuple(texts, scratch, names, fields),
             State::OfValues(measure) => add_values(measure, scratch.alloc, names, fields),
         }
     }
@@ -94,13 +94,13 @@ fn has_some(names: &[Text], fields: &FieldList) -> bool
 
 /// Adds the tuple of these fields, if it is new and not wholly empty.
 fn count_tuple(
-    places: &mut Places,
+    texts: &mut Texts,
     scratch: &mut Scratch,
     names: &[Text],
     fields: &FieldList,
 ) -> Result<(), AllocError>
-    ensures { OnOk result ((tuples : List Tuple) → AreCounted places.old (length names.now) tuples
-        → AreCounted places.new (length names.now)
+    ensures { OnOk result ((tuples : List Tuple) → AreCounted texts.old (length names.now) tuples
+        → AreCounted texts.new (length names.now)
         (if has_some names.now fields.now then tuples ++ tuple_of names.now fields.now ∷ [] else tuples)) }
 {
     if !has_some(names, fields) {
@@ -108,10 +108,7 @@ fn count_tuple(
     }
     let alloc = scratch.alloc;
     let text = tuple_text(&mut scratch.text, names, fields)?;
-    if places.place_of(text).is_none() {
-        places.add(alloc, text)?;
-    }
-    Ok(())
+    texts.add(alloc, text)
 }
 
 /// Takes the value of each of these fields.

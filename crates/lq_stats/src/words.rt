@@ -29,11 +29,10 @@ impl Words {
         ensures { OnOk result ((texts : List (List ℕ)) → AreWords self.old texts
             → AreWords self.new (texts ++ text.now ∷ [])) }
     {
-        if self.places.place_of(text).is_some() {
-            return Ok(());
+        let place = self.places.place(alloc, text)?;
+        if place >= self.words.len() {
+            self.words.push(Text::try_of(alloc, text)?)?;
         }
-        self.places.add(alloc, text)?;
-        self.words.push(Text::try_of(alloc, text)?)?;
         Ok(())
     }
 }

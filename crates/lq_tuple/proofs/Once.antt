@@ -79,6 +79,27 @@ count_filtered p keep (x ∷ xs) =
     at true more = count_cons p x (filter keep xs) ∙ ap (λ n. cond (p x) 1 0 + n) more
     at false more = let e = more in omega arith
 
+pub all_filtered : {A : Type 0} (P : A → Type 0) (test : A → Bool) (xs : List A) → AllByRecursion P xs
+    → AllByRecursion P (filter test xs)
+all_filtered P test [] h = tt
+all_filtered P test (x ∷ xs) h =
+    let more = all_filtered P test xs h.1 in
+    elim (test x) as (λ t. AllByRecursion P (cond t (x ∷ filter test xs) (filter test xs))) [
+      | true ↦ (h.0, more)
+      | false ↦ more
+    ]
+
+module _ {A : Type 0} (order : A → A → Ordering) (total : IsTotalOrder order) where
+  pub rises_filtered : (keep : A → Bool) (xs : List A) → Rises order total xs → Rises order total (filter keep xs)
+  unfolding Rises
+  rises_filtered keep [] up = up
+  rises_filtered keep (x ∷ xs) up =
+      let more = rises_filtered keep xs up.1 in
+      elim (keep x) as (λ t. Rises order total (cond t (x ∷ filter keep xs) (filter keep xs))) [
+        | true ↦ (all_filtered (λ y. is_gt (order x y) ≡ false) keep xs up.0, more)
+        | false ↦ more
+      ]
+
 module _ {A : Type 0} (order : A → A → Ordering) (total : IsTotalOrder order) (tells : (x y : A) → is_eq (order x y)
     ≡ true → x ≡ y) where
   pub itself : (x : A) → is_eq (order x x) ≡ true
@@ -285,7 +306,7 @@ module _ {A : Type 0} (order : A → A → Ordering) (total : IsTotalOrder order
 
   -- ---- the items that pass a test
 
-  kept_count : (keep : A → Bool) (x : A) (xs : List A)
+  pub kept_count : (keep : A → Bool) (x : A) (xs : List A)
       → count order x (filter keep xs) ≡ cond (keep x) (count order x xs) 0
   kept_count keep x xs =
       count_filtered (λ y. is_eq (order x y)) keep xs
@@ -311,6 +332,23 @@ module _ {A : Type 0} (order : A → A → Ordering) (total : IsTotalOrder order
       → count order x (filter keep ys) ≡ count order x (filter keep zs)
   filtered_same keep ys zs same x =
       kept_count keep x ys ∙ ap (λ n. cond (keep x) n 0) (same x) ∙ sym (kept_count keep x zs)
+
+  -- the different items that pass a test, in order
+  pub once_kept_sorted : (keep : A → Bool) (some all : List A) → HasEachOnce order some (filter keep all)
+      → sorted_by order some ≡ filter keep (distinct_by order all)
+  once_kept_sorted keep some all h =
+      once_sorted some (filter keep all) h
+      ∙ rises_same order total (distinct_by order (filter keep all)) (filter keep (distinct_by order all))
+      (kept_rises (sorted_by order (filter keep all)) (rises_sorted order total (filter keep all)))
+      (rises_filtered order total keep (distinct_by order all) (kept_rises (sorted_by order all) (rises_sorted order total all)))
+      (λ x. filters_same x (distinct_by order (filter keep all)) (filter keep (distinct_by order all))
+      (distinct_counts x (filter keep all) ∙ ap (min 1) (kept_count keep x all)
+      ∙ least (keep x) (count order x all) ∙ ap (λ n. cond (keep x) n 0) (sym (distinct_counts x all))
+      ∙ sym (kept_count keep x (distinct_by order all))))
+    where
+      least : (t : Bool) (n : ℕ) → min 1 (cond t n 0) ≡ cond t (min 1 n) 0
+      least true n = refl
+      least false n = refl
 
   -- how many different items pass a test
   pub once_kept : (keep : A → Bool) (some all : List A) → HasEachOnce order some (filter keep all)

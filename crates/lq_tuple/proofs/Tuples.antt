@@ -43,7 +43,7 @@ tuple_tells (x ∷ xs) (y ∷ ys) e =
 
 -- ---- tuples of one length have different texts
 
-digits_end : (n : ℕ) → n < 2 ^ 64 → (i : ℕ) → i < length (decimal n) → get_or (decimal n) i 0 ≤ 57
+pub digits_end : (n : ℕ) → n < 2 ^ 64 → (i : ℕ) → i < length (decimal n) → get_or (decimal n) i 0 ≤ 57
 digits_end n small i within =
     (digit_at (decimal n) i (digits_decimal (numerals_by_value _ tells_digits) n small) within).1
 

@@ -1,3 +1,5 @@
 pub mod Counted
 pub mod Once
 pub mod Places
+pub mod Plain
+pub mod Texts

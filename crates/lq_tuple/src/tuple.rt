@@ -27,17 +27,6 @@ fn is_missing(name: &str, fields: &FieldList) -> bool
     fields.get(name).is_empty()
 }
 
-/// The values of these fields.
-pub fn values(alloc: Global, names: &[Text], fields: &FieldList) -> Result<Vec<Text>, AllocError>
-    ensures { IfOk result (λ values. values.items ≡ tuple_of names.now fields.now) }
-{
-    let mut values = Vec::with_capacity(alloc, names.len())?;
-    for name in names {
-        values.push(Text::try_of(alloc, fields.get(name.as_str()))?)?;
-    }
-    Ok(values)
-}
-
 /// What these values are compared by.
 pub fn value_keys<'a>(alloc: Global, tuple: &'a [Text]) -> Result<Vec<ValueKey<'a>>, AllocError>
     ensures { IfOk result (λ keys. keys.items ≡ map key_of tuple.entry.now) }

@@ -1,30 +1,30 @@
 //! Tuples in a small notation.
-use lq_tuple::{Places, is_wholly_empty, tuple_text};
+use lq_tuple::{Places, Texts, is_wholly_empty, read_tuple, tuple_text};
 use std::alloc::{AllocError, Global};
 use vl_row::{FieldList, Text};
 
-/// The text of the tuple of a case, its number, and whether the tuple is wholly empty.
-pub fn answer(alloc: Global, case: &str, places: &mut Places) -> Result<String, AllocError> {
+/// The text of the tuple of a case, its number, the values that are read back, and whether the tuple is wholly empty.
+pub fn answer(
+    alloc: Global,
+    case: &str,
+    places: &mut Places,
+    texts: &mut Texts,
+) -> Result<String, AllocError> {
     let (names, fields) = case.split_once('\t').unwrap_or((case, ""));
     let names = texts_of(alloc, names)?;
     let fields = fields_of(alloc, fields)?;
     let mut scratch = String::new(alloc);
     let text = tuple_text(&mut scratch, names.as_slice(), &fields)?;
-    let number = number_of(alloc, places, text)?;
+    texts.add(alloc, text)?;
+    let number = places.place(alloc, text)?;
+    let mut answer = format!(in alloc; "{number} {text} ")?;
+    for value in read_tuple(alloc, text, names.len())? {
+        write!(answer, "[{}]", value.as_str())?;
+    }
     if is_wholly_empty(names.as_slice(), &fields) {
-        return format!(in alloc; "{number} {text} empty");
+        answer.push_str(" empty")?;
     }
-    format!(in alloc; "{number} {text}")
-}
-
-/// The number of a text, which is added where it is new.
-fn number_of(alloc: Global, places: &mut Places, text: &str) -> Result<usize, AllocError> {
-    if let Some(number) = places.place_of(text) {
-        return Ok(number);
-    }
-    let number = places.len();
-    places.add(alloc, text)?;
-    Ok(number)
+    Ok(answer)
 }
 
 fn texts_of(alloc: Global, names: &str) -> Result<Vec<Text>, AllocError> {

@@ -2,7 +2,7 @@ use Rattle.std.proofs.Common.{◌≡◌, ◌∙◌, ap, cond, length, map, sym, 
 use Rattle.std.proofs.lemmas.List.{length-map, map_push}
 use Rattle.std.proofs.lemmas.Map.Text.{hash_map_updates_str}
 use Rattle.std.specs.HashMap.{get_by}
-use Rattle.lq_order.specs.Dictionary.{AreKnown}
+use Rattle.lq_order.specs.Dictionary.{AreAtWords}
 use Rattle.lq_order.proofs.Dictionaries.{entered_found, known_pushed}
 use Rattle.lq_order.proofs.dictionary.entered.Goals as goal
 
@@ -24,5 +24,5 @@ returns-clause-known c =
     c.in_ok-insert.ensures.updates q
     ∙ ap (λ n. cond (bytes_eq text q) (Some n) (get_by (λ key. bytes_eq q key.now) c.args.places.now)) long)
     c.requires in
-    subst (AreKnown c.insert.new.self) (sym (ap (map (λ word. word.now)) c.in_ok-push.ensures.items
+    subst (AreAtWords c.insert.new.self) (sym (ap (map (λ word. word.now)) c.in_ok-push.ensures.items
     ∙ map_push (λ word. word.now) words c.args.text)) all

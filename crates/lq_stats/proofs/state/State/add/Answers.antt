@@ -38,7 +38,7 @@ returns-in-CountUniq-clause-taken c = on_ok_weaker c.count_tuple.result
     (λ kept records few h.
     let names = c.args.names.now in
     let old = rw c.in-CountUniq.is at h in
-    subst (AreCounted c.count_tuple.new.places (length names)) (sym (tuples_more names records c.args.fields.now))
+    subst (AreCounted c.count_tuple.new.texts (length names)) (sym (tuples_more names records c.args.fields.now))
     (kept _ old)) c.count_tuple.ensures
 
 pub returns-in-OfValues-clause-taken : goal.returns-in-OfValues-clause-taken

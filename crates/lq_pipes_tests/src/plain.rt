@@ -1,4 +1,4 @@
-//! The plain program: what the crate computes, in the plainest way. It is slow, and there to be compared with.
+//! The lines of rows, in the plainest way. It is slow, and there to be compared with.
 ghost use Rattle.std.specs.Prelude.{◌≡◌, [], ◌∷◌, ◌++◌, cond, IfOk, OnOk, OnErr, string_bytes};
 ghost use Rattle.log_model.specs.Print.{line_text, member_text};
 ghost use Rattle.log_model.specs.Row.{record_of};
@@ -9,7 +9,7 @@ use time_text::plain::write_moment;
 use vl_row::{Field, FieldList, Row, Text};
 
 /// Appends the row's record as one JSON object with its keys in byte order, and a line feed.
-pub fn write_row(alloc: Global, row: &Row, out: &mut Vec<u8>) -> Result<(), AllocError>
+pub(crate) fn write_row(alloc: Global, row: &Row, out: &mut Vec<u8>) -> Result<(), AllocError>
     ensures ok { OnOk result (out.new.items ≡ out.old.items ++ line_text (record_of row.now)) }
     ensures err { OnErr result (out.new.items ≡ out.old.items) }
 {
