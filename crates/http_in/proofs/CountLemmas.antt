@@ -1,24 +1,25 @@
 -- How many lines heads and sections have.
-use Rattle.std.proofs.Common.{◌≡◌, ◌⊎◌, ℕ, ◌+◌, ◌<◌, ◌≤◌, Bool, true, false, ◌&&◌, cond, List, [], ◌∷◌}
-use Rattle.std.proofs.Common.{◌++◌, take, drop, length, get_or, refl, ap, sym, subst, ◌∙◌, inl, inr, arith}
+use Rattle.std.proofs.Common.{◌≡◌, ℕ, ◌+◌, ◌<◌, ◌≤◌, Bool, true, false, ◌&&◌, cond, List, [], ◌∷◌}
+use Rattle.std.proofs.Common.{◌++◌, take, drop, length, get_or, refl, ap, sym, ◌∙◌, arith}
 use Rattle.std.proofs.Common.{append_assoc}
+use Rattle.std.proofs.Math.Seq.{get_or-append_seam}
 use Rattle.std.proofs.Common.{append-nil, length-append}
-use Rattle.std.specs.Prelude.{not, ◌==◌, All, IsTrue, codes, flat_map, nat_lt}
+use Rattle.std.specs.Prelude.{not, ◌==◌, All, IsTrue, codes, flat_map}
 use Rattle.std.specs.List.{AllByRecursion}
 use Rattle.std.proofs.lemmas.Bool.Decides.{nat_tests}
-use Rattle.std.proofs.lemmas.Grind.{flat_map-append}
-use Rattle.std.proofs.lemmas.List.{length-drop, length-take, same_from_push, take-append-drop, take-append-le}
+use Rattle.std.proofs.lemmas.List.{same_from_push, take-append-drop}
 use Rattle.std.proofs.lemmas.List.{take-take, take_more}
 use Rattle.std.proofs.lemmas.List.{take_at}
-use Rattle.std.proofs.lemmas.List.Elements.{All-drop, All-head, All-push, All-tail, All-take, recursion_from_All}
+use Rattle.std.proofs.lemmas.List.Elements.{All-head, All-tail, recursion_from_All}
 use Rattle.httparse.specs.Ascii.{carriage_return, colon, line_feed, space}
 use Rattle.httparse.specs.Grammar.{AllPass, EndsInTarget, Field, IsField, IsRequestHead, IsToken, LineEnd}
-use Rattle.httparse.specs.Grammar.{MayBecomeRequest}
-use Rattle.httparse.specs.Grammar.{MayBecomeSection, RequestHead, crlf, is_token_byte, is_uri_byte}
+use Rattle.httparse.specs.Grammar.{RequestHead, crlf, is_token_byte, is_uri_byte}
 use Rattle.httparse.specs.Grammar.{is_value_byte}
 use Rattle.httparse.specs.Grammar.{lf, print_blank, print_end, print_field, print_request, print_section, print_version}
 use Rattle.httparse.specs.Spans.{RequestExceeds, SectionExceeds}
 use Rattle.httparse.proofs.GrammarLemmas.{print_request-append}
+use Rattle.http_in.specs.Lacks.{EndsHead}
+use Rattle.http_in.specs.Message.{BeginsHead}
 use Rattle.http_in.specs.Lines.{EndsLine, begins_line, begun_after, ends_line, lines_from, lines_in}
 
 add_to : (e t r s : ℕ) → t ≡ r + s → e + t ≡ e + r + s
@@ -71,6 +72,14 @@ pub begun_more : (bytes : List ℕ) (i : ℕ) → i < length bytes
     → begun_after false (take (i + 1) bytes) ≡ begins_line (begun_after false (take i bytes)) (get_or bytes i 0)
 begun_more bytes i inside =
     ap (begun_after false) (take_more bytes i 0 inside) ∙ begun_append false (take i bytes) (get_or bytes i 0 ∷ [])
+
+-- a line feed ends one line at most
+pub lines_feed : (bytes : List ℕ) → lines_in (bytes ++ 10 ∷ []) ≤ lines_in bytes + 1
+lines_feed bytes = omega (arith, lines_append false bytes (10 ∷ []), one (begun_after false bytes))
+  where
+    one : (begun : Bool) → lines_from begun (10 ∷ []) ≤ 1
+    one true = omega arith
+    one false = omega arith
 
 -- ---- bytes with no line feed
 
@@ -346,216 +355,9 @@ whole_section_lines fields last all =
     let end = lines_then false false (flat_map print_field fields) (print_end last) (fields_after fields) in
     omega (arith, end, blank_end last, fields_lines fields all)
 
--- ---- too many fields, from too many lines
+-- ---- inside a target
 
--- the field line that is one too many ends in the bytes
-pub record HasMore (start buf : List ℕ) (fields : List Field) (room : ℕ) : Type 0 where
-  pub over : Field
-  pub is_field : IsField over
-  pub rest : List ℕ
-  pub begins : buf ≡ (start ++ flat_map print_field (take room fields ++ over ∷ [])) ++ rest
-  pub count : room < length (take room fields ++ over ∷ [])
-
--- bytes that are the front of others are longer than theirs, or a front of them
-front_or : (c more a b : List ℕ) → a ++ b ≡ c ++ 10 ∷ more
-    → ((rest : List ℕ) × (a ≡ (c ++ 10 ∷ []) ++ rest)) ⊎ (a ≡ take (length a) c)
-front_or c more a b e = by_test (nat_lt (length c) (length a)) refl
-  where
-    front : a ≡ take (length a) (c ++ 10 ∷ more)
-    front = sym (take_at a b (length a) refl) ∙ ap (take (length a)) e
-
-    by_test : (t : Bool) → nat_lt (length c) (length a) ≡ t
-        → ((rest : List ℕ) × (a ≡ (c ++ 10 ∷ []) ++ rest)) ⊎ (a ≡ take (length a) c)
-    by_test true is =
-        let longer : length c < length a = grind (arith, nat_tests) in
-        let n = length (c ++ 10 ∷ []) in
-        let fits : n ≤ length a = omega (arith, length-append c (10 ∷ []), longer) in
-        let whole : c ++ 10 ∷ more ≡ (c ++ 10 ∷ []) ++ more = sym (append_assoc c (10 ∷ []) more) in
-        let same : take n a ≡ c ++ 10 ∷ [] =
-        sym (take-append-le n a b fits) ∙ ap (take n) (e ∙ whole) ∙ take_at (c ++ 10 ∷ []) more n refl in
-        inl (drop n a, sym (take-append-drop n a) ∙ ap (λ l. l ++ drop n a) same)
-    by_test false is =
-        let shorter : length a ≤ length c = grind (arith, nat_tests) in
-        inr (front ∙ take-append-le (length a) c (10 ∷ more) shorter)
-
--- a line end, up to its line feed
-abbrev feed_front : LineEnd → List ℕ
-feed_front crlf = 13 ∷ []
-feed_front lf = []
-
-feed_is : (end : LineEnd) → print_end end ≡ feed_front end ++ 10 ∷ []
-feed_is crlf = refl
-feed_is lf = refl
-
-feed_lines : (end : LineEnd) → lines_from true (feed_front end) ≡ 0
-feed_lines crlf = refl
-feed_lines lf = refl
-
--- ---- the field line that is one too many
-
-regroup : (s b t r o q z : List ℕ)
-    → (s ++ (b ++ ((t ++ (r ++ o)) ++ q))) ++ z ≡ ((s ++ b) ++ (t ++ r)) ++ (o ++ (q ++ z))
-regroup s b t r o q z = simp append_assoc
-
-regroup_short : (s b t r o : List ℕ) → ((s ++ b) ++ (t ++ r)) ++ o ≡ s ++ (b ++ ((t ++ (r ++ o)) ++ []))
-regroup_short s b t r o = simp (append_assoc, append-nil)
-
-field_split : (f : Field) → print_field f ≡ field_text f ++ (feed_front f.end ++ 10 ∷ [])
-field_split f = field_is f ∙ ap (λ l. field_text f ++ l) (feed_is f.end)
-
-fields_split : (before later : List Field) (f : Field) → flat_map print_field (before ++ f ∷ later)
-    ≡ flat_map print_field before ++ ((field_text f ++ (feed_front f.end ++ 10 ∷ [])) ++ flat_map print_field later)
-fields_split before later f =
-    flat_map-append print_field before (f ∷ later)
-    ∙ ap (λ l. flat_map print_field before ++ (l ++ flat_map print_field later)) (field_split f)
-
--- the bytes before the line feed of that line
-over_text : List ℕ → List Field → Field → List ℕ
-over_text start before f = (start ++ flat_map print_field before) ++ (field_text f ++ feed_front f.end)
-
-over_lines : (start : List ℕ) (lines : ℕ) (before : List Field) (f : Field) → IsStart start lines → All IsField before
-    → IsField f → lines_in (over_text start before f) ≡ lines + length before
-unfolding over_text
-over_lines start lines before f is all is_field =
-    let front : List ℕ = start ++ flat_map print_field before in
-    let text : List ℕ = field_text f in
-    let both = lines_then false false front (text ++ feed_front f.end) (started_after start lines before is) in
-    let line = lines_then false true text (feed_front f.end) (field_begun false f is_field) in
-    let quiet = quiet_lines false text (field_quiet f is_field) in
-    omega (arith, both, line, quiet, feed_lines f.end, started_lines start lines before is all)
-
-pub has_more : (start : List ℕ) (lines : ℕ) (fields : List Field) (buf more : List ℕ) (last : LineEnd) (room : ℕ)
-    → IsStart start lines → All IsField fields → buf ++ more ≡ (start ++ flat_map print_field fields) ++ print_end last
-    → lines + room < lines_in buf → HasMore start buf fields room
-unfolding over_text
-has_more start lines fields buf more last room is all e many = by_rest (drop room fields) refl
-  where
-    text : List ℕ
-    text = start ++ flat_map print_field fields
-
-    count : room < length fields
-    count =
-        let end = lines_then false false text (print_end last) (started_after start lines fields is) in
-        omega (
-          arith,
-          end,
-          blank_end last,
-          started_lines start lines fields is all,
-          lines_before buf more,
-          ap lines_in e,
-          many,
-        )
-
-    by_rest : (later : List Field) → drop room fields ≡ later → HasMore start buf fields room
-    by_rest [] none = absurd (omega (arith, count, ap length none, length-drop room fields))
-    by_rest (f ∷ later) some = by_front (front_or c q buf more whole)
-      where
-        c : List ℕ
-        c = over_text start (take room fields) f
-
-        q : List ℕ
-        q = flat_map print_field later ++ print_end last
-
-        is_field : IsField f
-        is_field = All-head IsField f later (subst (All IsField) some (All-drop IsField room fields all))
-
-        whole : buf ++ more ≡ c ++ 10 ∷ q
-        whole =
-            let split : fields ≡ take room fields ++ f ∷ later =
-            sym (take-append-drop room fields) ∙ ap (λ l. take room fields ++ l) some in
-            e ∙ ap (λ l. (start ++ flat_map print_field l) ++ print_end last) split
-            ∙ ap (λ l. (start ++ l) ++ print_end last) (fields_split (take room fields) later f)
-            ∙ regroup start (flat_map print_field (take room fields)) (field_text f) (feed_front f.end) (10 ∷ [])
-            (flat_map print_field later) (print_end last)
-
-        shown : c ++ 10 ∷ [] ≡ start ++ flat_map print_field (take room fields ++ f ∷ [])
-        shown =
-            regroup_short start (flat_map print_field (take room fields)) (field_text f) (feed_front f.end) (10 ∷ [])
-            ∙ ap (λ l. start ++ l) (sym (fields_split (take room fields) [] f))
-
-        by_front : ((rest : List ℕ) × (buf ≡ (c ++ 10 ∷ []) ++ rest)) ⊎ (buf ≡ take (length buf) c)
-            → HasMore start buf fields room
-        by_front (inl w) = record {
-          over = f;
-          is_field = is_field;
-          rest = w.0;
-          begins = w.1 ∙ ap (λ l. l ++ w.0) shown;
-          count = omega (arith, length-append (take room fields) (f ∷ []), length-take room fields, count);
-        }
-        by_front (inr short) =
-            let few : lines_in c ≡ lines + length (take room fields) =
-            over_lines start lines (take room fields) f is (All-take IsField room fields all) is_field in
-            let fewer = lines_before (take (length buf) c) (drop (length buf) c) in
-            let all_of : lines_in (take (length buf) c ++ drop (length buf) c) ≡ lines_in c =
-            ap lines_in (take-append-drop (length buf) c) in
-            absurd (omega (arith, few, fewer, all_of, ap lines_in short, many, length-take room fields))
-
-pub section_exceeds_many : (room : ℕ) (buf : List ℕ) → MayBecomeSection buf → room < lines_in buf
-    → SectionExceeds room buf
-section_exceeds_many room buf may many =
-    let fields = may.1 in
-    let all = may.3.0 in
-    let m = has_more [] 0 fields buf may.0 may.2 room no_start all (may.3.1 ∙ append-nil (print_section fields may.2))
-    (omega (arith, many)) in
-    let found : List Field = take room fields ++ m.over ∷ [] in (
-      flat_map print_field found,
-      m.rest,
-      m.begins,
-      found,
-      (
-        All-push IsField (take room fields) m.over (All-take IsField room fields all) m.is_field,
-        sym
-            (append-nil (print_section found lf)),
-      ),
-      m.count,
-    )
-
-same_start : (h : RequestHead) (fields : List Field)
-    → start_of h ≡ start_of (record {
-      blank = h.blank;
-      method = h.method;
-      target = h.target;
-      minor = h.minor;
-      line_end = h.line_end;
-      fields = fields;
-      last = lf;
-    })
-unfolding start_of start_text
-same_start h fields = refl
-
-request_exceeds : (room : ℕ) (buf : List ℕ) (h : RequestHead) → IsRequestHead h → HasMore (start_of h) buf h.fields room
-    → RequestExceeds room buf
-request_exceeds room buf h is m =
-    let found : List Field = take room h.fields ++ m.over ∷ [] in
-    let short : RequestHead = record {
-      blank = h.blank;
-      method = h.method;
-      target = h.target;
-      minor = h.minor;
-      line_end = h.line_end;
-      fields = found;
-      last = lf;
-    } in
-    let text : List ℕ = flat_map print_field found in (
-      start_of h ++ text,
-      m.rest,
-      m.begins,
-      short,
-      (
-        record {
-          method = is.method;
-          target = is.target;
-          target_text = is.target_text;
-          minor = is.minor;
-          fields = All-push IsField (take room h.fields) m.over (All-take IsField room h.fields is.fields) m.is_field;
-        },
-        append_assoc (start_of h) text (print_end lf) ∙ ap (λ l. l ++ (text ++ print_end lf)) (same_start h found)
-            ∙ sym (request_is short) ∙ sym (append-nil (print_request short)),
-      ),
-      m.count,
-    )
-
-in_target : (buf : List ℕ) → EndsInTarget buf → lines_in buf ≡ 0
+pub in_target : (buf : List ℕ) → EndsInTarget buf → lines_in buf ≡ 0
 in_target buf e =
     let line : List ℕ = e.1 ++ space ∷ e.2 in
     let quiet = quiet_append e.1 (space ∷ e.2) (quiet_from is_token_byte e.1 token_quiet e.3.1)
@@ -569,17 +371,63 @@ in_target buf e =
       quiet_lines false line quiet,
     )
 
-pub request_exceeds_many : (room : ℕ) (buf : List ℕ) → MayBecomeRequest buf → room + 1 < lines_in buf
-    → RequestExceeds room buf
-request_exceeds_many room buf (inl may) many =
-    let h = may.1 in
-    let is = may.2.0 in
-    let text : List ℕ = flat_map print_field h.fields in
-    request_exceeds room buf h is
-    (has_more (start_of h) 1 h.fields buf may.0 h.last room (is_start h is) is.fields
-    (may.2.1 ∙ append-nil (print_request h) ∙ request_is h ∙ sym (append_assoc (start_of h) text (print_end h.last)))
-    (omega (arith, many)))
-request_exceeds_many room buf (inr e) many = absurd (omega (arith, in_target buf e, many))
+-- ---- where a head ends
+
+-- a line end, up to its line feed
+abbrev feed_front : LineEnd → List ℕ
+feed_front crlf = 13 ∷ []
+feed_front lf = []
+
+feed_is : (end : LineEnd) → print_end end ≡ feed_front end ++ 10 ∷ []
+feed_is crlf = refl
+feed_is lf = refl
+
+feed_after : (end : LineEnd) → begun_after false (feed_front end) ≡ false
+feed_after crlf = refl
+feed_after lf = refl
+
+pub head_ends : (bytes : List ℕ) (h : RequestHead) (after : List ℕ) → BeginsHead bytes h after
+    → (at : ℕ) × (at + 1 ≡ length (print_request h)) × EndsHead bytes at
+head_ends bytes h after b = (
+  length front,
+  size,
+  record {
+    inside = omega (arith, ap length whole, length-append front (10 ∷ after));
+    feed = ap (λ l. get_or l (length front) 0) whole ∙ get_or-append_seam front 10 after 0;
+    empty = ap (begun_after false) cut
+        ∙ begun_then false false body (feed_front h.last) (started_after (start_of h) 1 h.fields is)
+        ∙ feed_after h.last;
+    lines = omega (
+      arith,
+      ap lines_in cut,
+      lines_before body (feed_front h.last),
+      started_lines (start_of h) 1 h.fields is b.reads.0.fields,
+    );
+  },
+)
+  where
+    is : IsStart (start_of h) 1
+    is = is_start h b.reads.0
+
+    body : List ℕ
+    body = start_of h ++ flat_map print_field h.fields
+
+    front : List ℕ
+    front = body ++ feed_front h.last
+
+    text : print_request h ≡ front ++ 10 ∷ []
+    text =
+        request_is h ∙ sym (append_assoc (start_of h) (flat_map print_field h.fields) (print_end h.last))
+        ∙ ap (λ l. body ++ l) (feed_is h.last) ∙ sym (append_assoc body (feed_front h.last) (10 ∷ []))
+
+    size : length front + 1 ≡ length (print_request h)
+    size = omega (arith, ap length text, length-append front (10 ∷ []))
+
+    whole : bytes ≡ front ++ 10 ∷ after
+    whole = b.reads.1 ∙ ap (λ l. l ++ after) text ∙ append_assoc front (10 ∷ []) after
+
+    cut : take (length front) bytes ≡ front
+    cut = ap (take (length front)) whole ∙ take_at front (10 ∷ after) (length front) refl
 
 -- ---- one byte more
 
@@ -594,12 +442,25 @@ lines_next bytes i ended r begun inside count state is =
 pub ends_here : (bytes : List ℕ) (i ended r lines : ℕ) (begun : Bool) → i < length bytes → ended ≡ lines_in
     (take i bytes)
     → begun ≡ begun_after false (take i bytes) → r ≡ ends_line begun (get_or bytes i 0) → ended ≤ lines
-    → lines < ended + r → EndsLine bytes lines (i + 1)
+    → lines < ended + r → EndsLine bytes lines i
 ends_here bytes i ended r lines begun inside count state is few many = record {
-  fits = omega (arith, inside);
-  many = omega (arith, many, lines_next bytes i ended r begun inside count state is);
-  few = λ n before.
-      let less : n ≤ i = omega (arith, before, length-take (i + 1) bytes) in
-      let cut : take n (take (i + 1) bytes) ≡ take n bytes = take-take n (i + 1) bytes (omega (arith, less)) in
-      omega (arith, ap lines_in cut, lines_front bytes n i less, count, few);
+  inside = inside;
+  feed = feed;
+  few = omega (arith, count, few);
+  many = omega (
+    arith,
+    many,
+    lines_next bytes i ended r begun inside count state is,
+    ap lines_in (take_more bytes i 0 inside),
+    ap (λ b. lines_in (take i bytes ++ b ∷ [])) feed,
+  );
 }
+  where
+    some : 0 < ends_line begun (get_or bytes i 0)
+    some = omega (arith, is, few, many)
+
+    feed_from : (b : ℕ) (t : Bool) → 0 < ends_line t b → b ≡ 10
+    feed_from b t h = grind (arith, nat_tests)
+
+    feed : get_or bytes i 0 ≡ 10
+    feed = feed_from (get_or bytes i 0) begun some

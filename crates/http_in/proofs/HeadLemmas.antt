@@ -1,5 +1,5 @@
 -- Heads: what is decided by the first bytes stays decided with more.
-use Rattle.std.proofs.Common.{◌≡◌, ℕ, zero, suc, ◌-◌, ◌<◌, ◌≤◌, List, [], ◌∷◌, ◌++◌, map, take, drop, length}
+use Rattle.std.proofs.Common.{◌≡◌, ℕ, zero, suc, ◌-◌, ◌<◌, ◌≤◌, List, [], ◌∷◌, ◌++◌, map, take, drop, length, ◌+◌}
 use Rattle.std.proofs.Common.{ap, sym, subst, ◌∙◌, inl, inr, arith, append_assoc, length-append}
 use Rattle.std.specs.Prelude.{Bool, IsTrue, IsUtf8, Result, Ok, Err, IfErr}
 use Rattle.std.proofs.lemmas.List.{take-append-drop, take-append-le, drop-append-le, length-drop, length-take}
@@ -8,8 +8,9 @@ use Rattle.std.proofs.lemmas.Bool.Decides.{nat_tests}
 use Rattle.std.proofs.lemmas.List.Elements.{All-weaker}
 use Rattle.std.proofs.lemmas.Str.{IsUtf8-from_ascii}
 use Rattle.std.proofs.lemmas.Str.Ascii.{IsAscii-from_all}
+use Rattle.httparse.specs.Ascii.{line_feed}
 use Rattle.httparse.specs.Grammar.{RequestHead, IsRequestHead, ReadsRequest, is_token_byte, print_request}
-use Rattle.httparse.specs.Spans.{IsRequestAt, IsRequestOf, IsRequestWithin, IsWithin, RequestExceeds, header_bytes}
+use Rattle.httparse.specs.Spans.{IsRequestAt, IsRequestOf, IsRequestWithin, IsWithin, header_bytes}
 use Rattle.httparse.specs.Spans.{name_and_value, span_bytes}
 use Rattle.httparse.specs.declared.spans.HeaderSpan.{HeaderSpan}
 use Rattle.httparse.specs.declared.spans.RequestSpans.{RequestSpans}
@@ -19,6 +20,7 @@ use Rattle.http_in.specs.Faults.{HasBadHead, HasLargeHead, HasUnframed, IsInHead
 use Rattle.http_said.specs.Fields.{asks_to_close, framing_of, is_form}
 use Rattle.http_in.specs.Head.{ExplainsHead, HasHeadFault, IsHeadAt}
 use Rattle.http_in.specs.Limits.{field_limit, head_limit}
+use Rattle.http_in.specs.Lines.{GoesOver}
 use Rattle.http_in.specs.Unframed.{request_fault}
 use Rattle.http_said.specs.declared.fault.FieldFault.{FieldFault}
 use Rattle.http_said.specs.declared.fault.FieldFault.TheVariants as fields
@@ -64,18 +66,27 @@ pub BeginsHead-more : (bytes : List ℕ) (head : RequestHead) (after more : List
 BeginsHead-more bytes head after more b =
     record { reads = ReadsRequest-append bytes head after more b.reads; short = b.short; few = b.few }
 
-pub exceeds_more : (room : ℕ) (buf more : List ℕ) → RequestExceeds room buf → RequestExceeds room (buf ++ more)
-exceeds_more room buf more e = (e.0, e.1 ++ more, ap (λ l. l ++ more) e.2 ∙ append_assoc e.0 e.1 more, e.3, e.4, e.5)
+pub over_more : (bytes front more : List ℕ) (lines : ℕ) → GoesOver bytes front lines
+    → GoesOver (bytes ++ more) front lines
+over_more bytes front more lines o = record {
+  later = o.later ++ more;
+  whole = ap (λ l. l ++ more) o.whole ∙ append_assoc front (line_feed ∷ o.later) more;
+  many = o.many;
+}
 
 pub large_more : (bytes more : List ℕ) → HasLargeHead bytes → HasLargeHead (bytes ++ more)
 large_more bytes more (inl f) =
     inl (omega (arith, length-append bytes more), rw (take-append-le head_limit bytes more f.0) f.1)
 large_more bytes more (inr f) =
     inr
-    (rw (take_append head_limit bytes more)
-    (exceeds_more field_limit (take head_limit bytes) (take (head_limit - length bytes) more) f))
+    (rw (take_append head_limit bytes more) (record {
+      front = f.front;
+      is_front = f.is_front;
+      over = over_more (take head_limit bytes) f.front (take (head_limit - length bytes) more) (field_limit + 1) f.over;
+    }))
 
-pub unframed_more : (bytes more : List ℕ) (fault : FieldFault) → HasUnframed bytes fault → HasUnframed (bytes ++ more) fault
+pub unframed_more : (bytes more : List ℕ) (fault : FieldFault) → HasUnframed bytes fault
+    → HasUnframed (bytes ++ more) fault
 unframed_more bytes more fault f = record {
   head = f.head;
   after = f.after ++ more;
@@ -132,12 +143,6 @@ IsHeadAt-more bytes more at h = record {
 }
 
 -- the same of a front of the bytes
-pub HasHeadFault-front : (place n : ℕ) (bytes : List ℕ) (fault : RequestFault) → HasHeadFault place (take n bytes) fault
-    → HasHeadFault place bytes fault
-HasHeadFault-front place n bytes fault f =
-    subst (λ l. HasHeadFault place l fault) (take-append-drop n bytes)
-    (HasHeadFault-more place (take n bytes) (drop n bytes) fault f)
-
 pub IsHeadAt-front : (n : ℕ) (bytes : List ℕ) (at : Head) → IsHeadAt (take n bytes) at → IsHeadAt bytes at
 IsHeadAt-front n bytes at h =
     subst (λ l. IsHeadAt l at) (take-append-drop n bytes) (IsHeadAt-more (take n bytes) (drop n bytes) at h)
@@ -201,24 +206,31 @@ begins_at buf headers r h short room within at = record {
   few = few_fields buf headers r h at room;
 }
 
-by_fault : (place : ℕ) (bytes : List ℕ) (fault : FieldFault) → HasUnframed bytes fault
+pub by_fault : (place : ℕ) (bytes : List ℕ) (fault : FieldFault) → HasUnframed bytes fault
     → HasHeadFault place bytes (request_fault fault)
 by_fault place bytes fields.BodyLarge f = f
 by_fault place bytes fields.BadLength f = f
 by_fault place bytes fields.Coding f = f
 
-pub framed_fault : (place : ℕ) (buf : List ℕ) (headers : List HeaderSpan) (r : RequestSpans) (fault : FieldFault)
+-- the same of a front of the bytes
+pub front_fault : (place : ℕ) (bytes front later : List ℕ) (fault : FieldFault) (answer : RequestFault)
+    → bytes ≡ front ++ later → answer ≡ request_fault fault → HasUnframed front fault
+    → HasHeadFault place bytes answer
+front_fault place bytes front later fault answer e is f =
+    subst (HasHeadFault place bytes) (sym is)
+    (subst (λ l. HasHeadFault place l (request_fault fault)) (sym e)
+    (HasHeadFault-more place front later (request_fault fault) (by_fault place front fault f)))
+
+pub framed_fault : (buf : List ℕ) (headers : List HeaderSpan) (r : RequestSpans) (fault : FieldFault)
     → length buf ≤ head_limit → length headers ≤ field_limit → IsRequestWithin buf headers r → IsRequestOf buf headers r
     → Err fault ≡ framing_of (map (header_bytes buf) (take r.headers headers))
-    → HasHeadFault place buf (request_fault fault)
-framed_fault place buf headers r fault short room within of is =
-    by_fault place buf fault
-    (record {
-      head = of.0;
-      after = drop r.len buf;
-      begins = begins_at buf headers r of.0 short room within of.1;
-      unframed = sym (is ∙ ap framing_of (fields_at buf headers r of.0 of.1));
-    })
+    → HasUnframed buf fault
+framed_fault buf headers r fault short room within of is = record {
+  head = of.0;
+  after = drop r.len buf;
+  begins = begins_at buf headers r of.0 short room within of.1;
+  unframed = sym (is ∙ ap framing_of (fields_at buf headers r of.0 of.1));
+}
 
 pub framed_ok : (buf : List ℕ) (headers : List HeaderSpan) (r : RequestSpans) (framing : Framing) (form last : Bool)
     → length buf ≤ head_limit → length headers ≤ field_limit → IsRequestWithin buf headers r → IsRequestOf buf headers r

@@ -1,6 +1,7 @@
 pub mod TakeLemmas
 pub mod CountLemmas
 pub mod HeadLemmas
+pub mod LackLemmas
 pub mod LimitLemmas
 pub mod LineLemmas
 pub mod BodyLemmas
@@ -10,4 +11,6 @@ pub mod TurnLemmas
 pub mod StayLemmas
 pub mod RemainLemmas
 pub mod UniqueLemmas
+pub mod StuckLemmas
+pub mod OneLemmas
 pub mod RequestsLemmas

@@ -1,25 +1,21 @@
--- A head or a section that is cut at the end of the line that is one too many.
-use Rattle.std.proofs.Common.{◌≡◌, ◌⊎◌, ℕ, ◌+◌, ◌-◌, ◌<◌, ◌≤◌, min, Bool, true, false, List, [], ◌∷◌, ◌++◌, take}
-use Rattle.std.proofs.Common.{drop, length}
-use Rattle.std.proofs.Common.{refl, ap, sym, subst, ◌∙◌, inl, inr, arith, append_assoc, append-nil, length-append}
-use Rattle.std.proofs.lemmas.List.{length-take, take-append-drop, take_all, take_at}
+-- A head or a section that is cut before the line feed that ends a line too many.
+use Rattle.std.proofs.Common.{◌≡◌, ◌⊎◌, ℕ, ◌+◌, ◌<◌, ◌≤◌, min, Bool, true, false, List, [], ◌∷◌, ◌++◌, take, drop}
+use Rattle.std.proofs.Common.{length}
+use Rattle.std.proofs.Common.{get_or, refl, ap, sym, subst, ◌∙◌, inl, inr, arith, append_assoc, append-nil}
+use Rattle.std.specs.Prelude.{nat_le}
+use Rattle.std.proofs.lemmas.Bool.Decides.{nat_tests}
+use Rattle.std.proofs.lemmas.List.{length-take, take-append-drop, take_all, take_more}
+use Rattle.httparse.specs.Ascii.{line_feed}
 use Rattle.httparse.specs.Grammar.{HasNoRequest, HasNoSection, MayBecomeRequest, MayBecomeSection, NeverHasRequest}
-use Rattle.httparse.specs.Grammar.{NeverHasSection, lf, print_end}
+use Rattle.httparse.specs.Grammar.{NeverHasSection}
 use Rattle.httparse.specs.Spans.{RequestExceeds, SectionExceeds}
 use Rattle.http_in.specs.Faults.{HasBadHead, HasBadSection, HasLargeHead, HasLargeSection, IsHeadFront, IsInSection}
 use Rattle.http_in.specs.Faults.{IsSectionFront}
 use Rattle.http_in.specs.Limits.{field_limit, head_limit}
-use Rattle.http_in.specs.Lines.{EndsLine, HasFewBefore, IsFrontOf, lines_in}
-use Rattle.http_in.proofs.CountLemmas.{lines_before, request_exceeds_many, request_lines}
-use Rattle.http_in.proofs.CountLemmas.{section_exceeds_many}
-use Rattle.http_in.proofs.CountLemmas.{section_lines}
-use Rattle.http_in.proofs.HeadLemmas.{exceeds_more, take_append}
+use Rattle.http_in.specs.Lines.{EndsLine, GoesOver, IsFrontOf, lines_in}
+use Rattle.http_in.proofs.CountLemmas.{request_lines, section_lines}
 
 -- ---- what is cut
-
-few_before : (front : List ℕ) (lines : ℕ) → lines_in front ≤ lines → HasFewBefore lines front
-few_before front lines few = λ n inside.
-    omega (arith, few, lines_before (take n front) (drop n front), ap lines_in (take-append-drop n front))
 
 pub front_whole : (bytes : List ℕ) (n lines : ℕ) → n ≡ min (length bytes) head_limit → lines_in (take n bytes) ≤ lines
     → length bytes < head_limit → IsFrontOf bytes lines (take n bytes) false
@@ -27,8 +23,8 @@ front_whole bytes n lines is few small = record {
   later = drop n bytes;
   whole = sym (take-append-drop n bytes);
   short = omega (arith, length-take n bytes, is);
-  few = few_before (take n bytes) lines few;
-  all = λ _. (take_all n bytes (omega (arith, is, small)), small, few);
+  few = few;
+  all = λ _. (take_all n bytes (omega (arith, is, small)), small);
   limit = λ e. cc;
 }
 
@@ -40,50 +36,53 @@ front_long bytes n lines is few large =
       later = drop n bytes;
       whole = sym (take-append-drop n bytes);
       short = omega (arith, length-take n bytes, is);
-      few = few_before (take n bytes) lines few;
+      few = few;
       all = λ e. cc;
-      limit = λ _. inr (large, ap (λ k. take k bytes) at, few);
+      limit = λ _. inr (large, ap (λ k. take k bytes) at);
     }
 
-pub front_cut : (bytes : List ℕ) (n end lines : ℕ) → n ≡ min (length bytes) head_limit → EndsLine
-    (take n bytes) lines end
-    → IsFrontOf bytes lines (take end (take n bytes)) true
-front_cut bytes n end lines is ends =
+-- so many bytes are those up to the limit
+up_to_limit : (bytes : List ℕ) (n : ℕ) → n ≡ min (length bytes) head_limit → take head_limit bytes ≡ take n bytes
+up_to_limit bytes n is = by_test (nat_le head_limit (length bytes)) refl
+  where
+    by_test : (t : Bool) → nat_le head_limit (length bytes) ≡ t → take head_limit bytes ≡ take n bytes
+    by_test true is_long =
+        let long : head_limit ≤ length bytes = grind (arith, nat_tests) in
+        ap (λ k. take k bytes) (let e : head_limit ≡ n = omega (arith, is, long) in e)
+    by_test false is_short =
+        let short : length bytes < head_limit = grind (arith, nat_tests) in
+        take_all head_limit bytes (omega (arith, short)) ∙ sym (take_all n bytes (omega (arith, is, short)))
+
+pub front_cut : (bytes : List ℕ) (n at lines : ℕ) → n ≡ min (length bytes) head_limit → EndsLine
+    (take n bytes) lines at
+    → IsFrontOf bytes lines (take at (take n bytes)) true
+front_cut bytes n at lines is ends =
     let front : List ℕ = take n bytes in
+    let split : front ≡ take at front ++ line_feed ∷ drop (at + 1) front =
+    sym (take-append-drop (at + 1) front) ∙ ap (λ l. l ++ drop (at + 1) front) (take_more front at 0 ends.inside)
+    ∙ append_assoc (take at front) (get_or front at 0 ∷ []) (drop (at + 1) front)
+    ∙ ap (λ b. take at front ++ b ∷ drop (at + 1) front) ends.feed in
     record {
-      later = drop end front ++ drop n bytes;
-      whole = sym (take-append-drop n bytes) ∙ ap (λ l. l ++ drop n bytes) (sym (take-append-drop end front))
-          ∙ append_assoc (take end front) (drop end front) (drop n bytes);
-      short = omega (arith, length-take n bytes, length-take end front, is);
+      later = drop at front ++ drop n bytes;
+      whole = sym (take-append-drop n bytes) ∙ ap (λ l. l ++ drop n bytes) (sym (take-append-drop at front))
+          ∙ append_assoc (take at front) (drop at front) (drop n bytes);
+      short = omega (arith, length-take n bytes, length-take at front, is);
       few = ends.few;
       all = λ e. cc;
-      limit = λ _. inl ends.many;
+      limit = λ _. inl (record {
+        later = drop (at + 1) front;
+        whole = up_to_limit bytes n is ∙ split;
+        many = ends.many;
+      });
     }
 
 -- ---- heads
 
-few_lines : (front : List ℕ) → lines_in front ≤ field_limit + 1 → ¬ (RequestExceeds field_limit front)
-few_lines front few e = omega (arith, few, request_lines field_limit front e)
+-- so few lines are no more fields than there may be
+pub no_more_fields : (front : List ℕ) → lines_in front ≤ field_limit + 1 → RequestExceeds field_limit front → ⊥
+no_more_fields front few e = absurd (omega (arith, few, request_lines field_limit front e))
 
--- where a line too many ends with the bytes, they are no head with it
-pub never_few : (front : List ℕ) → HasFewBefore (field_limit + 1) front → NeverHasRequest front
-    → ¬ (RequestExceeds field_limit front)
-never_few front few never e = by_rest e.1 e.2
-  where
-    many : field_limit + 1 < lines_in e.0
-    many = request_lines field_limit e.0 (e.0, [], sym (append-nil e.0), e.3, e.4, e.5)
-
-    by_rest : (rest : List ℕ) → front ≡ e.0 ++ rest → ⊥
-    by_rest [] is =
-        let same : front ≡ e.0 = is ∙ append-nil e.0 in
-        never (print_end lf) e.3 [] (e.4.0, ap (λ l. l ++ print_end lf) same ∙ e.4.1)
-    by_rest (b ∷ rest) is =
-        let cut : take (length e.0) front ≡ e.0 = ap (take (length e.0)) is ∙ take_at e.0 (b ∷ rest)
-        (length e.0) refl in
-        let fewer = few (length e.0) (omega (arith, ap length is, length-append e.0 (b ∷ rest))) in
-        omega (arith, fewer, ap lines_in cut, many)
-
-pub bad_head : (front : List ℕ) → length front ≤ head_limit → HasFewBefore (field_limit + 1) front
+pub bad_head : (front : List ℕ) → length front ≤ head_limit → lines_in front ≤ field_limit + 1
     → NeverHasRequest front
     → HasBadHead front
 bad_head front short few never = record {
@@ -91,54 +90,33 @@ bad_head front short few never = record {
   later = [];
   whole = sym (append-nil front);
   short = short;
-  few = never_few front few never;
+  few = few;
   never = never;
 }
+
+head_front : (bytes front : List ℕ) (full : Bool) → IsFrontOf bytes (field_limit + 1) front full
+    → HasNoRequest front × MayBecomeRequest front → IsHeadFront front
+head_front bytes front full is o = record { none = o.0; may = o.1; few = is.few }
 
 pub head_large : (bytes front : List ℕ) → IsFrontOf bytes (field_limit + 1) front true
     → HasNoRequest front × MayBecomeRequest front → HasLargeHead bytes
 head_large bytes front is o = by_limit (is.limit refl)
   where
-    by_limit : (field_limit + 1 < lines_in front)
-        ⊎ ((head_limit ≤ length bytes) × (front ≡ take head_limit bytes) × (lines_in front ≤ field_limit + 1))
+    by_limit : GoesOver (take head_limit bytes) front (field_limit + 1)
+        ⊎ ((head_limit ≤ length bytes) × (front ≡ take head_limit bytes))
         → HasLargeHead bytes
-    by_limit (inl many) =
-        let more = exceeds_more field_limit front (take (head_limit - length front) is.later)
-        (request_exceeds_many field_limit front o.1 many) in
-        let cut : take head_limit bytes ≡ front ++ take (head_limit - length front) is.later =
-        ap (take head_limit) is.whole ∙ take_append head_limit front is.later
-        ∙ ap (λ l. l ++ take (head_limit - length front) is.later) (take_all head_limit front is.short) in
-        inr (subst (RequestExceeds field_limit) (sym cut) more)
-    by_limit (inr long) =
-        inl (long.0, subst IsHeadFront long.1 (record { none = o.0; may = o.1; few = few_lines front long.2 }))
+    by_limit (inl over) = inr (record { front = front; is_front = head_front bytes front true is o; over = over })
+    by_limit (inr long) = inl (long.0, subst IsHeadFront long.1 (head_front bytes front true is o))
 
 pub head_open : (bytes front : List ℕ) → IsFrontOf bytes (field_limit + 1) front false
     → HasNoRequest front × MayBecomeRequest front → (length bytes < head_limit) × IsHeadFront bytes
 head_open bytes front is o =
-    let all = is.all refl in
-    (all.1, subst IsHeadFront all.0 (record { none = o.0; may = o.1; few = few_lines front all.2 }))
+    let all = is.all refl in (all.1, subst IsHeadFront all.0 (head_front bytes front false is o))
 
 -- ---- trailer sections
 
-few_section : (front : List ℕ) → lines_in front ≤ field_limit → ¬ (SectionExceeds field_limit front)
-few_section front few e = omega (arith, few, section_lines field_limit front e)
-
-section_never_few : (front : List ℕ) → HasFewBefore field_limit front → NeverHasSection front
-    → ¬ (SectionExceeds field_limit front)
-section_never_few front few never e = by_rest e.1 e.2
-  where
-    many : field_limit < lines_in e.0
-    many = section_lines field_limit e.0 (e.0, [], sym (append-nil e.0), e.3, e.4, e.5)
-
-    by_rest : (rest : List ℕ) → front ≡ e.0 ++ rest → ⊥
-    by_rest [] is =
-        let same : front ≡ e.0 = is ∙ append-nil e.0 in
-        never (print_end lf) e.3 lf [] (e.4.0, ap (λ l. l ++ print_end lf) same ∙ e.4.1)
-    by_rest (b ∷ rest) is =
-        let cut : take (length e.0) front ≡ e.0 = ap (take (length e.0)) is ∙ take_at e.0 (b ∷ rest)
-        (length e.0) refl in
-        let fewer = few (length e.0) (omega (arith, ap length is, length-append e.0 (b ∷ rest))) in
-        omega (arith, fewer, ap lines_in cut, many)
+pub no_more_trailers : (front : List ℕ) → lines_in front ≤ field_limit → SectionExceeds field_limit front → ⊥
+no_more_trailers front few e = absurd (omega (arith, few, section_lines field_limit front e))
 
 pub bad_section : (bytes front : List ℕ) (full : Bool) → IsFrontOf bytes field_limit front full → NeverHasSection front
     → HasBadSection bytes
@@ -147,36 +125,26 @@ bad_section bytes front full is never = record {
   later = is.later;
   whole = is.whole;
   short = is.short;
-  few = section_never_few front is.few never;
+  few = is.few;
   never = never;
 }
 
-section_more : (front more : List ℕ) → SectionExceeds field_limit front → SectionExceeds field_limit (front ++ more)
-section_more front more e = (e.0, e.1 ++ more, ap (λ l. l ++ more) e.2 ∙ append_assoc e.0 e.1 more, e.3, e.4, e.5)
-
--- a front that has a line too many
-pub section_large : (bytes front : List ℕ) (full : Bool) → IsFrontOf bytes field_limit front full
-    → SectionExceeds field_limit front → HasLargeSection bytes
-section_large bytes front full is e =
-    let more = section_more front (take (head_limit - length front) is.later) e in
-    let cut : take head_limit bytes ≡ front ++ take (head_limit - length front) is.later =
-    ap (take head_limit) is.whole ∙ take_append head_limit front is.later
-    ∙ ap (λ l. l ++ take (head_limit - length front) is.later) (take_all head_limit front is.short) in
-    inr (subst (SectionExceeds field_limit) (sym cut) more)
+section_front : (bytes front : List ℕ) (full : Bool) → IsFrontOf bytes field_limit front full → HasNoSection front
+    → MayBecomeSection front → IsSectionFront front
+section_front bytes front full is none may = record { none = none; may = may; few = is.few }
 
 pub section_long : (bytes front : List ℕ) → IsFrontOf bytes field_limit front true
     → HasNoSection front → MayBecomeSection front → HasLargeSection bytes
 section_long bytes front is none may = by_limit (is.limit refl)
   where
-    by_limit : (field_limit < lines_in front)
-        ⊎ ((head_limit ≤ length bytes) × (front ≡ take head_limit bytes) × (lines_in front ≤ field_limit))
+    by_limit : GoesOver (take head_limit bytes) front field_limit
+        ⊎ ((head_limit ≤ length bytes) × (front ≡ take head_limit bytes))
         → HasLargeSection bytes
-    by_limit (inl many) = section_large bytes front true is (section_exceeds_many field_limit front may many)
-    by_limit (inr long) =
-        inl (long.0, subst IsSectionFront long.1 (record { none = none; may = may; few = few_section front long.2 }))
+    by_limit (inl over) =
+        inr (record { front = front; is_front = section_front bytes front true is none may; over = over })
+    by_limit (inr long) = inl (long.0, subst IsSectionFront long.1 (section_front bytes front true is none may))
 
 pub section_open : (bytes front : List ℕ) → IsFrontOf bytes field_limit front false
     → HasNoSection front → MayBecomeSection front → IsInSection bytes
 section_open bytes front is none may =
-    let all = is.all refl in
-    (all.1, subst IsSectionFront all.0 (record { none = none; may = may; few = few_section front all.2 }))
+    let all = is.all refl in (all.1, subst IsSectionFront all.0 (section_front bytes front false is none may))

@@ -1,16 +1,15 @@
 -- Of a whole body a part came: what remains of it behind that part. So a body is one, and it is neither out of form
 -- nor does it wait for more.
-use Rattle.std.proofs.Common.{◌≡◌, ℕ, ◌+◌, ◌-◌, ◌≤◌, Bool, true, false, List, [], ◌∷◌, ◌++◌, take, drop, length}
+use Rattle.std.proofs.Common.{◌≡◌, ℕ, ◌+◌, ◌-◌, ◌≤◌, Bool, true, false, List, [], ◌∷◌, ◌++◌, take, drop, length, ◌<◌}
 use Rattle.std.proofs.Common.{refl, ap, sym, subst, ◌∙◌, inl, inr, arith, append_assoc, append-nil, length-append}
 use Rattle.std.specs.Prelude.{flat_map, nat_le}
 use Rattle.std.specs.List.{AllByRecursion}
 use Rattle.std.proofs.lemmas.List.{drop-append-le, length-drop, nil_from_length, take-append-drop, take-append-le}
 use Rattle.std.proofs.lemmas.List.{take_all, take_at}
 use Rattle.std.proofs.lemmas.Bool.Decides.{nat_tests}
-use Rattle.httparse.specs.Ascii.{crlf_bytes}
-use Rattle.httparse.specs.Grammar.{ChunkLine, Field, LineEnd, chunk_size, lf, print_chunk_line, print_end}
+use Rattle.httparse.specs.Ascii.{crlf_bytes, line_feed}
+use Rattle.httparse.specs.Grammar.{ChunkLine, Field, LineEnd, chunk_size, print_chunk_line}
 use Rattle.httparse.specs.Grammar.{print_section}
-use Rattle.httparse.specs.Spans.{SectionExceeds}
 use Rattle.httparse.proofs.ChunkLemmas.{chunk_line_unique}
 use Rattle.httparse.proofs.GrammarLemmas.{section_unique}
 use Rattle.http_said.specs.Limits.{body_limit}
@@ -18,13 +17,14 @@ use Rattle.http_said.specs.declared.said.Framing.{Framing}
 use Rattle.http_said.specs.declared.said.Framing.TheVariants as framings
 use Rattle.http_in.specs.Chunks.{AreAllChunks, Chunk, IsChunk, IsChunkedBody, IsInChunk, IsLine, IsTrailer}
 use Rattle.http_in.specs.Chunks.{IsWholeBody, Leads, print_chunk}
-use Rattle.http_in.specs.Faults.{HasBadLine, HasBadSection, HasLargeSection, Hits, IsTooMuch, Waits}
+use Rattle.http_in.specs.Faults.{HasBadLine, HasBadSection, HasLargeSection, HasSectionLine, Hits, IsTooMuch, Waits}
+use Rattle.http_in.specs.Lacks.{Lacks}
 use Rattle.http_in.specs.Limits.{field_limit, head_limit}
-use Rattle.http_in.specs.Lines.{lines_in}
+use Rattle.http_in.specs.Lines.{GoesOver, lines_in}
 use Rattle.http_in.specs.declared.fault.RequestFault.{RequestFault}
 use Rattle.http_in.specs.declared.stage.Stage.{Stage}
 use Rattle.http_in.specs.declared.stage.Stage.TheVariants as stages
-use Rattle.http_in.proofs.CountLemmas.{lines_before, section_lines, whole_section_lines}
+use Rattle.http_in.proofs.CountLemmas.{lines_before, whole_section_lines}
 use Rattle.http_in.proofs.HeadLemmas.{take_append}
 
 -- ---- lists
@@ -99,14 +99,14 @@ chunked_from bytes raw body behind is e =
     )
 
 -- a chunk line, as the first of bytes
-line_first : (c : Chunk) (more : List ℕ)
+pub line_first : (c : Chunk) (more : List ℕ)
     → print_chunk c ++ more ≡ print_chunk_line c.line ++ (c.bytes ++ (crlf_bytes ++ more))
 line_first c more =
     append_assoc (print_chunk_line c.line) (c.bytes ++ crlf_bytes) more
     ∙ ap (λ l. print_chunk_line c.line ++ l) (append_assoc c.bytes crlf_bytes more)
 
 -- a chunk whose line and first data these are
-chunk_begun : (line : ChunkLine) (part rest right : List ℕ) (left : ℕ) (d : Chunk) → IsLine line
+pub chunk_begun : (line : ChunkLine) (part rest right : List ℕ) (left : ℕ) (d : Chunk) → IsLine line
     → chunk_size line ≡ length part + left → IsChunk d
     → print_chunk_line line ++ (part ++ rest) ≡ print_chunk d ++ right
     → (s : IsSplit part rest d.bytes (crlf_bytes ++ right)) × (length s.piece ≡ left)
@@ -118,14 +118,15 @@ chunk_begun line part rest right left d is size chunk e =
     (s, omega (arith, s.size, long))
 
 -- a line of size 0 begins no chunk
-not_chunk : (line : ChunkLine) (rest right : List ℕ) (d : Chunk) → IsLine line → chunk_size line ≡ 0 → IsChunk d
+pub not_chunk : (line : ChunkLine) (rest right : List ℕ) (d : Chunk) → IsLine line → chunk_size line ≡ 0 → IsChunk d
     → print_chunk_line line ++ rest ≡ print_chunk d ++ right → ⊥
 not_chunk line rest right d is none chunk e =
     let same = chunk_line_unique (print_chunk_line line ++ rest) line d.line rest (d.bytes ++ (crlf_bytes ++ right))
     (is.form, refl) (chunk.line.form, e ∙ line_first d right) in
     absurd (omega (arith, chunk.size, chunk.some, none, ap chunk_size same.0))
 
-one_chunk : (c d : Chunk) (left right : List ℕ) → IsChunk c → IsChunk d → print_chunk c ++ left ≡ print_chunk d ++ right
+pub one_chunk : (c d : Chunk) (left right : List ℕ) → IsChunk c → IsChunk d
+    → print_chunk c ++ left ≡ print_chunk d ++ right
     → (d.bytes ≡ c.bytes) × (left ≡ right)
 one_chunk c d left right is chunk e =
     let begun = chunk_begun c.line c.bytes (crlf_bytes ++ left) right 0 d is.line (omega (arith, is.size)) chunk
@@ -398,37 +399,38 @@ not_too_much part rest body b few f =
     (f.is_line.form, f.whole) in
     absurd (omega (arith, b.room, few, f.over, ap chunk_size same.0))
 
--- a section with few lines has no line too many
-pub section_not_exceeds : (rest more : List ℕ) (fields : List Field) (last : LineEnd) (n : ℕ) → IsTrailer fields last
-    → rest ≡ print_section fields last ++ more → SectionExceeds field_limit (take n rest) → ⊥
-section_not_exceeds rest more fields last n is e x = by_test (nat_le (length text) (length x.0)) refl
+-- what goes over so many lines is no front of a text that has no more of them
+pub over_text : (text after bytes front : List ℕ) (n lines : ℕ) → bytes ≡ text ++ after
+    → GoesOver (take n bytes) front lines → lines_in text ≤ lines → (piece : List ℕ) × (front ≡ text ++ piece)
+over_text text after bytes front n lines e o few = by_test (nat_le (length text) (length front)) refl
   where
-    text : List ℕ
-    text = print_section fields last
-
-    whole : x.0 ++ (x.1 ++ drop n rest) ≡ text ++ more
+    whole : front ++ (line_feed ∷ o.later ++ drop n bytes) ≡ text ++ after
     whole =
-        sym (append_assoc x.0 x.1 (drop n rest)) ∙ ap (λ l. l ++ drop n rest) (sym x.2) ∙ take-append-drop n rest ∙ e
+        sym (append_assoc front (line_feed ∷ o.later) (drop n bytes)) ∙ ap (λ l. l ++ drop n bytes) (sym o.whole)
+        ∙ take-append-drop n bytes
+        ∙ e
 
-    by_test : (t : Bool) → nat_le (length text) (length x.0) ≡ t → ⊥
+    by_test : (t : Bool) → nat_le (length text) (length front) ≡ t → (piece : List ℕ) × (front ≡ text ++ piece)
     by_test true is_long =
-        let fits : length text ≤ length x.0 = grind (arith, nat_tests) in
-        let s = split_from text more x.0 (x.1 ++ drop n rest) (sym whole) fits in
-        let same = section_unique (x.0 ++ print_end lf) fields x.3 last lf (s.piece ++ print_end lf) []
-        (is.each, ap (λ l. l ++ print_end lf) s.long_is ∙ append_assoc text s.piece (print_end lf)) x.4 in
-        absurd (omega (arith, is.few, x.5, ap length same.0))
+        let fits : length text ≤ length front = grind (arith, nat_tests) in
+        let s = split_from text after front (line_feed ∷ o.later ++ drop n bytes) (sym whole) fits in
+        (s.piece, s.long_is)
     by_test false is_short =
-        let fits : length x.0 ≤ length text = grind (arith, nat_tests) in
-        let s = split_from x.0 (x.1 ++ drop n rest) text more whole fits in
-        let many = section_lines field_limit x.0 (x.0, [], sym (append-nil x.0), x.3, x.4, x.5) in
-        absurd (omega (
-          arith,
-          is.few,
-          many,
-          lines_before x.0 s.piece,
-          ap lines_in s.long_is,
-          whole_section_lines fields last is.each,
-        ))
+        let less : length front < length text = grind (arith, nat_tests) in
+        let line : List ℕ = front ++ line_feed ∷ [] in
+        let fits : length line ≤ length text = omega (arith, less, length-append front (line_feed ∷ [])) in
+        let s = split_from line (o.later ++ drop n bytes) text after
+        (append_assoc front (line_feed ∷ []) (o.later ++ drop n bytes) ∙ whole) fits in
+        absurd (omega (arith, few, o.many, lines_before line s.piece, ap lines_in s.long_is))
+
+-- a section with few lines has no line too many
+pub section_not_over : (rest more : List ℕ) (fields : List Field) (last : LineEnd) → IsTrailer fields last
+    → rest ≡ print_section fields last ++ more → HasSectionLine (take head_limit rest) → ⊥
+section_not_over rest more fields last is e x =
+    let text : List ℕ = print_section fields last in
+    let longer = over_text text more rest x.front head_limit field_limit e x.over
+    (omega (arith, is.few, whole_section_lines fields last is.each)) in
+    x.is_front.none fields last longer.0 (is.each, longer.1)
 
 no_bad_section : (rest more : List ℕ) (fields : List Field) (last : LineEnd) → IsTrailer fields last
     → rest ≡ print_section fields last ++ more → HasBadSection rest → ⊥
@@ -440,7 +442,7 @@ no_large_section rest more fields last is e (inl f) =
     let text : List ℕ = print_section fields last in
     f.1.none fields last (take (head_limit - length text) more)
     (is.each, ap (take head_limit) e ∙ in_front text more is.short)
-no_large_section rest more fields last is e (inr f) = section_not_exceeds rest more fields last head_limit is e f
+no_large_section rest more fields last is e (inr f) = section_not_over rest more fields last is e f
 
 pub no_hit : (at : ℕ) (stage : Stage) (part rest body behind : List ℕ) (fault : RequestFault)
     → Remains stage part rest body behind → length body ≤ body_limit → Hits at stage part rest fault → ⊥
@@ -490,3 +492,24 @@ no_wait stages.End part rest body behind r (inr f) =
     absurd (omega (arith, ap length f, ap length r.rest_is, length-append r.missing (crlf_bytes ++ r.after)))
 no_wait stages.Trailer part rest body behind r f = f.1.none r.0 r.1 behind (r.2.each, r.4)
 no_wait stages.Done part rest body behind r f = f
+
+-- ---- and it does not lack
+
+pub no_lack : (stage : Stage) (part rest body behind : List ℕ) → Remains stage part rest body behind
+    → Lacks stage rest → ⊥
+no_lack (stages.Rest left) part rest body behind r f =
+    absurd (omega (arith, f, ap length r.0.later_is, length-append r.0.piece behind, r.0.size, r.1))
+no_lack stages.Line part rest body behind r f =
+    let b = begins_line_in part rest body behind r in f b.line b.more b.is_line b.whole
+no_lack (stages.Data left) part rest body behind r f =
+    absurd (omega (arith, f, ap length r.rest_is, length-append r.missing (crlf_bytes ++ r.after), r.size))
+no_lack stages.End part rest body behind r f =
+    absurd (omega (
+      arith,
+      f,
+      ap length r.rest_is,
+      length-append r.missing (crlf_bytes ++ r.after),
+      length-append crlf_bytes r.after,
+    ))
+no_lack stages.Trailer part rest body behind r f = f r.0 r.1 behind r.2 r.4
+no_lack stages.Done part rest body behind r f = f

@@ -2,7 +2,6 @@
 use Rattle.std.proofs.Common.{ℕ, ◌-◌, List, [], ◌∷◌, ◌++◌, take, length, get_or}
 use Rattle.std.proofs.Common.{ap, ◌∙◌, inl, inr, arith, append_assoc, length-append}
 use Rattle.std.proofs.lemmas.List.{take-append-le}
-use Rattle.httparse.specs.Spans.{SectionExceeds}
 use Rattle.http_said.specs.declared.fault.FieldFault.TheVariants as fields
 use Rattle.http_in.specs.Faults.{HasBadLine, HasBadSection, HasBodyFault, HasCome, HasFault, HasLargeSection, Hits}
 use Rattle.http_in.specs.Faults.{IsNoEnd, IsTooMuch, place_behind}
@@ -12,7 +11,8 @@ use Rattle.http_in.specs.declared.fault.RequestFault.{RequestFault}
 use Rattle.http_in.specs.declared.fault.RequestFault.TheVariants as faults
 use Rattle.http_in.specs.declared.stage.Stage.{Stage}
 use Rattle.http_in.specs.declared.stage.Stage.TheVariants as stages
-use Rattle.http_in.proofs.HeadLemmas.{BeginsHead-more, bad_head_more, large_more, take_append, unframed_more}
+use Rattle.http_in.proofs.HeadLemmas.{BeginsHead-more, bad_head_more, large_more, over_more, take_append}
+use Rattle.http_in.proofs.HeadLemmas.{unframed_more}
 
 -- ---- the pieces of a body
 
@@ -37,11 +37,6 @@ no_end_more (b ∷ []) [] f = f
 no_end_more (b ∷ []) (c ∷ more) f = λ e. f (ap (λ l. get_or l 0 0) e)
 no_end_more (b ∷ c ∷ bytes) more f = f
 
-section_exceeds_more : (front more : List ℕ) → SectionExceeds field_limit front
-    → SectionExceeds field_limit (front ++ more)
-section_exceeds_more front more e =
-    (e.0, e.1 ++ more, ap (λ l. l ++ more) e.2 ∙ append_assoc e.0 e.1 more, e.3, e.4, e.5)
-
 bad_section_more : (bytes more : List ℕ) → HasBadSection bytes → HasBadSection (bytes ++ more)
 bad_section_more bytes more f = record {
   front = f.front;
@@ -58,7 +53,11 @@ large_section_more bytes more (inl f) =
 large_section_more bytes more (inr f) =
     inr
     (rw (take_append head_limit bytes more)
-    (section_exceeds_more (take head_limit bytes) (take (head_limit - length bytes) more) f))
+    (record {
+      front = f.front;
+      is_front = f.is_front;
+      over = over_more (take head_limit bytes) f.front (take (head_limit - length bytes) more) field_limit f.over;
+    }))
 
 hits_more : (at : ℕ) (stage : Stage) (body rest more : List ℕ) (fault : RequestFault) → Hits at stage body rest fault
     → Hits at stage body (rest ++ more) fault

@@ -1,7 +1,7 @@
 -- One request, from its head and its body.
 use Rattle.std.proofs.Common.{◌≡◌, ℕ, ◌≤◌, List, [], ◌++◌, take, drop, length, Some, None, refl, ap, sym, subst}
 use Rattle.std.proofs.Common.{◌∙◌}
-use Rattle.std.proofs.Common.{arith, append_assoc, append-nil}
+use Rattle.std.proofs.Common.{◌+◌, arith, append_assoc, append-nil, inl, inr}
 use Rattle.std.specs.Prelude.{Option, IsSome}
 use Rattle.std.proofs.lemmas.List.{take-append-drop, length-take, length-drop, take_at, nil_from_length}
 use Rattle.vl_io.specs.Bytes.{AddsPiece, Consumes}
@@ -11,8 +11,11 @@ use Rattle.httparse.specs.Spans.{IsWithin, span_bytes}
 use Rattle.httparse.specs.declared.spans.Span.{Span}
 use Rattle.http_in.specs.Chunks.{HasRoom}
 use Rattle.http_in.specs.Head.{ExplainsHead, IsHeadAt}
-use Rattle.http_in.specs.Progress.{Moves, Stops, progress_of}
-use Rattle.http_in.specs.Reading.{FindsFault, FindsNone, Holds, HoldsSo, IsBegun, IsFirst, held_by}
+use Rattle.http_in.specs.Lacks.{AddsIf, AsksIf, LacksBody, LacksHead, MovesIf}
+use Rattle.http_in.specs.Message.{BeginsHead}
+use Rattle.http_in.specs.Progress.{Moves, Progress, Stops, progress_of}
+use Rattle.http_in.specs.Reading.{FindsFault, FindsNone, Holds, HoldsRequest, HoldsSo, IsBegun, IsFirst}
+use Rattle.http_in.specs.Reading.{held_by}
 use Rattle.http_in.specs.declared.body.Body.{Body}
 use Rattle.http_in.specs.declared.fault.RequestFault.{RequestFault}
 use Rattle.http_in.specs.declared.fault.RequestFault.TheVariants as faults
@@ -22,7 +25,10 @@ use Rattle.http_said.specs.declared.said.Framing.TheVariants as framings
 use Rattle.http_in.specs.declared.stage.Stage.{Stage}
 use Rattle.http_in.specs.declared.turn.Begun.{Begun}
 use Rattle.http_in.proofs.HeadLemmas.{span_more}
-use Rattle.http_in.proofs.ReadingLemmas.{head_explained, held_stops, holds_added, holds_moved}
+use Rattle.http_in.proofs.ReadingLemmas.{begins_head, head_explained, held_stops, holds_added}
+use Rattle.http_in.proofs.ReadingLemmas.{holds_moved}
+use Rattle.http_in.proofs.RemainLemmas.{no_lack}
+use Rattle.http_in.proofs.UniqueLemmas.{remains_at}
 
 -- ---- a head is taken in
 
@@ -197,3 +203,62 @@ rest_memory a b begun old new ahead_old ahead_new ended some m = (
     keeps = λ _. rest_moved start bytes m.0 begun old new ahead_old ahead_new some m.2 h;
   },
 )
+
+-- ---- where a whole request is held
+
+-- no head is read then
+pub ready_head : {S : Type 0} (left : S → Option (List ℕ)) (s t : S) (begun : Begun) (body : Body) (old new : List ℕ)
+    → begun.head ≡ None → HoldsRequest (held_by begun body old) → AddsIf left (LacksHead old) s t old new
+    → (t ≡ s) × (new ≡ old)
+ready_head left s t begun body old new none h m = by_asks m.3
+  where
+    same : h.bytes ≡ old
+    same = subst (λ x. HoldsSo h.start h.bytes x begun.bytes.items (progress_of body old)) none h.holds.so
+
+    by_asks : AsksIf (LacksHead old) s t m.0 → (t ≡ s) × (new ≡ old)
+    by_asks (inl x) = (x.0, m.2 ∙ ap (λ l. old ++ l) x.1 ∙ append-nil old)
+    by_asks (inr lacks) =
+        absurd (lacks h.begins.head h.begins.after
+        (subst (λ l. BeginsHead l h.begins.head h.begins.after) same h.begins.begins))
+
+-- the same request is held once its head was taken in
+pub ready_begun : (begun0 begun1 : Begun) (body0 body1 : Body) (old mid new : List ℕ) → mid ≡ old
+    → ((start : ℕ) (bytes : List ℕ) → Holds start bytes (held_by begun0 body0 mid) → Holds start bytes
+    (held_by begun1 body1 new))
+    → HoldsRequest (held_by begun0 body0 old) → HoldsRequest (held_by begun1 body1 new)
+ready_begun begun0 begun1 body0 body1 old mid new same held h = record {
+  start = h.start;
+  bytes = h.bytes;
+  rest = h.rest;
+  asked = h.asked;
+  holds = held h.start h.bytes (subst (λ l. Holds h.start h.bytes (held_by begun0 body0 l)) (sym same) h.holds);
+  begins = h.begins;
+}
+
+-- nothing of its body is read then
+pub ready_rest : {S : Type 0} (left : S → Option (List ℕ)) (s t : S) (begun : Begun) (body : Body) (ahead : List ℕ)
+    (new : Progress) → IsSome begun.head → IsBegun begun.head begun.bytes.items body
+    → HoldsRequest (held_by begun body ahead)
+    → MovesIf left (LacksBody (progress_of body ahead)) s t (progress_of body ahead) new → t ≡ s
+ready_rest left s t begun body ahead new some is h m = by_asks m.3
+  where
+    by_head : LacksBody (progress_of body ahead) → (head : Option Head) → begun.head ≡ head → IsSome head → ⊥
+    by_head lacks None e w = cc
+    by_head lacks (Some at) e w =
+        let kept = begun.bytes.items in
+        let so : HoldsSo h.start h.bytes (Some at) kept (progress_of body ahead) =
+        subst (λ x. HoldsSo h.start h.bytes x kept (progress_of body ahead)) e h.holds.so in
+        let begun_so : IsBegun (Some at) kept body = subst (λ x. IsBegun x kept body) e is in
+        let next = lacks.moves.leads at.framing (h.start + at.len) so.0 so.1 in
+        let follows : so.0 ++ ahead ≡ next.0 ++ lacks.at.ahead =
+        ap (λ l. so.0 ++ l) (sym (append-nil ahead)) ∙ next.2 in
+        no_lack lacks.at.stage lacks.at.body lacks.at.ahead h.asked.body h.rest
+        (remains_at h.bytes h.rest h.asked h.begins begun_so.0.head (so.0 ++ ahead) at.framing next.0 lacks.at.stage
+        lacks.at.body
+        lacks.at.ahead
+        (begins_head h.bytes kept (so.0 ++ ahead) at begun_so.0 begun_so.1 so.2) begun_so.0.framed next.1.0 follows)
+        lacks.lacks
+
+    by_asks : AsksIf (LacksBody (progress_of body ahead)) s t m.0 → t ≡ s
+    by_asks (inl x) = x.0
+    by_asks (inr lacks) = absurd (by_head lacks begun.head refl some)

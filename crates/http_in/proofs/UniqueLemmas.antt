@@ -1,31 +1,30 @@
 -- Bytes begin with one request at most. Where they begin with one, nothing is wrong with them, and nothing is missing.
-use Rattle.std.proofs.Common.{◌≡◌, ◌≢◌, ℕ, ◌-◌, ◌<◌, ◌≤◌, Bool, true, false, List, [], ◌++◌, take, drop, length, Ok}
-use Rattle.std.proofs.Common.{Err, refl, ap, sym, subst, ◌∙◌, inl, inr, arith, append_assoc, append-nil, length-append}
-use Rattle.std.specs.Prelude.{Result, nat_le}
-use Rattle.std.proofs.lemmas.List.{take-append-drop}
-use Rattle.std.proofs.lemmas.Bool.Decides.{nat_tests}
-use Rattle.httparse.specs.Grammar.{RequestHead, ReadsRequest, lf, print_end, print_request}
-use Rattle.httparse.specs.Spans.{RequestExceeds}
+use Rattle.std.proofs.Common.{◌≡◌, ◌≢◌, ℕ, ◌+◌, ◌-◌, ◌<◌, Bool, List, [], ◌++◌, take, length, Ok}
+use Rattle.std.proofs.Common.{Err, refl, ap, sym, subst, ◌∙◌, inl, inr, arith, append_assoc, length-append}
+use Rattle.std.specs.Prelude.{Result}
+use Rattle.httparse.specs.Grammar.{RequestHead, ReadsRequest, print_request}
 use Rattle.httparse.proofs.GrammarLemmas.{request_unique}
 use Rattle.http_said.specs.Arguments.{arguments_of, path_of}
 use Rattle.http_said.specs.Fields.{asks_to_close, framing_of, is_form}
 use Rattle.http_said.specs.declared.fault.FieldFault.{FieldFault}
 use Rattle.http_said.specs.declared.fault.FieldFault.TheVariants as fields
-use Rattle.http_in.specs.Chunks.{IsWholeBody}
-use Rattle.http_in.specs.Faults.{HasBadHead, HasBodyFault, HasCome, HasFault, HasLargeHead, HasUnframed, IsInside}
+use Rattle.http_in.specs.Chunks.{IsWholeBody, Leads}
+use Rattle.http_in.specs.Faults.{HasBadHead, HasBodyFault, HasCome, HasFault, HasHeadLine, HasLargeHead, HasUnframed}
+use Rattle.http_in.specs.Faults.{IsInside}
 use Rattle.http_in.specs.Faults.{place_behind}
 use Rattle.http_in.specs.Limits.{field_limit, head_limit}
-use Rattle.http_in.specs.Lines.{lines_in}
 use Rattle.http_in.specs.Message.{Asked, Asks, Begins, BeginsHead, fields_of}
 use Rattle.http_in.specs.Reading.{Explains}
 use Rattle.http_in.specs.declared.fault.RequestFault.{RequestFault}
 use Rattle.http_in.specs.declared.fault.RequestFault.TheVariants as faults
+use Rattle.http_said.specs.declared.said.Framing.{Framing}
+use Rattle.http_in.specs.declared.stage.Stage.{Stage}
 use Rattle.http_in.specs.declared.stage.Stage.TheVariants as stages
-use Rattle.http_in.proofs.CountLemmas.{head_lines, lines_before, request_lines}
+use Rattle.http_in.proofs.CountLemmas.{head_lines}
 use Rattle.http_in.proofs.HeadLemmas.{head_some}
-use Rattle.http_in.proofs.RemainLemmas.{Remains, in_front, no_hit, no_wait, remains, split_from}
+use Rattle.http_in.proofs.RemainLemmas.{Remains, in_front, no_hit, no_wait, over_text, remains}
 
-ok_is : {A E : Type 0} (r : Result A E) (x y : A) → r ≡ Ok x → r ≡ Ok y → x ≡ y
+pub ok_is : {A E : Type 0} (r : Result A E) (x y : A) → r ≡ Ok x → r ≡ Ok y → x ≡ y
 ok_is r x y p q = cc
 
 never_both : {A E : Type 0} (r : Result A E) (x : A) (e : E) → r ≡ Ok x → r ≡ Err e → ⊥
@@ -34,48 +33,25 @@ never_both r x e p q = cc
 -- ---- heads
 
 -- a head with few fields has no line too many
-not_exceeds : (bytes after : List ℕ) (h : RequestHead) (n : ℕ) → BeginsHead bytes h after
-    → RequestExceeds field_limit (take n bytes) → ⊥
-not_exceeds bytes after h n b x = by_test (nat_le (length text) (length x.0)) refl
-  where
-    text : List ℕ
-    text = print_request h
-
-    whole : x.0 ++ (x.1 ++ drop n bytes) ≡ text ++ after
-    whole =
-        sym (append_assoc x.0 x.1 (drop n bytes)) ∙ ap (λ l. l ++ drop n bytes) (sym x.2) ∙ take-append-drop n bytes
-        ∙ b.reads.1
-
-    by_test : (t : Bool) → nat_le (length text) (length x.0) ≡ t → ⊥
-    by_test true is_long =
-        let fits : length text ≤ length x.0 = grind (arith, nat_tests) in
-        let s = split_from text after x.0 (x.1 ++ drop n bytes) (sym whole) fits in
-        let same = request_unique (x.0 ++ print_end lf) h x.3 (s.piece ++ print_end lf) []
-        (b.reads.0, ap (λ l. l ++ print_end lf) s.long_is ∙ append_assoc text s.piece (print_end lf)) x.4 in
-        absurd (omega (arith, b.few, x.5, ap (λ (k : RequestHead). length k.fields) same.0))
-    by_test false is_short =
-        let fits : length x.0 ≤ length text = grind (arith, nat_tests) in
-        let s = split_from x.0 (x.1 ++ drop n bytes) text after whole fits in
-        let many = request_lines field_limit x.0 (x.0, [], sym (append-nil x.0), x.3, x.4, x.5) in
-        absurd (omega (
-          arith,
-          b.few,
-          many,
-          lines_before x.0 s.piece,
-          ap lines_in s.long_is,
-          head_lines h b.reads.0,
-        ))
+not_over : (bytes after : List ℕ) (h : RequestHead) → BeginsHead bytes h after → HasHeadLine (take head_limit bytes) → ⊥
+not_over bytes after h b x =
+    let longer = over_text (print_request h) after bytes x.front head_limit (field_limit + 1) b.reads.1 x.over
+    (omega (arith, b.few, head_lines h b.reads.0)) in
+    x.is_front.none h longer.0 (b.reads.0, longer.1)
 
 pub no_bad_head : (bytes rest : List ℕ) (asked : Asked) → Begins bytes asked rest → HasBadHead bytes → ⊥
 no_bad_head bytes rest asked x f =
     f.never f.later x.head x.after (subst (λ l. ReadsRequest l x.head x.after) f.whole x.begins.reads)
 
+pub head_not_large : (bytes after : List ℕ) (h : RequestHead) → BeginsHead bytes h after → HasLargeHead bytes → ⊥
+head_not_large bytes after h b (inl f) =
+    let text : List ℕ = print_request h in
+    f.1.none h (take (head_limit - length text) after)
+    (b.reads.0, ap (take head_limit) b.reads.1 ∙ in_front text after b.short)
+head_not_large bytes after h b (inr f) = not_over bytes after h b f
+
 pub no_large_head : (bytes rest : List ℕ) (asked : Asked) → Begins bytes asked rest → HasLargeHead bytes → ⊥
-no_large_head bytes rest asked x (inl f) =
-    let text : List ℕ = print_request x.head in
-    f.1.none x.head (take (head_limit - length text) x.after)
-    (x.begins.reads.0, ap (take head_limit) x.begins.reads.1 ∙ in_front text x.after x.begins.short)
-no_large_head bytes rest asked x (inr f) = not_exceeds bytes x.after x.head head_limit x.begins f
+no_large_head bytes rest asked x f = head_not_large bytes x.after x.head x.begins f
 
 pub no_unframed : (bytes rest : List ℕ) (asked : Asked) (fault : FieldFault) → Begins bytes asked rest
     → HasUnframed bytes fault → ⊥
@@ -87,14 +63,22 @@ no_unframed bytes rest asked fault x f =
 -- ---- bodies
 
 -- what remains of the request's body behind a part of it
+pub remains_at : (bytes rest : List ℕ) (asked : Asked) → Begins bytes asked rest → (head : RequestHead) (after : List ℕ)
+    (framing : Framing) (raw : List ℕ) (stage : Stage) (body ahead : List ℕ) → BeginsHead bytes head after
+    → framing_of (fields_of head) ≡ Ok framing → Leads framing raw stage body → after ≡ raw ++ ahead
+    → Remains stage body ahead asked.body rest
+remains_at bytes rest asked x head after framing raw stage body ahead begins framed leads follows =
+    let heads = request_unique bytes x.head head x.after after x.begins.reads begins.reads in
+    let same = ok_is (framing_of (fields_of head)) x.framing framing
+    (ap (λ (h : RequestHead). framing_of (fields_of h)) (sym heads.0) ∙ x.framed) framed in
+    remains framing stage raw body ahead x.raw asked.body rest after
+    (subst (λ f. IsWholeBody f x.raw asked.body) same x.body) (sym heads.1 ∙ x.follows) leads follows
+
 remains_in : (bytes rest : List ℕ) (asked : Asked) → Begins bytes asked rest → (c : HasCome bytes)
     → Remains c.stage c.body c.rest asked.body rest
 remains_in bytes rest asked x c =
-    let heads = request_unique bytes x.head c.head x.after c.after x.begins.reads c.begins.reads in
-    let framing = ok_is (framing_of (fields_of c.head)) x.framing c.framing
-    (ap (λ (h : RequestHead). framing_of (fields_of h)) (sym heads.0) ∙ x.framed) c.framed in
-    remains c.framing c.stage c.raw c.body c.rest x.raw asked.body rest c.after
-    (subst (λ f. IsWholeBody f x.raw asked.body) framing x.body) (sym heads.1 ∙ x.follows) c.leads c.follows
+    remains_at bytes rest asked x c.head c.after c.framing c.raw c.stage c.body c.rest c.begins c.framed c.leads
+    c.follows
 
 pub no_body_fault : (start : ℕ) (bytes rest : List ℕ) (asked : Asked) (fault : RequestFault) → Begins bytes asked rest
     → HasBodyFault start bytes fault → ⊥

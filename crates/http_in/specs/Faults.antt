@@ -4,11 +4,11 @@ use Rattle.httparse.specs.Ascii.{carriage_return, crlf_bytes}
 use Rattle.httparse.specs.Grammar.{ChunkLine, RequestHead, HasNoChunkLine, HasNoRequest, HasNoSection}
 use Rattle.httparse.specs.Grammar.{MayBecomeChunkLine, MayBecomeRequest, MayBecomeSection, NeverHasChunkLine}
 use Rattle.httparse.specs.Grammar.{NeverHasRequest, NeverHasSection, chunk_size, print_chunk_line, print_request}
-use Rattle.httparse.specs.Spans.{RequestExceeds, SectionExceeds}
 use Rattle.http_in.specs.Chunks.{HasRoom, IsLine, Leads}
 use Rattle.http_said.specs.Fields.{framing_of}
 use Rattle.http_said.specs.Limits.{body_limit}
 use Rattle.http_in.specs.Limits.{field_limit, head_limit, place}
+use Rattle.http_in.specs.Lines.{GoesOver, lines_in}
 use Rattle.http_in.specs.Message.{BeginsHead, fields_of}
 use Rattle.http_said.specs.declared.fault.FieldFault.{FieldFault}
 use Rattle.http_said.specs.declared.fault.FieldFault.TheVariants as fields
@@ -20,26 +20,32 @@ use Rattle.http_in.specs.declared.stage.Stage.TheVariants as stages
 
 -- ---- heads
 
--- a front of the bytes, within the limits of a head, is no head and never becomes one
+-- A front of the bytes is no head and never becomes one. It has so few bytes as a head may have, and of header lines,
+-- whose line feeds count, so few: with the start line one more.
 pub record HasBadHead (bytes : List ℕ) : Type 0 where
   pub front : List ℕ
   pub later : List ℕ
   pub whole : bytes ≡ front ++ later
   pub short : length front ≤ head_limit
-  pub few : ¬ (RequestExceeds field_limit front)
+  pub few : lines_in front ≤ field_limit + 1
   pub never : NeverHasRequest front
 
 -- No head yet, and nothing against one. Inside a target there may be: its test for UTF-8 waits for its end.
 pub record IsHeadFront (bytes : List ℕ) : Type 0 where
   pub none : HasNoRequest bytes
   pub may : MayBecomeRequest bytes
-  pub few : ¬ (RequestExceeds field_limit bytes)
+  pub few : lines_in bytes ≤ field_limit + 1
+
+-- nothing is against a front of the bytes, and behind it ends a header line too many
+pub record HasHeadLine (bytes : List ℕ) : Type 0 where
+  pub front : List ℕ
+  pub is_front : IsHeadFront front
+  pub over : GoesOver bytes front (field_limit + 1)
 
 -- the head has no end within its limit, or a line too many
 abbrev pub HasLargeHead : List ℕ → Type 0
 HasLargeHead bytes =
-    ((head_limit ≤ length bytes) × IsHeadFront (take head_limit bytes))
-    ⊎ RequestExceeds field_limit (take head_limit bytes)
+    ((head_limit ≤ length bytes) × IsHeadFront (take head_limit bytes)) ⊎ HasHeadLine (take head_limit bytes)
 
 -- the bytes begin with a head whose fields are at fault
 pub record HasUnframed (bytes : List ℕ) (fault : FieldFault) : Type 0 where
@@ -71,26 +77,31 @@ IsNoEnd [] = ⊥
 IsNoEnd (b ∷ []) = b ≢ carriage_return
 IsNoEnd (b ∷ c ∷ bytes) = b ∷ c ∷ [] ≢ crlf_bytes
 
--- a front of the bytes, within the limits, is no trailer section and never becomes one
+-- a front of the bytes, with no more bytes and lines than a trailer section may have, is none and never becomes one
 pub record HasBadSection (bytes : List ℕ) : Type 0 where
   pub front : List ℕ
   pub later : List ℕ
   pub whole : bytes ≡ front ++ later
   pub short : length front ≤ head_limit
-  pub few : ¬ (SectionExceeds field_limit front)
+  pub few : lines_in front ≤ field_limit
   pub never : NeverHasSection front
 
 -- no trailer section yet, and nothing against one
 pub record IsSectionFront (bytes : List ℕ) : Type 0 where
   pub none : HasNoSection bytes
   pub may : MayBecomeSection bytes
-  pub few : ¬ (SectionExceeds field_limit bytes)
+  pub few : lines_in bytes ≤ field_limit
+
+-- nothing is against a front of the bytes, and behind it ends a line too many
+pub record HasSectionLine (bytes : List ℕ) : Type 0 where
+  pub front : List ℕ
+  pub is_front : IsSectionFront front
+  pub over : GoesOver bytes front field_limit
 
 -- the trailer section has no end within its limit, or a line too many
 abbrev pub HasLargeSection : List ℕ → Type 0
 HasLargeSection bytes =
-    ((head_limit ≤ length bytes) × IsSectionFront (take head_limit bytes))
-    ⊎ SectionExceeds field_limit (take head_limit bytes)
+    ((head_limit ≤ length bytes) × IsSectionFront (take head_limit bytes)) ⊎ HasSectionLine (take head_limit bytes)
 
 -- what is wrong at this place of the connection, where a body has come so far
 abbrev pub Hits : ℕ → Stage → List ℕ → List ℕ → RequestFault → Type 0

@@ -1,12 +1,14 @@
 -- Where the parts of a head are, and what it says.
 use Rattle.std.specs.Prelude.{◌≡◌, ℕ, ◌≤◌, ◌<◌, List, length, drop, Ok, ⊤}
-use Rattle.httparse.specs.Grammar.{RequestHead, ReadsRequest, print_request}
-use Rattle.httparse.specs.Spans.{IsWithin, span_bytes}
+use Rattle.httparse.specs.Grammar.{NeverHasRequest, RequestHead, ReadsRequest, print_request}
+use Rattle.httparse.specs.Spans.{IsWithin, RequestExceeds, span_bytes}
 use Rattle.http_in.specs.Faults.{HasBadHead, HasLargeHead, HasUnframed, IsInHead}
 use Rattle.http_said.specs.Fields.{IsWithinLimit, asks_to_close, framing_of, is_form}
 use Rattle.http_in.specs.Limits.{field_limit, head_limit}
 use Rattle.http_in.specs.Message.{fields_of}
 use Rattle.http_in.specs.declared.head.Head.{Head}
+use Rattle.http_in.specs.declared.head.HeadFault.{HeadFault}
+use Rattle.http_in.specs.declared.head.HeadFault.TheVariants as whys
 use Rattle.http_said.specs.declared.fault.FieldFault.TheVariants as fields
 use Rattle.http_in.specs.declared.fault.RequestFault.{RequestFault}
 use Rattle.http_in.specs.declared.fault.RequestFault.TheVariants as faults
@@ -27,6 +29,12 @@ pub record IsHeadAt (bytes : List ℕ) (at : Head) : Type 0 where
   pub within : IsWithinLimit at.framing
   pub form : at.form ≡ is_form (fields_of head)
   pub last : at.last ≡ asks_to_close head.minor (fields_of head)
+
+-- what a parser that answers so says of the bytes
+abbrev pub ParsesNot : List ℕ → HeadFault → Type 0
+ParsesNot bytes whys.Form = NeverHasRequest bytes
+ParsesNot bytes whys.Lines = RequestExceeds field_limit bytes
+ParsesNot bytes (whys.Fields fault) = HasUnframed bytes fault
 
 -- the bytes of a head, which begin at this place, are at fault
 abbrev pub HasHeadFault : ℕ → List ℕ → RequestFault → Type 0

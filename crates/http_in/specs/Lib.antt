@@ -7,4 +7,7 @@ pub mod Faults
 pub mod Requests
 pub mod Head
 pub mod Progress
+pub mod Measure
+pub mod Lacks
 pub mod Reading
+pub mod Laws

@@ -1,6 +1,6 @@
 -- Lines that are not empty, in a head or a section. An empty one has no byte, or a carriage return alone.
 use Rattle.std.specs.Prelude.{◌≡◌, ◌⊎◌, ℕ, ◌+◌, ◌<◌, ◌≤◌, Bool, true, false, not, ◌&&◌, ◌||◌, ◌==◌, List, [], ◌∷◌, ◌++◌}
-use Rattle.std.specs.Prelude.{length, take}
+use Rattle.std.specs.Prelude.{get_or, length, take}
 use Rattle.std.specs.Prelude.{if◌then◌else◌}
 use Rattle.http_in.specs.Limits.{head_limit}
 use Rattle.httparse.specs.Ascii.{carriage_return, line_feed}
@@ -25,22 +25,25 @@ begun_after begun (b ∷ bytes) = begun_after (begins_line begun b) bytes
 abbrev pub lines_in : List ℕ → ℕ
 lines_in bytes = lines_from false bytes
 
--- before the last byte no more lines end than these
-abbrev pub HasFewBefore : ℕ → List ℕ → Type 0
-HasFewBefore lines bytes = (n : ℕ) → n < length bytes → lines_in (take n bytes) ≤ lines
+-- At this place a line feed ends a line, no more end before it than these, and with it more do.
+pub record EndsLine (bytes : List ℕ) (lines at : ℕ) : Type 0 where
+  pub inside : at < length bytes
+  pub feed : get_or bytes at 0 ≡ line_feed
+  pub few : lines_in (take at bytes) ≤ lines
+  pub many : lines < lines_in (take at bytes ++ line_feed ∷ [])
 
--- More lines than these end in the first bytes, and no more before the last of them.
-pub record EndsLine (bytes : List ℕ) (lines end : ℕ) : Type 0 where
-  pub fits : end ≤ length bytes
-  pub many : lines < lines_in (take end bytes)
-  pub few : HasFewBefore lines (take end bytes)
+-- A line feed follows the front, and with it more lines end than these.
+pub record GoesOver (bytes front : List ℕ) (lines : ℕ) : Type 0 where
+  pub later : List ℕ
+  pub whole : bytes ≡ front ++ line_feed ∷ later
+  pub many : lines < lines_in (front ++ line_feed ∷ [])
 
 -- a front of the bytes within the limits, and whether it may not be longer
 pub record IsFrontOf (bytes : List ℕ) (lines : ℕ) (front : List ℕ) (full : Bool) : Type 0 where
   pub later : List ℕ
   pub whole : bytes ≡ front ++ later
   pub short : length front ≤ head_limit
-  pub few : HasFewBefore lines front
-  pub all : full ≡ false → (front ≡ bytes) × (length bytes < head_limit) × (lines_in front ≤ lines)
-  pub limit : full ≡ true → (lines < lines_in front)
-      ⊎ ((head_limit ≤ length bytes) × (front ≡ take head_limit bytes) × (lines_in front ≤ lines))
+  pub few : lines_in front ≤ lines
+  pub all : full ≡ false → (front ≡ bytes) × (length bytes < head_limit)
+  pub limit : full ≡ true → GoesOver (take head_limit bytes) front lines
+      ⊎ ((head_limit ≤ length bytes) × (front ≡ take head_limit bytes))

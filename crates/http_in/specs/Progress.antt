@@ -1,10 +1,10 @@
 -- How far a reader is in a body.
-use Rattle.std.specs.Prelude.{◌≡◌, ◌⊎◌, ℕ, ◌+◌, ◌*◌, ◌-◌, ◌≤◌, List, [], ◌++◌, drop, length, ⊤}
+use Rattle.std.specs.Prelude.{◌≡◌, ◌⊎◌, ℕ, ◌+◌, ◌≤◌, List, [], ◌++◌, drop, length, ⊤}
+use Rattle.std.specs.Prelude.{◌==◌, if◌then◌else◌}
 use Rattle.httparse.specs.Grammar.{ChunkLine, Field, LineEnd, chunk_size, print_chunk_line, print_section}
 use Rattle.http_in.specs.Chunks.{IsLine, IsTrailer, Leads}
 use Rattle.http_in.specs.Faults.{HasBadLine, HasBadSection, HasLargeSection, Hits, IsInEnd, IsInLine, IsInSection}
 use Rattle.http_in.specs.Faults.{IsNoEnd, Waits}
-use Rattle.http_said.specs.Limits.{body_limit}
 use Rattle.http_in.specs.Limits.{place}
 use Rattle.http_in.specs.declared.body.Body.{Body}
 use Rattle.http_in.specs.declared.fault.RequestFault.{RequestFault}
@@ -36,6 +36,19 @@ progress_of body ahead = record {
 -- These bytes of a body, which begins at `base`, were used up on the way there.
 abbrev pub LeadsTo : Framing → ℕ → List ℕ → Progress → Type 0
 LeadsTo framing base raw p = Leads framing raw p.stage p.body × (p.place ≡ place (base + length raw))
+
+-- so many bytes are left of the data that is being read
+abbrev pub IsData : Stage → ℕ → Type 0
+IsData stage left = (stage ≡ stages.Rest left) ⊎ (stage ≡ stages.Data left)
+
+-- the stage in data of which so many bytes are left, where it was in that data before
+abbrev pub stage_with : Stage → ℕ → Stage
+stage_with (stages.Rest before) left = if left == 0 then stages.Done else stages.Rest left
+stage_with stages.Line left = stages.Line
+stage_with (stages.Data before) left = if left == 0 then stages.End else stages.Data left
+stage_with stages.End left = stages.End
+stage_with stages.Trailer left = stages.Trailer
+stage_with stages.Done left = stages.Done
 
 -- Whatever led to the one, it and then what was used up leads to the other.
 pub record Moves (old new : Progress) (piece : List ℕ) : Type 0 where
@@ -145,16 +158,3 @@ IsOutside faults.BadLength = ⊥
 IsOutside (faults.BadChunk at) = ⊥
 IsOutside faults.Coding = ⊥
 IsOutside faults.Memory = ⊤
-
--- how many steps a stage may take without more of the body
-abbrev pub weight : Stage → ℕ
-weight (stages.Rest left) = 4
-weight stages.Line = 2
-weight (stages.Data left) = 1
-weight stages.End = 3
-weight stages.Trailer = 1
-weight stages.Done = 0
-
--- so many steps there are at most
-abbrev pub steps_left : Stage → List ℕ → ℕ
-steps_left stage body = 4 * (body_limit - length body) + weight stage

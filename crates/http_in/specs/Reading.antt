@@ -50,6 +50,19 @@ pub record Holds (start : ℕ) (bytes : List ℕ) (held : Held) : Type 0 where
   pub start_is : held.progress.start ≡ place start
   pub so : HoldsSo start bytes held.head held.bytes held.progress
 
+-- the bytes that are held begin with a whole request
+pub record HoldsRequest (held : Held) : Type 0 where
+  pub start : ℕ
+  pub bytes : List ℕ
+  pub rest : List ℕ
+  pub asked : Asked
+  pub holds : Holds start bytes held
+  pub begins : Begins bytes asked rest
+
+-- Where the bytes that are held begin with a whole request, nothing is asked of the source.
+unfoldable pub ReadsNoFurther : {S : Type 0} → Held → S → S → Type 0
+ReadsNoFurther held before now = HoldsRequest held → now ≡ before
+
 abbrev pub asked_by : Request → Asked
 asked_by request = record {
   method = request.method;

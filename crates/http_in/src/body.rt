@@ -1,23 +1,28 @@
 //! The body of a request.
-ghost use Rattle.std.specs.Prelude.{◌≡◌, ◌≢◌, ◌+◌, ◌++◌, ◌<◌, ◌≤◌, ℕ, List, [], IfErr, OnErr, OnOk, Ok, Err, vec_len};
+ghost use Rattle.std.specs.Prelude.{◌≡◌, ◌≢◌, ◌+◌, ◌++◌, ◌<◌, ◌≤◌, ℕ, List, [], IfErr, OnErr, OnOk, Ok, Err};
+ghost use Rattle.std.specs.Prelude.{drop, false, length, true, vec_len};
 ghost use Rattle.httparse.specs.Ascii.{crlf_bytes};
 ghost use Rattle.vl_io.specs.Bytes.{AddsPiece, Consumes, IsAtEnd};
 ghost use Rattle.vl_io.specs.Faults.{Rose};
 ghost use Rattle.http_in.specs.Chunks.{HasRoom};
+ghost use Rattle.http_in.specs.Faults.{IsInEnd, IsNoEnd};
 ghost use Rattle.http_said.specs.Limits.{body_limit};
-ghost use Rattle.http_in.specs.Progress.{IsShort, Moves, Stops, StopsAtEnd, Takes, progress_of, steps_left};
+ghost use Rattle.http_in.specs.Lacks.{AddsIf, AsksIf, Lacks, LacksBody, MovesIf};
+ghost use Rattle.http_in.specs.Measure.{steps_left};
+ghost use Rattle.http_in.specs.Progress.{IsData, IsShort, Stops, StopsAtEnd, Takes, progress_of, stage_with};
 
 use crate::fault::RequestFault;
 use crate::line::whole_line;
 use crate::stage::Stage;
-use crate::take::read_more;
+use crate::take::{PIECE, read_more};
 use crate::trailer::whole_trailer;
 use crate::window::Window;
 use http_said::BODY_LIMIT;
 use vl_io::Source;
 
-/// How many bytes a read is offered room for.
-const PIECE: usize = 65_536;
+/// How many bytes a read is offered room for at least, where so many are missing. Its room is twice what the read
+/// before gave, so that little is cleared for a source that gives little.
+const LEAST_ROOM: usize = 4_096;
 
 /// A body that is being read.
 #[derive(Drop)]
@@ -38,8 +43,9 @@ pub(crate) fn read_body<S: Source>(
 ) -> Result<(), RequestFault>
     requires room { HasRoom body.old.stage body.old.bytes.items }
     ensures room { HasRoom body.new.stage body.new.bytes.items }
-    ensures moved { (piece : List ℕ) × Consumes (S.left src.old) (S.left src.new) piece
-        × Moves (progress_of body.old window.old) (progress_of body.new window.new) piece }
+    // Where the rest of the body is there, nothing is asked of the source.
+    ensures moved { MovesIf S.left (LacksBody (progress_of body.old window.old)) src.old src.new
+        (progress_of body.old window.old) (progress_of body.new window.new) }
     ensures done { OnOk result (body.new.stage ≡ Stage.Done) }
     ensures stops { IfErr result (Stops (progress_of body.new window.new) (IsAtEnd (S.left src.new))) }
     ensures failed { result ≡ Err RequestFault.SourceFault → Rose (S.faults src.old) (S.faults src.new) }
@@ -58,8 +64,8 @@ pub(crate) fn read_body<S: Source>(
 fn step<S: Source>(window: &mut Window, body: &mut Body, src: &mut S) -> Result<(), RequestFault>
     requires room { HasRoom body.old.stage body.old.bytes.items }
     ensures room { HasRoom body.new.stage body.new.bytes.items }
-    ensures moved { (piece : List ℕ) × Consumes (S.left src.old) (S.left src.new) piece
-        × Moves (progress_of body.old window.old) (progress_of body.new window.new) piece }
+    ensures moved { MovesIf S.left (Lacks body.old.stage window.old) src.old src.new
+        (progress_of body.old window.old) (progress_of body.new window.new) }
     ensures less { OnOk result (body.new.stage ≢ Stage.Done
         → steps_left body.new.stage body.new.bytes.items < steps_left body.old.stage body.old.bytes.items) }
     ensures stops { IfErr result (Stops (progress_of body.new window.new) (IsAtEnd (S.left src.new))) }
@@ -67,7 +73,7 @@ fn step<S: Source>(window: &mut Window, body: &mut Body, src: &mut S) -> Result<
     ensures faults { S.faults src.old ≤ S.faults src.new }
 {
     match body.stage {
-        Stage::Rest(left) => rest_step(window, body, left, src),
+        Stage::Rest(left) => data_step(window, body, left, src),
         Stage::Line => line_step(window, body, src),
         Stage::Data(left) => data_step(window, body, left, src),
         Stage::End => end_step(window, body, src),
@@ -76,52 +82,20 @@ fn step<S: Source>(window: &mut Window, body: &mut Body, src: &mut S) -> Result<
     }
 }
 
-/// The step over what is left of a body whose length was declared.
-fn rest_step<S: Source>(
-    window: &mut Window,
-    body: &mut Body,
-    left: usize,
-    src: &mut S,
-) -> Result<(), RequestFault>
-    requires at { body.old.stage ≡ Stage.Rest left }
-    requires room { vec_len body.old.bytes + left ≤ body_limit }
-    ensures room { HasRoom body.new.stage body.new.bytes.items }
-    ensures moved { (piece : List ℕ) × Consumes (S.left src.old) (S.left src.new) piece
-        × Moves (progress_of body.old window.old) (progress_of body.new window.new) piece }
-    ensures done { OnOk result (body.new.stage ≡ Stage.Done) }
-    ensures stops { IfErr result (Stops (progress_of body.new window.new) (IsAtEnd (S.left src.new))) }
-    ensures failed { result ≡ Err RequestFault.SourceFault → Rose (S.faults src.old) (S.faults src.new) }
-    ensures faults { S.faults src.old ≤ S.faults src.new }
-{
-    let before = body.bytes.len();
-    let taken = take_data(window, &mut body.bytes, body.start, left, src);
-    let came = body.bytes.len() - before;
-    body.place = body.place.saturating_add(came as u64);
-    if came == left {
-        body.stage = Stage::Done;
-        return Ok(());
-    }
-    body.stage = Stage::Rest(left - came);
-    match taken {
-        Ok(()) => unreachable!(),
-        Err(fault) => Err(fault),
-    }
-}
-
-/// The step through a chunk's data.
+/// The step through data of which so many bytes are left: of a body whose length was declared, or of a chunk.
 fn data_step<S: Source>(
     window: &mut Window,
     body: &mut Body,
     left: usize,
     src: &mut S,
 ) -> Result<(), RequestFault>
-    requires at { body.old.stage ≡ Stage.Data left }
-    requires room { vec_len body.old.bytes + left ≤ body_limit }
-    requires live { 0 < left }
+    requires at { IsData body.old.stage left }
+    requires room { HasRoom body.old.stage body.old.bytes.items }
     ensures room { HasRoom body.new.stage body.new.bytes.items }
-    ensures moved { (piece : List ℕ) × Consumes (S.left src.old) (S.left src.new) piece
-        × Moves (progress_of body.old window.old) (progress_of body.new window.new) piece }
-    ensures next { OnOk result ((body.new.stage ≡ Stage.End) × (vec_len body.old.bytes < vec_len body.new.bytes)) }
+    ensures moved { MovesIf S.left (Lacks body.old.stage window.old) src.old src.new
+        (progress_of body.old window.old) (progress_of body.new window.new) }
+    ensures less { OnOk result (body.new.stage ≢ Stage.Done
+        → steps_left body.new.stage body.new.bytes.items < steps_left body.old.stage body.old.bytes.items) }
     ensures stops { IfErr result (Stops (progress_of body.new window.new) (IsAtEnd (S.left src.new))) }
     ensures failed { result ≡ Err RequestFault.SourceFault → Rose (S.faults src.old) (S.faults src.new) }
     ensures faults { S.faults src.old ≤ S.faults src.new }
@@ -130,14 +104,29 @@ fn data_step<S: Source>(
     let taken = take_data(window, &mut body.bytes, body.start, left, src);
     let came = body.bytes.len() - before;
     body.place = body.place.saturating_add(came as u64);
+    body.stage = stage_with(body.stage, left - came);
     if came == left {
-        body.stage = Stage::End;
         return Ok(());
     }
-    body.stage = Stage::Data(left - came);
     match taken {
         Ok(()) => unreachable!(),
         Err(fault) => Err(fault),
+    }
+}
+
+/// The stage in data of which so many bytes are left, where it was in that data before.
+fn stage_with(stage: Stage, left: usize) -> Stage
+    ensures { result ≡ stage_with stage left }
+{
+    match stage {
+        Stage::Rest(_) if left == 0 => Stage::Done,
+        Stage::Rest(_) => Stage::Rest(left),
+        Stage::Data(_) if left == 0 => Stage::End,
+        Stage::Data(_) => Stage::Data(left),
+        Stage::Line => Stage::Line,
+        Stage::End => Stage::End,
+        Stage::Trailer => Stage::Trailer,
+        Stage::Done => Stage::Done,
     }
 }
 
@@ -151,7 +140,8 @@ fn take_data<S: Source>(
 ) -> Result<(), RequestFault>
     requires { vec_len bytes.old + left ≤ body_limit }
     ensures taken { (piece : List ℕ) × Consumes (S.left src.old) (S.left src.new) piece
-        × Takes window.old bytes.old.items window.new bytes.new.items piece }
+        × Takes window.old bytes.old.items window.new bytes.new.items piece
+        × AsksIf (length window.old < left) src.old src.new piece }
     ensures ok { OnOk result (vec_len bytes.new ≡ vec_len bytes.old + left) }
     ensures within { vec_len bytes.new ≤ vec_len bytes.old + left }
     ensures short { IfErr result (IsShort start window.new (IsAtEnd (S.left src.new))) }
@@ -187,13 +177,15 @@ fn read_to<S: Source>(
     ensures failed { result ≡ Err RequestFault.SourceFault → Rose (S.faults src.old) (S.faults src.new) }
     ensures faults { S.faults src.old ≤ S.faults src.new }
 {
+    let mut room = LEAST_ROOM;
     'reads: while bytes.len() < target {
-        let most = (target - bytes.len()).min(PIECE);
-        match read_more(src, bytes, most) {
+        let before = bytes.len();
+        match read_more(src, bytes, room.min(target - before)) {
             Ok(true) => {}
             Ok(false) => return Err(RequestFault::Cut { at: start }),
             Err(fault) => return Err(fault),
         }
+        room = (2 * (bytes.len() - before)).max(LEAST_ROOM).min(PIECE);
     }
     Ok(())
 }
@@ -207,8 +199,8 @@ fn line_step<S: Source>(
     requires at { body.old.stage ≡ Stage.Line }
     requires room { vec_len body.old.bytes ≤ body_limit }
     ensures room { HasRoom body.new.stage body.new.bytes.items }
-    ensures moved { (piece : List ℕ) × Consumes (S.left src.old) (S.left src.new) piece
-        × Moves (progress_of body.old window.old) (progress_of body.new window.new) piece }
+    ensures moved { MovesIf S.left (Lacks body.old.stage window.old) src.old src.new
+        (progress_of body.old window.old) (progress_of body.new window.new) }
     ensures less { OnOk result (steps_left body.new.stage body.new.bytes.items
         < steps_left body.old.stage body.old.bytes.items) }
     ensures stops { IfErr result (Stops (progress_of body.new window.new) (IsAtEnd (S.left src.new))) }
@@ -240,8 +232,8 @@ fn end_step<S: Source>(
     requires at { body.old.stage ≡ Stage.End }
     requires room { vec_len body.old.bytes ≤ body_limit }
     ensures room { HasRoom body.new.stage body.new.bytes.items }
-    ensures moved { (piece : List ℕ) × Consumes (S.left src.old) (S.left src.new) piece
-        × Moves (progress_of body.old window.old) (progress_of body.new window.new) piece }
+    ensures moved { MovesIf S.left (Lacks body.old.stage window.old) src.old src.new
+        (progress_of body.old window.old) (progress_of body.new window.new) }
     ensures less { OnOk result (steps_left body.new.stage body.new.bytes.items
         < steps_left body.old.stage body.old.bytes.items) }
     ensures stops { IfErr result (Stops (progress_of body.new window.new) (IsAtEnd (S.left src.new))) }
@@ -266,26 +258,39 @@ fn line_end<S: Source>(
     src: &mut S,
 ) -> Result<(), RequestFault>
     ensures ok { OnOk result ((piece : List ℕ) × Consumes (S.left src.old) (S.left src.new) piece
-        × (window.old ++ piece ≡ crlf_bytes ++ window.new)) }
-    ensures err { OnErr result (AddsPiece (S.left src.old) (S.left src.new) window.old window.new) }
+        × (window.old ++ piece ≡ crlf_bytes ++ window.new) × AsksIf (length window.old < 2) src.old src.new piece) }
+    ensures err { OnErr result (AddsIf S.left (length window.old < 2) src.old src.new window.old window.new) }
     ensures stops { IfErr result (StopsAtEnd start place window.new (IsAtEnd (S.left src.new))) }
     ensures failed { result ≡ Err RequestFault.SourceFault → Rose (S.faults src.old) (S.faults src.new) }
     ensures faults { S.faults src.old ≤ S.faults src.new }
 {
     'reads: loop {
-        match window.as_slice() {
-            [b'\r', b'\n', ..] => {
+        match line_end_in(window.as_slice(), place) {
+            Ok(true) => {
                 window.use_up(2);
                 return Ok(());
             }
-            [] | [b'\r'] => {}
-            _ => return Err(RequestFault::BadChunk { at: place }),
+            Ok(false) => {}
+            Err(fault) => return Err(fault),
         }
         match window.fill(src) {
             Ok(true) => {}
             Ok(false) => return Err(RequestFault::Cut { at: start }),
             Err(fault) => return Err(fault),
         }
+    }
+}
+
+/// Whether the bytes begin with a line end. Without one there are too few.
+fn line_end_in(bytes: &[u8], place: u64) -> Result<bool, RequestFault>
+    ensures whole { result ≡ Ok true → bytes.now ≡ crlf_bytes ++ drop 2 bytes.now }
+    ensures open { result ≡ Ok false → IsInEnd bytes.now }
+    ensures bad { IfErr result (λ fault. (fault ≡ RequestFault.BadChunk place) × IsNoEnd bytes.now) }
+{
+    match bytes {
+        [b'\r', b'\n', ..] => Ok(true),
+        [] | [b'\r'] => Ok(false),
+        _ => Err(RequestFault::BadChunk { at: place }),
     }
 }
 
@@ -298,8 +303,8 @@ fn trailer_step<S: Source>(
     requires at { body.old.stage ≡ Stage.Trailer }
     requires room { vec_len body.old.bytes ≤ body_limit }
     ensures room { HasRoom body.new.stage body.new.bytes.items }
-    ensures moved { (piece : List ℕ) × Consumes (S.left src.old) (S.left src.new) piece
-        × Moves (progress_of body.old window.old) (progress_of body.new window.new) piece }
+    ensures moved { MovesIf S.left (Lacks body.old.stage window.old) src.old src.new
+        (progress_of body.old window.old) (progress_of body.new window.new) }
     ensures done { OnOk result (body.new.stage ≡ Stage.Done) }
     ensures stops { IfErr result (Stops (progress_of body.new window.new) (IsAtEnd (S.left src.new))) }
     ensures failed { result ≡ Err RequestFault.SourceFault → Rose (S.faults src.old) (S.faults src.new) }

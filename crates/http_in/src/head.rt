@@ -1,21 +1,21 @@
 //! The head of a request.
-ghost use Rattle.std.specs.Prelude.{◌≡◌, ◌≢◌, ◌+◌, ◌<◌, ◌≤◌, ℕ, IfErr, IfOk, IfSome, IsSomeAnd, IsTrue, Ok, Err};
-ghost use Rattle.std.specs.Prelude.{None, []};
-ghost use Rattle.std.specs.Prelude.{length, ⊤};
-ghost use Rattle.vl_io.specs.Bytes.{AddsPiece, IsAtEnd};
+ghost use Rattle.std.specs.Prelude.{◌≡◌, ◌≢◌, ◌+◌, ◌++◌, ◌<◌, ◌≤◌, ℕ, List, IfErr, IfOk, IfSome, IsSomeAnd, Ok, Err};
+ghost use Rattle.std.specs.Prelude.{None, [], length, take, ⊤};
+ghost use Rattle.vl_io.specs.Bytes.{IsAtEnd};
 ghost use Rattle.vl_io.specs.Faults.{Rose};
 ghost use Rattle.httparse.specs.Grammar.{HasNoRequest, MayBecomeRequest};
 ghost use Rattle.httparse.specs.Spans.{IsRequestOf, IsRequestWithin};
-ghost use Rattle.http_in.specs.Faults.{IsHeadFront};
-ghost use Rattle.http_in.specs.Head.{ExplainsHead, HasHeadFault, IsHeadAt};
+ghost use Rattle.http_in.specs.Faults.{HasUnframed, IsHeadFront};
+ghost use Rattle.http_in.specs.Head.{ExplainsHead, HasHeadFault, IsHeadAt, ParsesNot};
+ghost use Rattle.http_in.specs.Lacks.{AddsIf, IsPlace, LacksHead};
 ghost use Rattle.http_in.specs.Limits.{field_limit, head_limit};
-ghost use Rattle.http_in.specs.Lines.{HasFewBefore};
 ghost use Rattle.http_in.specs.Progress.{IsOutside};
 
 use crate::fault::RequestFault;
 use crate::lines::front_of;
+use crate::search::{Search, is_due, new_search};
 use crate::window::Window;
-use http_said::{Facts, Framing};
+use http_said::{Facts, FieldFault, Framing};
 use httparse::spans::{EMPTY_HEADER_SPAN, HeaderSpan, RequestSpans, Span, parse_request};
 use httparse::{Error, Status};
 use vl_io::Source;
@@ -38,29 +38,38 @@ pub(crate) struct Head {
     pub(crate) last: bool,
 }
 
+/// Why bytes are no head.
+#[derive(Clone, Copy)]
+pub(crate) enum HeadFault {
+    /// They are out of form.
+    Form,
+    /// There are too many header lines.
+    Lines,
+    /// The fields are at fault.
+    Fields(FieldFault),
+}
+
 /// Reads on until a head is whole. Without one the input is over.
 pub(crate) fn whole_head<S: Source>(
     window: &mut Window,
     start: u64,
     src: &mut S,
 ) -> Result<Option<Head>, RequestFault>
-    ensures adds { AddsPiece (S.left src.old) (S.left src.new) window.old window.new }
+    // Where a head is whole, nothing is asked of the source.
+    ensures adds { AddsIf S.left (LacksHead window.old) src.old src.new window.old window.new }
     ensures found { IfOk result (λ found. IfSome found (IsHeadAt window.new)) }
     ensures none { result ≡ Ok None → (window.new ≡ []) × IsAtEnd (S.left src.new) }
     ensures fault { IfErr result (ExplainsHead start window.new (IsAtEnd (S.left src.new))) }
     ensures failed { result ≡ Err RequestFault.SourceFault → Rose (S.faults src.old) (S.faults src.new) }
     ensures faults { S.faults src.old ≤ S.faults src.new }
 {
-    // How many bytes were searched for the end of a head, and how many were parsed.
-    let mut searched = 0;
-    let mut parsed = 0;
+    let mut search = new_search();
     'reads: loop {
-        match head_if_due(window.as_slice(), searched, &mut parsed, start) {
+        match head_if_due(window.as_slice(), &mut search, start) {
             Ok(Some(head)) => return Ok(Some(head)),
             Ok(None) => {}
             Err(fault) => return Err(fault),
         }
-        searched = window.as_slice().len();
         match window.fill(src) {
             Ok(true) => {}
             Ok(false) => return head_at_end(window.as_slice(), start),
@@ -70,52 +79,19 @@ pub(crate) fn whole_head<S: Source>(
 }
 
 /// The head at the front of the bytes, if it is whole and it is time to parse.
-fn head_if_due(
-    bytes: &[u8],
-    searched: usize,
-    parsed: &mut usize,
-    start: u64,
-) -> Result<Option<Head>, RequestFault>
+fn head_if_due(bytes: &[u8], search: &mut Search, start: u64) -> Result<Option<Head>, RequestFault>
+    requires place { IsPlace search.old bytes.now }
+    requires none { LacksHead (take search.old.searched bytes.now) }
+    ensures place { IsPlace search.new bytes.now }
     ensures found { IfOk result (λ found. IfSome found (IsHeadAt bytes.now)) }
-    ensures open { result ≡ Ok None → length bytes.now < head_limit }
+    ensures open { result ≡ Ok None → (length bytes.now < head_limit) × LacksHead bytes.now }
     ensures fault { IfErr result (HasHeadFault start bytes.now) }
 {
-    if !is_due(bytes, searched, *parsed) {
+    if !is_due(search, bytes) {
         return Ok(None);
     }
-    *parsed = bytes.len();
+    search.parsed = bytes.len();
     head_in(bytes, start)
-}
-
-/// Whether it is time to parse the bytes: when the end of a head has come, and else when they have doubled.
-fn is_due(bytes: &[u8], searched: usize, parsed: usize) -> bool
-    ensures { head_limit ≤ length bytes.now → IsTrue result }
-{
-    if bytes.len() / 2 >= parsed || bytes.len() >= HEAD_LIMIT {
-        return true;
-    }
-    for i in searched..bytes.len() {
-        if bytes[i] == b'\n' && ends_in_empty_line(&bytes[..i]) {
-            return true;
-        }
-    }
-    false
-}
-
-/// Whether a line feed behind these bytes ends an empty line, and the line before it is not empty.
-fn ends_in_empty_line(bytes: &[u8]) -> bool {
-    match without_return(bytes) {
-        [front @ .., b'\n'] => !matches!(without_return(front), [] | [.., b'\n']),
-        _ => false,
-    }
-}
-
-/// The bytes without a carriage return at their end.
-fn without_return(bytes: &[u8]) -> &[u8] {
-    match bytes {
-        [front @ .., b'\r'] => front,
-        _ => bytes,
-    }
 }
 
 /// The head at the front of all bytes that come.
@@ -155,27 +131,13 @@ fn head_in(bytes: &[u8], start: u64) -> Result<Option<Head>, RequestFault>
     ensures open { result ≡ Ok None → (length bytes.now < head_limit) × IsHeadFront bytes.now }
     ensures fault { IfErr result (HasHeadFault start bytes.now) }
 {
-    match whole_at_front(&bytes[..bytes.len().min(HEAD_LIMIT)]) {
+    // Mostly the head is whole, and then its lines need not be counted.
+    match parse_head(&bytes[..bytes.len().min(HEAD_LIMIT)]) {
         Ok(Some(head)) => Ok(Some(head)),
         Ok(None) => head_within(bytes, start),
-        Err(fault) => Err(fault),
-    }
-}
-
-/// The head at the front of no more bytes than it may have. `None` says no more than that it is not there.
-fn whole_at_front(front: &[u8]) -> Result<Option<Head>, RequestFault>
-    requires { length front.now ≤ head_limit }
-    ensures found { IfOk result (λ found. IfSome found (IsHeadAt front.now)) }
-    ensures fault { IfErr result (λ fault. (place : ℕ) → HasHeadFault place front.now fault) }
-{
-    let mut headers = [EMPTY_HEADER_SPAN; FIELD_LIMIT];
-    match parse_request(front, &mut headers) {
-        Ok(Status::Complete(spans)) => match framed_head(front, &headers, spans) {
-            Ok(head) => Ok(Some(head)),
-            Err(fault) => Err(fault),
-        },
-        Ok(Status::Partial) => Ok(None),
-        Err(_) => Ok(None),
+        Err(HeadFault::Fields(fault)) => Err(RequestFault::from(fault)),
+        Err(HeadFault::Form) => head_within(bytes, start),
+        Err(HeadFault::Lines) => head_within(bytes, start),
     }
 }
 
@@ -186,31 +148,32 @@ fn head_within(bytes: &[u8], start: u64) -> Result<Option<Head>, RequestFault>
     ensures fault { IfErr result (HasHeadFault start bytes.now) }
 {
     let front = front_of(bytes, FIELD_LIMIT + 1);
-    match head_of(front.bytes, start) {
+    match parse_head(front.bytes) {
         Ok(Some(head)) => Ok(Some(head)),
         Ok(None) if front.full => Err(RequestFault::HeadLarge),
         Ok(None) => Ok(None),
-        Err(fault) => Err(fault),
+        Err(HeadFault::Form) => Err(RequestFault::BadHead { at: start }),
+        Err(HeadFault::Fields(fault)) => Err(RequestFault::from(fault)),
+        Err(HeadFault::Lines) => unreachable!(),
     }
 }
 
-/// The head at the front of no more bytes and lines than it may have.
-fn head_of(front: &[u8], start: u64) -> Result<Option<Head>, RequestFault>
-    requires short { length front.now ≤ head_limit }
-    requires few { HasFewBefore (field_limit + 1) front.now }
+/// The head at the front of no more bytes than it may have.
+fn parse_head(front: &[u8]) -> Result<Option<Head>, HeadFault>
+    requires { length front.now ≤ head_limit }
     ensures found { IfOk result (λ found. IfSome found (IsHeadAt front.now)) }
     ensures open { result ≡ Ok None → HasNoRequest front.now × MayBecomeRequest front.now }
-    ensures fault { IfErr result (HasHeadFault start front.now) }
+    ensures fault { IfErr result (ParsesNot front.now) }
 {
     let mut headers = [EMPTY_HEADER_SPAN; FIELD_LIMIT];
     match parse_request(front, &mut headers) {
         Ok(Status::Complete(spans)) => match framed_head(front, &headers, spans) {
             Ok(head) => Ok(Some(head)),
-            Err(fault) => Err(fault),
+            Err(fault) => Err(HeadFault::Fields(fault)),
         },
         Ok(Status::Partial) => Ok(None),
-        Err(Error::TooManyHeaders) => Err(RequestFault::HeadLarge),
-        Err(_) => Err(RequestFault::BadHead { at: start }),
+        Err(Error::TooManyHeaders) => Err(HeadFault::Lines),
+        Err(_) => Err(HeadFault::Form),
     }
 }
 
@@ -219,13 +182,13 @@ fn framed_head(
     front: &[u8],
     headers: &[HeaderSpan],
     spans: RequestSpans,
-) -> Result<Head, RequestFault>
+) -> Result<Head, FieldFault>
     requires short { length front.now ≤ head_limit }
     requires room { length headers.now ≤ field_limit }
     requires within { IsRequestWithin front.now headers.now spans }
     requires read { IsRequestOf front.now headers.now spans }
     ensures ok { IfOk result (IsHeadAt front.now) }
-    ensures fault { IfErr result (λ fault. (place : ℕ) → HasHeadFault place front.now fault) }
+    ensures fault { IfErr result (HasUnframed front.now) }
 {
     let facts = Facts::from_spans(front, &headers[..spans.headers], spans.version);
     match facts.framing {
@@ -237,6 +200,6 @@ fn framed_head(
             form: facts.form,
             last: facts.last,
         }),
-        Err(fault) => Err(RequestFault::from(fault)),
+        Err(fault) => Err(fault),
     }
 }

@@ -8,6 +8,7 @@ mod line;
 mod lines;
 mod reader;
 mod request;
+mod search;
 mod stage;
 mod take;
 mod trailer;

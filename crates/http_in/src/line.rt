@@ -1,8 +1,11 @@
 //! The chunk line.
-ghost use Rattle.std.specs.Prelude.{◌≡◌, ◌⊎◌, ◌<◌, ◌≤◌, IfErr, IfOk, IfSome, IsTrue, Ok, Err, None, length};
-ghost use Rattle.vl_io.specs.Bytes.{AddsPiece, IsAtEnd};
+ghost use Rattle.std.specs.Prelude.{◌≡◌, ◌⊎◌, ◌↔◌, ◌<◌, ◌≤◌, Contains, IfErr, IfOk, IfSome, IsTrue, Ok, Err, None};
+ghost use Rattle.std.specs.Prelude.{drop, length, take};
+ghost use Rattle.vl_io.specs.Bytes.{IsAtEnd};
 ghost use Rattle.vl_io.specs.Faults.{Rose};
+ghost use Rattle.httparse.specs.Ascii.{line_feed};
 ghost use Rattle.http_in.specs.Faults.{HasBadLine, IsInLine};
+ghost use Rattle.http_in.specs.Lacks.{AddsIf, LacksLine};
 ghost use Rattle.http_in.specs.Limits.{head_limit};
 ghost use Rattle.http_in.specs.Progress.{IsLineAt, StopsAtLine};
 
@@ -26,7 +29,7 @@ pub(crate) fn whole_line<S: Source>(
     place: u64,
     src: &mut S,
 ) -> Result<Line, RequestFault>
-    ensures adds { AddsPiece (S.left src.old) (S.left src.new) window.old window.new }
+    ensures adds { AddsIf S.left (LacksLine window.old) src.old src.new window.old window.new }
     ensures found { IfOk result (IsLineAt window.new) }
     ensures fault { IfErr result (StopsAtLine start place window.new (IsAtEnd (S.left src.new))) }
     ensures failed { result ≡ Err RequestFault.SourceFault → Rose (S.faults src.old) (S.faults src.new) }
@@ -50,8 +53,10 @@ pub(crate) fn whole_line<S: Source>(
 
 /// The chunk line at the front of the bytes, if it is whole and a line end may have come.
 fn line_if_due(bytes: &[u8], searched: usize, place: u64) -> Result<Option<Line>, RequestFault>
+    requires searched { searched ≤ length bytes.now }
+    requires none { LacksLine (take searched bytes.now) }
     ensures found { IfOk result (λ found. IfSome found (IsLineAt bytes.now)) }
-    ensures open { result ≡ Ok None → length bytes.now < head_limit }
+    ensures open { result ≡ Ok None → (length bytes.now < head_limit) × LacksLine bytes.now }
     ensures bad { IfErr result (λ fault. (fault ≡ RequestFault.BadChunk place) × HasBadLine bytes.now) }
 {
     if !has_line_end(bytes, searched) {
@@ -60,14 +65,12 @@ fn line_if_due(bytes: &[u8], searched: usize, place: u64) -> Result<Option<Line>
     line_in(bytes, place)
 }
 
-/// Whether the bytes from the one at `searched` on have a line end, or there are as many as a line may have.
+/// Whether there is a line feed behind so many bytes, or there are as many bytes as a line may have.
 pub(crate) fn has_line_end(bytes: &[u8], searched: usize) -> bool
-    ensures { head_limit ≤ length bytes.now → IsTrue result }
+    requires { searched ≤ length bytes.now }
+    ensures { IsTrue result ↔ (head_limit ≤ length bytes.now) ⊎ Contains (drop searched bytes.now) line_feed }
 {
-    if bytes.len() >= HEAD_LIMIT || searched > bytes.len() {
-        return true;
-    }
-    bytes[searched..].contains(&b'\n')
+    bytes.len() >= HEAD_LIMIT || bytes[searched..].contains(&b'\n')
 }
 
 /// The chunk line at the front of the bytes, and without one this fault.

@@ -13,15 +13,15 @@ pub(crate) struct Front<'a> {
     pub(crate) full: bool,
 }
 
-/// The bytes up to the limit of a head, and up to the end of the line that is one more than these.
+/// The bytes up to the limit of a head, and before the line feed that ends one line more than these.
 pub(crate) fn front_of(bytes: &[u8], lines: usize) -> Front<'_>
     requires { lines ≤ field_limit + 1 }
     ensures { IsFrontOf bytes.now lines result.bytes.now result.full }
 {
     let front = &bytes[..bytes.len().min(HEAD_LIMIT)];
     match end_of_line(front, lines) {
-        Some(end) => Front {
-            bytes: &front[..end],
+        Some(at) => Front {
+            bytes: &front[..at],
             full: true,
         },
         None if bytes.len() >= HEAD_LIMIT => Front {
@@ -35,7 +35,7 @@ pub(crate) fn front_of(bytes: &[u8], lines: usize) -> Front<'_>
     }
 }
 
-/// Where the line ends that is one more than these, if there is one.
+/// Where the line feed is that ends one line more than these, if there is one.
 fn end_of_line(bytes: &[u8], lines: usize) -> Option<usize>
     requires { lines ≤ field_limit + 1 }
     ensures none { result ≡ None → lines_in bytes.now ≤ lines }
@@ -46,7 +46,7 @@ fn end_of_line(bytes: &[u8], lines: usize) -> Option<usize>
     for i in 0..bytes.len() {
         ended += ends_line(begun, bytes[i]);
         if ended > lines {
-            return Some(i + 1);
+            return Some(i);
         }
         begun = begins_line(begun, bytes[i]);
     }
@@ -54,14 +54,14 @@ fn end_of_line(bytes: &[u8], lines: usize) -> Option<usize>
 }
 
 /// How many lines the byte ends, where `begun` says whether the line before it has bytes.
-fn ends_line(begun: bool, b: u8) -> usize
+pub(crate) fn ends_line(begun: bool, b: u8) -> usize
     ensures { result ≡ ends_line begun b }
 {
     if b == b'\n' && begun { 1 } else { 0 }
 }
 
 /// Whether the line that goes on behind the byte has bytes.
-fn begins_line(begun: bool, b: u8) -> bool
+pub(crate) fn begins_line(begun: bool, b: u8) -> bool
     ensures { result ≡ begins_line begun b }
 {
     b != b'\n' && (begun || b != b'\r')

@@ -2,7 +2,8 @@
 ghost use Rattle.std.specs.Prelude.{◌≡◌, ◌≤◌, ℕ, List, [], ◌++◌, Some, None, Err};
 ghost use Rattle.vl_io.specs.Bytes.{Consumes, IsAtEnd};
 ghost use Rattle.vl_io.specs.Faults.{Rose};
-ghost use Rattle.http_in.specs.Reading.{FindsAt, Holds, IsBetween, fault_after, lasting};
+ghost use Rattle.http_in.specs.Laws.{FaultsAreOne, FaultsEnd, RequestsAreOne, RequestsAreWhole};
+ghost use Rattle.http_in.specs.Reading.{FindsAt, Holds, IsBetween, ReadsNoFurther, fault_after, lasting};
 
 use crate::body::Body;
 use crate::fault::RequestFault;
@@ -43,6 +44,12 @@ impl Reader {
         ensures holds { Holds 0 [] result.held }
         ensures between { IsBetween result.held }
         ensures fresh { result.fault ≡ None }
+
+        // Laws: of bytes there is one list of requests, and one fault, with the one exception of a target that is cut.
+        ensures requests { RequestsAreOne }
+        ensures whole { RequestsAreWhole }
+        ensures faults { FaultsAreOne }
+        ensures ends { FaultsEnd }
     {
         Reader {
             alloc,
@@ -65,11 +72,17 @@ impl Reader {
     ///
     /// A fault of the bytes is answered again at each further call. After `SourceFault` and `Memory` the bytes that
     /// were taken are kept, and the next call goes on from there.
+    ///
+    /// The source is asked only while the bytes that came hold no whole request.
+    #[tactic(auto, unfolding(crate::specs::Reading::ReadsNoFurther))]
     pub fn next<S: Source>(&mut self, src: &mut S) -> Result<Option<Request>, RequestFault>
         // The bytes that the reader holds and those that it takes begin with the request, and it holds what follows.
         ensures taken { self.old.fault ≡ None → (piece : List ℕ) × Consumes (S.left src.old) (S.left src.new) piece
             × ((start : ℕ) (bytes : List ℕ) → Holds start bytes self.old.held
             → FindsAt start (bytes ++ piece) (IsAtEnd (S.left src.new)) self.new.held result) }
+
+        // Where a whole request is held, nothing is asked of the source: its client may wait for the reply.
+        ensures ready { ReadsNoFurther self.old.held src.old src.new }
 
         // A fault of the bytes is answered again and again, and nothing is taken.
         ensures lasts { self.old.fault ≡ None → self.new.fault ≡ fault_after result }

@@ -7,8 +7,8 @@ ghost use Rattle.http_in.specs.Progress.{IsOutside};
 use crate::fault::RequestFault;
 use vl_io::Source;
 
-/// How many bytes one read of a piece gives at most.
-const PIECE: usize = 65_536;
+/// How many bytes one read gives at most.
+pub(crate) const PIECE: usize = 65_536;
 
 /// Reads once into `piece`, which gets its room at the first call, and appends what came. Says whether there may be
 /// more.

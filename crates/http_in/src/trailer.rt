@@ -1,8 +1,9 @@
 //! The trailer section.
-ghost use Rattle.std.specs.Prelude.{◌≡◌, ◌⊎◌, ◌<◌, ◌≤◌, IfErr, IfOk, IfSome, Ok, Err, None, length};
-ghost use Rattle.vl_io.specs.Bytes.{AddsPiece, IsAtEnd};
+ghost use Rattle.std.specs.Prelude.{◌≡◌, ◌⊎◌, ◌<◌, ◌≤◌, IfErr, IfOk, IfSome, Ok, Err, None, length, take};
+ghost use Rattle.vl_io.specs.Bytes.{IsAtEnd};
 ghost use Rattle.vl_io.specs.Faults.{Rose};
 ghost use Rattle.http_in.specs.Faults.{IsInSection};
+ghost use Rattle.http_in.specs.Lacks.{AddsIf, LacksSection};
 ghost use Rattle.http_in.specs.Limits.{head_limit};
 ghost use Rattle.http_in.specs.Progress.{HasTrailerFault, IsTrailerAt, StopsAtTrailer};
 
@@ -23,7 +24,7 @@ pub(crate) fn whole_trailer<S: Source>(
     place: u64,
     src: &mut S,
 ) -> Result<usize, RequestFault>
-    ensures adds { AddsPiece (S.left src.old) (S.left src.new) window.old window.new }
+    ensures adds { AddsIf S.left (LacksSection window.old) src.old src.new window.old window.new }
     ensures found { IfOk result (IsTrailerAt window.new) }
     ensures fault { IfErr result (StopsAtTrailer start place window.new (IsAtEnd (S.left src.new))) }
     ensures failed { result ≡ Err RequestFault.SourceFault → Rose (S.faults src.old) (S.faults src.new) }
@@ -51,8 +52,10 @@ pub(crate) fn whole_trailer<S: Source>(
 
 /// The length of the trailer section at the front of the bytes, if it is whole and a line end may have come.
 fn trailer_if_due(bytes: &[u8], searched: usize, place: u64) -> Result<Option<usize>, RequestFault>
+    requires searched { searched ≤ length bytes.now }
+    requires none { LacksSection (take searched bytes.now) }
     ensures found { IfOk result (λ found. IfSome found (IsTrailerAt bytes.now)) }
-    ensures open { result ≡ Ok None → length bytes.now < head_limit }
+    ensures open { result ≡ Ok None → (length bytes.now < head_limit) × LacksSection bytes.now }
     ensures fault { IfErr result (HasTrailerFault place bytes.now) }
 {
     if !has_line_end(bytes, searched) {
@@ -111,7 +114,7 @@ fn trailer_within(bytes: &[u8], place: u64) -> Result<Option<usize>, RequestFaul
         Ok(Status::Complete((len, _))) => Ok(Some(len)),
         Ok(Status::Partial) if front.full => Err(RequestFault::HeadLarge),
         Ok(Status::Partial) => Ok(None),
-        Err(Error::TooManyHeaders) => Err(RequestFault::HeadLarge),
+        Err(Error::TooManyHeaders) => unreachable!(),
         Err(_) => Err(RequestFault::BadChunk { at: place }),
     }
 }

@@ -6,7 +6,8 @@ ghost use Rattle.vl_io.specs.Faults.{Rose};
 ghost use Rattle.http_said.specs.Arguments.{arguments, path_of, query_of};
 ghost use Rattle.http_said.specs.Fields.{IsWithinLimit};
 ghost use Rattle.http_in.specs.Head.{IsHeadAt};
-ghost use Rattle.http_in.specs.Reading.{FindsAt, FindsRequest, Holds, IsAskedAt, IsBegun, IsFirst, asked_by, held_by};
+ghost use Rattle.http_in.specs.Reading.{FindsAt, FindsRequest, Holds, HoldsRequest, IsAskedAt, IsBegun, IsFirst};
+ghost use Rattle.http_in.specs.Reading.{asked_by, held_by};
 
 use crate::body::{Body, read_body};
 use crate::fault::RequestFault;
@@ -40,6 +41,7 @@ pub(crate) fn read_request<S: Source>(
     ensures taken { (piece : List ℕ) × Consumes (S.left src.old) (S.left src.new) piece
         × ((start : ℕ) (bytes : List ℕ) → Holds start bytes (held_by begun.old body.old window.old)
         → FindsAt start (bytes ++ piece) (IsAtEnd (S.left src.new)) (held_by begun.new body.new window.new) result) }
+    ensures ready { HoldsRequest (held_by begun.old body.old window.old) → src.new ≡ src.old }
     ensures failed { result ≡ Err RequestFault.SourceFault → Rose (S.faults src.old) (S.faults src.new) }
     ensures faults { S.faults src.old ≤ S.faults src.new }
 {
@@ -63,6 +65,7 @@ fn new_request<S: Source>(
     ensures taken { (piece : List ℕ) × Consumes (S.left src.old) (S.left src.new) piece
         × ((start : ℕ) (bytes : List ℕ) → Holds start bytes (held_by begun.old body.old window.old)
         → FindsAt start (bytes ++ piece) (IsAtEnd (S.left src.new)) (held_by begun.new body.new window.new) result) }
+    ensures ready { HoldsRequest (held_by begun.old body.old window.old) → src.new ≡ src.old }
     ensures failed { result ≡ Err RequestFault.SourceFault → Rose (S.faults src.old) (S.faults src.new) }
     ensures faults { S.faults src.old ≤ S.faults src.new }
 {
@@ -127,6 +130,7 @@ fn rest_of_request<S: Source>(
     ensures taken { (piece : List ℕ) × Consumes (S.left src.old) (S.left src.new) piece
         × ((start : ℕ) (bytes : List ℕ) → Holds start bytes (held_by begun.old body.old window.old)
         → FindsAt start (bytes ++ piece) (IsAtEnd (S.left src.new)) (held_by begun.new body.new window.new) result) }
+    ensures ready { HoldsRequest (held_by begun.old body.old window.old) → src.new ≡ src.old }
     ensures failed { result ≡ Err RequestFault.SourceFault → Rose (S.faults src.old) (S.faults src.new) }
     ensures faults { S.faults src.old ≤ S.faults src.new }
 {

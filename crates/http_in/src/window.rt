@@ -2,6 +2,7 @@
 ghost use Rattle.std.specs.Prelude.{◌≡◌, ◌<◌, ◌≤◌, OnErr, IfErr, Ok, Err, [], drop, length, true, false};
 ghost use Rattle.vl_io.specs.Bytes.{AddsPiece, IsAtEnd};
 ghost use Rattle.vl_io.specs.Faults.{Rose};
+ghost use Rattle.http_in.specs.Lacks.{Awaited, LacksAwaited};
 ghost use Rattle.http_in.specs.Progress.{IsOutside};
 
 use crate::fault::RequestFault;
@@ -55,8 +56,11 @@ impl Window {
         self.from += count;
     }
 
-    /// Reads once, and says whether there may be more.
+    /// Reads once, and says whether there may be more. What is awaited is not there, so that nothing is asked of the
+    /// source that no request needs.
     pub(crate) fn fill<S: Source>(&mut self, src: &mut S) -> Result<bool, RequestFault>
+        ghost awaited: { Awaited }
+        requires lacks { LacksAwaited awaited self.old }
         ensures adds { AddsPiece (S.left src.old) (S.left src.new) self.old self.new }
         ensures more { result ≡ Ok true → length self.old < length self.new }
         ensures end { result ≡ Ok false → IsAtEnd (S.left src.new) × (self.new ≡ self.old) }

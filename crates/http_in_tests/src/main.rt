@@ -1,6 +1,10 @@
 //! Reads a case on each line: what it shows, and behind ` | ` the bytes of a connection. Writes the requests that come,
-//! each in brackets, and how they end. Each connection is read whole. A short one is also read a byte at a time, and so
-//! that one of its reads fails; where that makes a difference, both are written.
+//! each in brackets, and how they end. Each connection is read whole. A short one is also read a byte at a time; where
+//! that makes a difference, both are written. Behind ` | ` stands how many of these reads were made once each request
+//! was there: the request's last byte is the last that is read.
+//!
+//! Of a shorter one each read fails in turn, which must be answered once and change nothing. It is also read in two
+//! pieces, cut at each place. Behind a second ` | ` stands what comes where the input ends after so many bytes.
 //!
 //! A byte that is no visible ASCII stands as `\0a;`, and so many of one as `\61x65536;`.
 //!
@@ -8,6 +12,8 @@
 #![tactic(auto)]
 
 mod answers_tests;
+mod counted_tests;
+mod ends_tests;
 mod readings_tests;
 mod spelling_tests;
 

@@ -1,11 +1,12 @@
 //! A connection, read to its end.
 ghost use Rattle.std.specs.Prelude.{◌<◌, All};
 
+use crate::counted_tests::Counted;
 use crate::spelling_tests::push_spelled;
 use http_in::{Reader, Request, RequestFault};
 use std::alloc::{AllocError, Global};
 use std::fmt::Write;
-use vl_io::{MemSource, Source};
+use vl_io::MemSource;
 
 /// More calls than any case needs.
 const CALLS: u32 = 2_000;
@@ -17,39 +18,57 @@ pub struct Cutting<'a> {
     pub failing: &'a [u64],
 }
 
+/// All in as few reads as may be.
+pub const WHOLE: Cutting<'static> = Cutting {
+    pieces: &[],
+    failing: &[],
+};
+
 /// What a connection comes to.
 #[derive(Drop)]
 pub struct Reading {
     pub text: String,
     /// How often the answer was that the source failed.
     pub faults: u32,
+    /// How often the source was asked.
+    pub reads: u64,
+    /// How often it had been asked once each request was there.
+    pub behind: Vec<u64>,
+    /// Whether it ended with a fault of the bytes, and not with their end.
+    pub out_of_form: bool,
 }
 
 pub fn read(alloc: Global, bytes: &[u8], cutting: Cutting) -> Result<Reading, AllocError>
     requires { All (λ piece. 0 < piece) cutting.pieces.now }
 {
-    let mut source = MemSource::of(alloc, bytes, cutting.pieces, cutting.failing)?;
+    let source = MemSource::of(alloc, bytes, cutting.pieces, cutting.failing)?;
+    let mut source = Counted::of(source);
     let mut reader = Reader::new(alloc);
     let mut reading = Reading {
         text: String::new(alloc),
         faults: 0,
+        reads: 0,
+        behind: Vec::new(alloc),
+        out_of_form: false,
     };
     for _ in 0..CALLS {
         if !read_next(&mut reader, &mut source, &mut reading)? {
             break;
         }
     }
+    reading.reads = source.reads();
     Ok(reading)
 }
 
 /// Reads one request more, and says whether more may come.
-fn read_next<S: Source>(
+fn read_next(
     reader: &mut Reader,
-    source: &mut S,
+    source: &mut Counted,
     reading: &mut Reading,
 ) -> Result<bool, AllocError> {
     match reader.next(source) {
         Ok(Some(request)) => {
+            reading.behind.push(source.reads())?;
             push_request(&request, &mut reading.text)?;
             if request.last {
                 reading.text.push_str("AskedClose")?;
@@ -65,6 +84,7 @@ fn read_next<S: Source>(
             Ok(true)
         }
         Err(fault) => {
+            reading.out_of_form = !matches!(fault, RequestFault::Cut { .. });
             push_fault(fault, &mut reading.text)?;
             let again = reader.next(source);
             if !matches!(again, Err(other) if other == fault) {

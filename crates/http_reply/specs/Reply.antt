@@ -11,22 +11,22 @@ use Rattle.http_reply.specs.declared.status.Status.TheVariants as statuses
 -- ---- the words
 
 -- the code and its reason (RFC 9110, section 15; RFC 4918, section 11.5)
-abbrev pub status_text : Status → List ℕ
-status_text (statuses.Served kind) = codes "200 OK"
-status_text statuses.BadRequest = codes "400 Bad Request"
-status_text statuses.NotFound = codes "404 Not Found"
-status_text (statuses.MethodNotAllowed methods) = codes "405 Method Not Allowed"
-status_text statuses.ContentTooLarge = codes "413 Content Too Large"
-status_text statuses.UnsupportedMediaType = codes "415 Unsupported Media Type"
-status_text statuses.UnprocessableContent = codes "422 Unprocessable Content"
-status_text statuses.ServiceUnavailable = codes "503 Service Unavailable"
-status_text statuses.InsufficientStorage = codes "507 Insufficient Storage"
+abbrev pub status_line : Status → List ℕ
+status_line (statuses.Served kind) = codes "200 OK"
+status_line statuses.BadRequest = codes "400 Bad Request"
+status_line statuses.NotFound = codes "404 Not Found"
+status_line (statuses.MethodNotAllowed methods) = codes "405 Method Not Allowed"
+status_line statuses.ContentTooLarge = codes "413 Content Too Large"
+status_line statuses.UnsupportedMediaType = codes "415 Unsupported Media Type"
+status_line statuses.UnprocessableContent = codes "422 Unprocessable Content"
+status_line statuses.ServiceUnavailable = codes "503 Service Unavailable"
+status_line statuses.InsufficientStorage = codes "507 Insufficient Storage"
 
 -- the type of the content (RFC 9110, section 8.3)
-abbrev pub kind_text : Kind → List ℕ
-kind_text kinds.Text = codes "text/plain; charset=utf-8"
-kind_text kinds.Json = codes "application/json"
-kind_text kinds.JsonLines = codes "application/stream+json"
+abbrev pub media_type : Kind → List ℕ
+media_type kinds.Text = codes "text/plain; charset=utf-8"
+media_type kinds.Json = codes "application/json"
+media_type kinds.JsonLines = codes "application/stream+json"
 
 -- what is no answer is said in text
 abbrev pub kind_of : Status → Kind
@@ -58,7 +58,7 @@ close_fields closes = if closes then (codes "Connection", codes "close") ∷ [] 
 abbrev pub fields_of : Status → ℕ → Delivery → List (List ℕ × List ℕ)
 fields_of status length delivery =
     allow_fields status
-    ++ ((codes "Content-Type", kind_text (kind_of status))
+    ++ ((codes "Content-Type", media_type (kind_of status))
     ∷ (length_fields delivery.bare length ++ close_fields delivery.closes))
 
 -- ---- bytes
@@ -75,7 +75,7 @@ field_line field = field.0 ++ (codes ": " ++ (field.1 ++ line_end))
 unfoldable pub head_bytes : Status → ℕ → Delivery → List ℕ
 head_bytes status length delivery =
     codes "HTTP/1.1 "
-    ++ (status_text status
+    ++ (status_line status
     ++ (line_end ++ (flat_map field_line (fields_of status length delivery) ++ line_end)))
 
 -- what follows the head: the content, or nothing

@@ -1,6 +1,6 @@
 //! What a reply says, but for its content.
 ghost use Rattle.std.specs.Prelude.{◌≡◌};
-ghost use Rattle.http_reply.specs.Reply.{kind_of, kind_text, methods_text, status_text};
+ghost use Rattle.http_reply.specs.Reply.{kind_of, media_type, methods_text, status_line};
 
 /// What became of a request (RFC 9110, section 15).
 #[derive(Clone, Copy, Debug, PartialEq, Eq, Drop)]
@@ -54,7 +54,7 @@ pub struct Delivery {
 impl Status {
     /// The code and its reason, as a status line has them.
     pub(crate) fn text(self) -> &'static str
-        ensures { result.now ≡ status_text self }
+        ensures { result.now ≡ status_line self }
     {
         match self {
             Status::Served(_) => "200 OK",
@@ -83,7 +83,7 @@ impl Status {
 impl Kind {
     /// The type, as Content-Type has it.
     pub(crate) fn text(self) -> &'static str
-        ensures { result.now ≡ kind_text self }
+        ensures { result.now ≡ media_type self }
     {
         match self {
             Kind::Text => "text/plain; charset=utf-8",

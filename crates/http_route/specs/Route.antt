@@ -30,8 +30,8 @@ paths =
     ∷ (codes "/health", routes.Health)
     ∷ []
 
-abbrev pub path_of : List ℕ → Option Route
-path_of path = lookup (bytes_eq path) paths
+abbrev pub route_at : List ℕ → Option Route
+route_at path = lookup (bytes_eq path) paths
 
 abbrev pub methods_of : Route → Methods
 methods_of routes.Insert = methods.Post
@@ -51,7 +51,7 @@ by_method (Some route) method =
 
 -- The path is compared byte by byte, and the method too.
 abbrev pub route_of : List ℕ → List ℕ → Result Route Refusal
-route_of path method = by_method (path_of path) method
+route_of path method = by_method (route_at path) method
 
 -- ---- arguments
 
@@ -72,8 +72,8 @@ with_query None refused = Err (refusals.BadArgument arguments.Query)
 with_query (Some text) refused = unless_refused refused text
 
 -- The text of the query. Of a repeated argument the first counts.
-abbrev pub query_of : List (List ℕ × List ℕ) → Result (List ℕ) Refusal
-query_of args = with_query (argument args (codes "query")) (refused_of args)
+abbrev pub query_asked : List (List ℕ × List ℕ) → Result (List ℕ) Refusal
+query_asked args = with_query (argument args (codes "query")) (refused_of args)
 
 -- ---- requests
 
@@ -97,7 +97,7 @@ with_text (Err refusal) = Err refusal
 
 abbrev pub wanted_on : Route → List (List ℕ × List ℕ) → Result Wanted Refusal
 wanted_on routes.Insert args = insert_of args
-wanted_on routes.Query args = with_text (query_of args)
+wanted_on routes.Query args = with_text (query_asked args)
 wanted_on routes.Status args = Ok status
 wanted_on routes.Health args = Ok health
 

@@ -3,7 +3,7 @@ ghost use Rattle.std.specs.Prelude.{◌≡◌, option_map, is_some, IfOk, IfErr,
 ghost use Rattle.std.specs.List.{find};
 ghost use Rattle.ingest_row.specs.Asked.{argument};
 ghost use Rattle.http_route.specs.Refusal.{argument_name};
-ghost use Rattle.http_route.specs.Route.{query_of};
+ghost use Rattle.http_route.specs.Route.{query_asked};
 
 use crate::refusal::{Argument, Refusal};
 use vl_row::Field;
@@ -18,8 +18,8 @@ const NOT_SERVED: [Argument; 4] = [
 
 /// The text of the query.
 pub(crate) fn query_text(args: &[Field]) -> Result<&str, Refusal>
-    ensures ok { IfOk result (λ text. query_of args.now ≡ Ok text.now) }
-    ensures err { IfErr result (λ refusal. query_of args.now ≡ Err refusal) }
+    ensures ok { IfOk result (λ text. query_asked args.now ≡ Ok text.now) }
+    ensures err { IfErr result (λ refusal. query_asked args.now ≡ Err refusal) }
 {
     match (argument(args, "query"), first_there(args, &NOT_SERVED)) {
         (None, _) => Err(Refusal::BadArgument(Argument::Query)),

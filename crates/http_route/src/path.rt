@@ -1,6 +1,6 @@
 //! The paths, and the methods of each.
 ghost use Rattle.std.specs.Prelude.{◌≡◌};
-ghost use Rattle.http_route.specs.Route.{has_method, methods_of, path_of, route_of};
+ghost use Rattle.http_route.specs.Route.{has_method, methods_of, route_at, route_of};
 
 use crate::refusal::Refusal;
 use http_reply::Methods;
@@ -32,7 +32,7 @@ impl Route {
 
     /// The route of a path.
     fn at(path: &str) -> Option<Route>
-        ensures { result ≡ path_of path.now }
+        ensures { result ≡ route_at path.now }
     {
         match path {
             "/insert/jsonline" => Some(Route::Insert),

@@ -1,7 +1,8 @@
 use Rattle.std.proofs.Common.{◌≡◌, ◌+◌, arith, refl}
 use Rattle.http_in.specs.Limits.{place}
 use Rattle.http_in.specs.Progress.{progress_of}
-use Rattle.http_in.proofs.MoveLemmas.{moves_last, moves_line}
+use Rattle.http_in.proofs.MoveLemmas.{asks_at, moves_last, moves_line}
+use Rattle.http_in.specs.declared.stage.Stage.TheVariants as stages
 use Rattle.http_in.proofs.body.line_step.Goals as goal
 use Rattle.http_in.proofs.body.line_step.Goals.{in-0, in_default}
 
@@ -21,4 +22,6 @@ returns-clause-moved g c =
         | in_default w ↦ moves_line old _ m.0 mid at c.requires.at w.body-is refl refl m.2 c.in-Ok.ensures.found
             (omega arith) c.use_up.ensures there
       ],
+      asks_at c.args.body.now.stage stages.Line c.args.window.now m.0 c.args.src.now c.whole_line.new.src c.requires.at
+          m.3,
     )

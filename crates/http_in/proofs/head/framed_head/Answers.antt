@@ -1,14 +1,12 @@
-use Rattle.std.proofs.Common.{sym, subst, ◌∙◌}
-use Rattle.http_in.specs.Head.{HasHeadFault}
+use Rattle.std.proofs.Common.{sym, ◌∙◌}
 use Rattle.http_in.proofs.HeadLemmas.{framed_fault, framed_ok}
 use Rattle.http_in.proofs.head.framed_head.Goals as goal
 
 pub returns-in-Err-clause-fault : goal.returns-in-Err-clause-fault
-returns-in-Err-clause-fault c = λ place.
-    subst (HasHeadFault place c.args.front.now) (sym c.from.ensures)
-    (framed_fault place c.args.front.now c.args.headers.now c.args.spans c.in-Err.fault c.requires.short
+returns-in-Err-clause-fault c =
+    framed_fault c.args.front.now c.args.headers.now c.args.spans c.in-Err.fault c.requires.short
     c.requires.room c.requires.within c.requires.read
-    (sym c.in-Err.is ∙ c.from_spans-facts.ensures.framing))
+    (sym c.in-Err.is ∙ c.from_spans-facts.ensures.framing)
 
 pub returns-in-Ok-clause-ok : goal.returns-in-Ok-clause-ok
 returns-in-Ok-clause-ok c =

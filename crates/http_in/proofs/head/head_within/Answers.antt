@@ -1,9 +1,9 @@
 use Rattle.std.proofs.Common.{Ok, ap, subst, sym, ◌+◌}
-use Rattle.http_in.specs.Head.{HasHeadFault, IsHeadAt}
+use Rattle.http_in.specs.Head.{IsHeadAt, ParsesNot}
 use Rattle.http_in.specs.Limits.{field_limit}
 use Rattle.http_in.specs.Lines.{IsFrontOf}
-use Rattle.http_in.proofs.HeadLemmas.{HasHeadFault-more, IsHeadAt-more}
-use Rattle.http_in.proofs.LimitLemmas.{head_large, head_open}
+use Rattle.http_in.proofs.HeadLemmas.{IsHeadAt-more}
+use Rattle.http_in.proofs.LimitLemmas.{head_large, head_open, no_more_fields}
 use Rattle.http_in.proofs.head.head_within.Goals as goal
 
 pub returns-in-Ok-Some-clause-found : goal.returns-in-Ok-Some-clause-found
@@ -27,8 +27,8 @@ returns-in-Ok-None-2-clause-open c = λ _.
     (subst (IsFrontOf c.args.bytes.now (field_limit + 1) front.result.bytes.now) c.if-front.false front.ensures)
     (c.in-Ok-None.ensures.open (ap Ok c.in-Ok-None.field-0-is))
 
-pub returns-in-Err-clause-fault : goal.returns-in-Err-clause-fault
-returns-in-Err-clause-fault c =
+pub unreachable-requires : goal.unreachable-requires
+unreachable-requires c =
     let front = c.front_of-front in
-    subst (λ l. HasHeadFault c.args.start l c.in-Err.fault) (sym front.ensures.whole)
-    (HasHeadFault-more c.args.start front.result.bytes.now front.ensures.later c.in-Err.fault c.in-Err.ensures.fault)
+    no_more_fields front.result.bytes.now front.ensures.few
+    (subst (ParsesNot front.result.bytes.now) c.in-Err-Lines.field-0-is c.in-Err-Lines.ensures.fault)

@@ -1,13 +1,19 @@
-use Rattle.std.proofs.Common.{◌-◌, ◌≤◌, length}
-use Rattle.vl_io.specs.Bytes.{AddsPiece}
+use Rattle.std.proofs.Common.{◌-◌, ◌≤◌, length, take}
+use Rattle.http_in.specs.Lacks.{AddsIf, IsPlace, LacksHead}
 use Rattle.http_in.specs.Limits.{head_limit}
+use Rattle.http_in.specs.Lacks.{a_head}
 use Rattle.http_in.proofs.head.whole_head.Given as goal
 
 abbrev pub invariant-reads : goal.invariant-reads
 invariant-reads g l = record {
-  adds : AddsPiece (g.S.Source.left l.initial.src) (g.S.Source.left l.src) l.initial.window l.window;
+  adds : AddsIf g.S.Source.left (LacksHead l.initial.window) l.initial.src l.src l.initial.window l.window;
   stays : g.S.Source.faults l.initial.src ≤ g.S.Source.faults l.src;
+  place : IsPlace l.search l.window;
+  none : LacksHead (take l.search.searched l.window);
 }
 
 abbrev pub decreases-reads : goal.decreases-reads
 decreases-reads g l = head_limit - length l.window
+
+abbrev pub ghost-fill : goal.ghost-fill
+ghost-fill g a = a_head

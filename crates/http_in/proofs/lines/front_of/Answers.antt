@@ -3,7 +3,7 @@ use Rattle.http_in.proofs.LimitLemmas.{front_cut, front_long, front_whole}
 use Rattle.http_in.proofs.lines.front_of.Goals as goal
 
 pub returns-in-Some : goal.returns-in-Some
-returns-in-Some c = front_cut c.args.bytes.now c.min.result c.in-Some.end c.args.lines c.min.ensures
+returns-in-Some c = front_cut c.args.bytes.now c.min.result c.in-Some.at c.args.lines c.min.ensures
     c.in-Some.ensures.some
 
 pub returns-in-None : goal.returns-in-None

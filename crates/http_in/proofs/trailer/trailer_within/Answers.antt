@@ -2,7 +2,7 @@ use Rattle.std.proofs.Common.{◌≤◌, ap, subst, sym, Err, inl, inr, length, 
 use Rattle.http_in.specs.Limits.{field_limit}
 use Rattle.http_in.specs.Lines.{IsFrontOf}
 use Rattle.http_in.specs.Progress.{IsTrailerAt}
-use Rattle.http_in.proofs.LimitLemmas.{bad_section, section_large, section_long, section_open}
+use Rattle.http_in.proofs.LimitLemmas.{bad_section, no_more_trailers, section_long, section_open}
 use Rattle.http_in.proofs.LineLemmas.{trailer_at, trailer_more}
 use Rattle.http_in.proofs.trailer.trailer_within.Goals as goal
 
@@ -27,7 +27,8 @@ returns-in-Ok-Partial-clause-fault c =
     inr (
       refl,
       section_long c.args.bytes.now front.result.bytes.now
-          (subst (IsFrontOf c.args.bytes.now field_limit front.result.bytes.now) c.if-front.true front.ensures) none may,
+          (subst (IsFrontOf c.args.bytes.now field_limit front.result.bytes.now) c.if-front.true front.ensures) none
+          may,
     )
 
 pub returns-in-Ok-Partial-2-clause-open : goal.returns-in-Ok-Partial-2-clause-open
@@ -39,15 +40,11 @@ returns-in-Ok-Partial-2-clause-open c = λ _.
     section_open c.args.bytes.now front.result.bytes.now
     (subst (IsFrontOf c.args.bytes.now field_limit front.result.bytes.now) c.if-front.false front.ensures) none may
 
-pub returns-in-Err-TooManyHeaders-clause-fault : goal.returns-in-Err-TooManyHeaders-clause-fault
-returns-in-Err-TooManyHeaders-clause-fault c =
+pub unreachable-requires : goal.unreachable-requires
+unreachable-requires c =
     let front = c.front_of-front in
     let w = c.in-Err-TooManyHeaders in
-    inr (
-      refl,
-      section_large c.args.bytes.now front.result.bytes.now front.result.full front.ensures
-          (w.ensures.too_many (ap Err w.field-0-is)),
-    )
+    no_more_trailers front.result.bytes.now front.ensures.few (w.ensures.too_many (ap Err w.field-0-is))
 
 pub returns-in-Err-clause-fault : goal.returns-in-Err-clause-fault
 returns-in-Err-clause-fault c =
