@@ -32,7 +32,7 @@ use Rattle.block_column.proofs.Distinct.{codes-stand, codes-stand-below, distinc
 use Rattle.block_column.proofs.KindLaws.{constant-is, first-small, integers-are, is-constant, is-integers}
 use Rattle.block_column.proofs.KindLaws.{is-dictionary, is-plain}
 
-kind-again : (kind : Kind) (rest : List ℕ) → front kind_item ((code_of_kind kind ∷ []) ++ rest)
+pub kind-again : (kind : Kind) (rest : List ℕ) → front kind_item ((code_of_kind kind ∷ []) ++ rest)
     ≡ Ok (code_of_kind kind, rest)
 kind-again constant rest = front-item (exactly 1) (λ bytes. is_kind (from_le_bytes w8 bytes)) (λ bytes. value
     (from_le_bytes w8 bytes)) (0 ∷ []) rest refl refl
@@ -155,10 +155,10 @@ dictionary-again ts rest utf8 e =
     ∙ rw (first, second, third) (ap (λ (l : List (List ℕ)). Ok (l, rest)) (codes-stand ts))
 
 -- the body is read in the kind that it was written in
-abbrev IsBodyAgain : List (List ℕ) → List ℕ → Kind → Type 0
+abbrev pub IsBodyAgain : List (List ℕ) → List ℕ → Kind → Type 0
 IsBodyAgain ts rest kind = front (body (length ts) (code_of_kind kind)) (body_of kind ts ++ rest) ≡ Ok (ts, rest)
 
-body-again : (ts : List (List ℕ)) (rest : List ℕ) → list_all is_utf8 ts ≡ true → sum_by length ts < 2 ^ 32
+pub body-again : (ts : List (List ℕ)) (rest : List ℕ) → list_all is_utf8 ts ≡ true → sum_by length ts < 2 ^ 32
     → IsBodyAgain ts rest (kind_of ts)
 unfolding body_of
 body-again ts rest utf8 small =

@@ -24,3 +24,11 @@ pub zipped-more : (ts : List ℤ) (bs ps : List ℕ) (i : ℕ) → length bs ≡
 zipped-more ts bs ps i b p lt =
     let next : i + 1 ≡ suc i = omega arith in
     ap (λ (k : ℕ). zipped (take k ts) (take k bs) (take k ps)) next ∙ one-more ts bs ps i b p lt
+
+pub zipped-length : (ts : List ℤ) (bs ps : List ℕ) → length bs ≡ length ts → length ps ≡ length ts
+    → length (zipped ts bs ps) ≡ length ts
+zipped-length [] bs ps b p = refl
+zipped-length (t ∷ ts) [] ps b p = absurd (omega (arith, b))
+zipped-length (t ∷ ts) (b ∷ bs) [] e p = absurd (omega (arith, p))
+zipped-length (t ∷ ts) (b ∷ bs) (p ∷ ps) e f =
+    omega (arith, zipped-length ts bs ps (omega (arith, e)) (omega (arith, f)))

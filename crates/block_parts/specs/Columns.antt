@@ -1,5 +1,5 @@
 -- The columns of a block as bytes, and as a format.
-use Rattle.std.specs.Prelude.{ℕ, List, [], ◌∷◌, ◌++◌, Result}
+use Rattle.std.specs.Prelude.{◌≡◌, ℕ, List, [], ◌∷◌, ◌++◌, length, Result}
 use Rattle.std.specs.Int.{w16}
 use Rattle.block_column.specs.Body.{body, kind_item}
 use Rattle.block_column.specs.Kinds.{body_of, code_of_kind, kind_of}
@@ -8,6 +8,10 @@ use Rattle.byte_format.specs.Items.{text}
 use Rattle.byte_format.specs.Written.{text_bytes}
 use Rattle.row_columns.specs.Columns.{Column}
 use Rattle.word_filter.specs.Words.{counted_filter, filter_item, filter_of}
+
+-- a column of so many rows
+abbrev pub HasRows : ℕ → Column → Type 0
+HasRows rows named = length named.1 ≡ rows
 
 -- the name, the kind, the filter of the words, and the body
 unfoldable pub column_bytes : Column → List ℕ

@@ -1,10 +1,11 @@
 //! The columns of a block.
 
 ghost use Rattle.std.specs.Prelude.{◌≡◌, ◌<◌, ◌^◌, ◌++◌, IfOk, OnOk, length};
+ghost use Rattle.std.specs.List.{All};
 ghost use Rattle.byte_format.specs.Format.{front, many};
 ghost use Rattle.byte_format.specs.Gives.{Gives};
 ghost use Rattle.word_filter.specs.Words.{filter_of};
-ghost use Rattle.block_parts.specs.Columns.{column, column_bytes, column_steps};
+ghost use Rattle.block_parts.specs.Columns.{HasRows, column, column_bytes, column_steps};
 
 use block_column::{FoundColumn, ValueColumn, take_kind};
 use byte_format::{Stop, put_text16, take_text16};
@@ -58,7 +59,8 @@ pub(crate) fn take_columns(
     rows: usize,
     bytes: &[u8],
 ) -> Result<(Vec<NamedColumn>, &[u8]), Stop>
-    ensures { Gives (λ x. (x.0.items, x.1.now)) result (front (many count (column rows)) bytes.now) }
+    ensures value { Gives (λ x. (x.0.items, x.1.now)) result (front (many count (column rows)) bytes.now) }
+    ensures rows { IfOk result (λ x. All (HasRows rows) x.0.items) }
 {
     let mut columns = Vec::new(alloc);
     let mut rest = bytes;
@@ -71,14 +73,16 @@ pub(crate) fn take_columns(
 }
 
 fn take_column(alloc: Global, rows: usize, bytes: &[u8]) -> Result<(NamedColumn, &[u8]), Stop>
-    ensures { Gives (λ x. (x.0, x.1.now)) result (front (column rows) bytes.now) }
+    ensures value { Gives (λ x. (x.0, x.1.now)) result (front (column rows) bytes.now) }
+    ensures rows { IfOk result (λ x. HasRows rows x.0) }
 {
     take_steps(alloc, rows, bytes)
 }
 
 #[tactic(auto, unfolding(crate::specs::Columns::column_steps))]
 fn take_steps(alloc: Global, rows: usize, bytes: &[u8]) -> Result<(NamedColumn, &[u8]), Stop>
-    ensures { Gives (λ x. (x.0, x.1.now)) result (column_steps rows bytes.now) }
+    ensures value { Gives (λ x. (x.0, x.1.now)) result (column_steps rows bytes.now) }
+    ensures rows { IfOk result (λ x. HasRows rows x.0) }
 {
     let (name, rest) = take_text16(bytes)?;
     let (kind, rest) = take_kind(rest)?;

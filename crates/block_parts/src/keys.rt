@@ -57,14 +57,16 @@ fn put_places(out: &mut Vec<u8>, keys: &[Key]) -> Result<(), AllocError>
 
 /// The keys of so many rows at the front of the bytes, and the bytes behind them.
 pub(crate) fn take_keys(alloc: Global, rows: usize, bytes: &[u8]) -> Result<(Vec<Key>, &[u8]), Stop>
-    ensures { Gives (λ x. (x.0.items, x.1.now)) result (front (keys rows) bytes.now) }
+    ensures value { Gives (λ x. (x.0.items, x.1.now)) result (front (keys rows) bytes.now) }
+    ensures count { IfOk result (λ x. length x.0.items ≡ rows) }
 {
     take_steps(alloc, rows, bytes)
 }
 
 #[tactic(auto, unfolding(crate::specs::Keys::keys_steps))]
 fn take_steps(alloc: Global, rows: usize, bytes: &[u8]) -> Result<(Vec<Key>, &[u8]), Stop>
-    ensures { Gives (λ x. (x.0.items, x.1.now)) result (keys_steps rows bytes.now) }
+    ensures value { Gives (λ x. (x.0.items, x.1.now)) result (keys_steps rows bytes.now) }
+    ensures count { IfOk result (λ x. length x.0.items ≡ rows) }
 {
     let (times, rest) = take_i64s(alloc, rows, bytes)?;
     let (batches, rest) = take_u64s(alloc, rows, rest)?;

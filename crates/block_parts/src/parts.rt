@@ -1,8 +1,10 @@
 //! All parts of a block.
 
-ghost use Rattle.std.specs.Prelude.{◌≡◌};
+ghost use Rattle.std.specs.Prelude.{◌≡◌, IfOk, length};
+ghost use Rattle.std.specs.List.{All};
 ghost use Rattle.byte_format.specs.Format.{front, whole};
 ghost use Rattle.byte_format.specs.Gives.{Gives};
+ghost use Rattle.block_parts.specs.Columns.{HasRows};
 ghost use Rattle.block_parts.specs.Parts.{parts, parts_steps};
 
 use crate::columns::{NamedColumn, take_columns};
@@ -31,8 +33,10 @@ impl Model for Parts {
 }
 
 /// What all of the bytes say, or how many bytes are left from the first item on that is not whole or has not its form.
+/// Each column has a value for each row.
 pub fn take_parts(alloc: Global, bytes: &[u8]) -> Result<Parts, Stop>
-    ensures { Gives (λ found. found) result (whole parts bytes.now) }
+    ensures value { Gives (λ found. found) result (whole parts bytes.now) }
+    ensures rows { IfOk result (λ found. All (HasRows (length found.keys)) found.columns) }
 {
     let (parts, rest) = take_front(alloc, bytes)?;
     if !rest.is_empty() {
@@ -42,14 +46,16 @@ pub fn take_parts(alloc: Global, bytes: &[u8]) -> Result<Parts, Stop>
 }
 
 fn take_front(alloc: Global, bytes: &[u8]) -> Result<(Parts, &[u8]), Stop>
-    ensures { Gives (λ x. (x.0, x.1.now)) result (front parts bytes.now) }
+    ensures value { Gives (λ x. (x.0, x.1.now)) result (front parts bytes.now) }
+    ensures rows { IfOk result (λ x. All (HasRows (length x.0.keys)) x.0.columns) }
 {
     take_steps(alloc, bytes)
 }
 
 #[tactic(auto, unfolding(crate::specs::Parts::parts_steps))]
 fn take_steps(alloc: Global, bytes: &[u8]) -> Result<(Parts, &[u8]), Stop>
-    ensures { Gives (λ x. (x.0, x.1.now)) result (parts_steps bytes.now) }
+    ensures value { Gives (λ x. (x.0, x.1.now)) result (parts_steps bytes.now) }
+    ensures rows { IfOk result (λ x. All (HasRows (length x.0.keys)) x.0.columns) }
 {
     let (labels, rest) = take_labels(alloc, bytes)?;
     let (rows, rest) = take_u16(rest)?;

@@ -3,3 +3,5 @@ pub mod Outlines
 pub mod Rows
 pub mod Held
 pub mod Spelling
+pub mod Reading
+pub mod Answers

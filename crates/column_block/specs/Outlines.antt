@@ -1,5 +1,6 @@
 -- What is known of a block of rows that stand in the order of their times.
-use Rattle.std.specs.Prelude.{ℕ, List, [], ◌∷◌, length, map, pos}
+use Rattle.std.specs.Prelude.{ℕ, ℤ, ◌≤ℤ◌, List, [], ◌∷◌, length, map, pos}
+use Rattle.std.specs.List.{All, Contains}
 use Rattle.log_model.specs.Field.{Field}
 use Rattle.log_model.specs.History.{Numbered}
 use Rattle.row_columns.specs.Columns.{names_of, values_of}
@@ -32,3 +33,13 @@ outline_of rows = record {
   rows = length rows;
   columns = map (filter_named rows) (names_of rows);
 }
+
+abbrev pub time_of : Numbered → ℤ
+time_of numbered = pos numbered.row.moment
+
+-- The outline has the least and the greatest time of the rows.
+pub record IsSpan (rows : List Numbered) (outline : Outline) : Type 0 where
+  pub least : All (λ numbered. outline.min ≤ℤ time_of numbered) rows
+  pub greatest : All (λ numbered. time_of numbered ≤ℤ outline.max) rows
+  pub first : Contains (map time_of rows) outline.min
+  pub last : Contains (map time_of rows) outline.max

@@ -2,6 +2,8 @@
 use Rattle.std.specs.Prelude.{◌≡◌, ℕ, ℤ, Bool, true, ◌&&◌, ◌||◌, ◌==◌, not, nat_lt, ◌<◌, ◌≤◌, ◌*◌, IsTrue}
 use Rattle.std.specs.Prelude.{List, [], ◌∷◌, length, pos}
 use Rattle.std.specs.List.{list_all, AllByRecursion}
+use Rattle.std.specs.Ordering.{nat_cmp, ordering_then}
+use Rattle.std.specs.declared.cmp.Ordering.{Ordering}
 use Rattle.log_model.specs.History.{Numbered}
 use Rattle.row_columns.specs.Columns.{names_of}
 use Rattle.column_block.specs.Outlines.{labels_of}
@@ -21,6 +23,13 @@ comes_before a b =
 abbrev pub are_ordered : List Numbered → Bool
 are_ordered [] = true
 are_ordered (a ∷ rows) = list_all (comes_before a) rows && are_ordered rows
+
+abbrev pub number_of : Numbered → ℕ × ℕ
+number_of numbered = (numbered.batch, numbered.place)
+
+-- the order of numbers: by the batch, and then by the place
+abbrev pub number_cmp : ℕ × ℕ → ℕ × ℕ → Ordering
+number_cmp a b = ordering_then (nat_cmp a.0 b.0) (nat_cmp a.1 b.1)
 
 abbrev pub has_other_number : Numbered → Numbered → Bool
 has_other_number a b = not ((a.batch == b.batch) && (a.place == b.place))

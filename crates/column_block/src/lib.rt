@@ -3,13 +3,19 @@
 
 mod block;
 mod columns;
+mod fault;
 mod head;
 mod open;
+mod read;
+mod rules;
+mod said;
 mod steps;
 mod write;
 
 pub use block::Block;
 pub use block_column::Value;
+pub use fault::BlockFault;
 pub use head::Head;
 pub use open::Open;
+pub use rules::is_block;
 pub use steps::Steps;

@@ -1,9 +1,12 @@
 //! Opened blocks, which lend values, keys and rows.
 
-ghost use Rattle.std.specs.Prelude.{◌≡◌, ◌<◌, IfOk, IfSome, OnOk, Some, length, map, slice_get, slice_index_or, []};
+ghost use Rattle.std.specs.Prelude.{◌≡◌, ◌<◌, IfOk, IfSome, OnOk, Some, length, map, slice_get};
+ghost use Rattle.std.specs.Prelude.{slice_index_or, true, []};
+ghost use Rattle.std.specs.List.{list_all};
 ghost use Rattle.block_column.specs.Values.{value_text};
-ghost use Rattle.log_model.specs.Field.{set_field};
+ghost use Rattle.log_model.specs.Field.{is_empty, set_field};
 ghost use Rattle.row_columns.specs.Columns.{names_of, values_of};
+ghost use Rattle.column_block.specs.Reading.{is_text_field};
 ghost use Rattle.column_block.specs.Rows.{key_in};
 
 use crate::block::Block;
@@ -79,29 +82,63 @@ impl<'a> Open<'a> {
     {
         let block = self.block;
         let head = &block.head;
-        let mut fields = FieldList::with_room(alloc, head.columns())?;
+        let mut fields = FieldList::with_room(alloc, self.count(i))?;
         for c in 0..head.columns() {
             set_value(alloc, &mut fields, head.name(c), self.value(i, c))?;
         }
         Ok(fields)
     }
+
+    /// How many fields a row has.
+    fn count(&self, i: usize) -> usize
+        requires { i < length self.now }
+    {
+        let block = self.block;
+        let mut count = 0;
+        for c in 0..block.head.columns() {
+            if !is_missing(self.value(i, c)) {
+                count += 1;
+            }
+        }
+        count
+    }
+}
+
+/// Whether the value is empty, so that the row has no such field.
+pub(crate) fn is_missing(value: Value<'_>) -> bool
+    ensures { result ≡ is_empty (value_text value.entry) }
+{
+    match value {
+        Value::Str(text) => text.is_empty(),
+        Value::Int(_) => false,
+    }
 }
 
 /// Gives the field of this name the text that is lent.
-fn set_value(
+pub(crate) fn set_value(
     alloc: Global,
     fields: &mut FieldList,
     name: &str,
     value: Value<'_>,
 ) -> Result<(), AllocError>
     requires { 0 < length name.now }
-    ensures { OnOk result (fields.new ≡ set_field fields.old name.now (value_text value.entry)) }
+    ensures value { OnOk result (fields.new ≡ set_field fields.old name.now (value_text value.entry)) }
+    ensures texts { OnOk result (list_all is_text_field fields.old ≡ true → list_all is_text_field fields.new ≡ true) }
 {
     match value {
-        Value::Str(text) => fields.set(alloc, name, text),
+        Value::Str(text) => set_text(alloc, fields, name, text),
         Value::Int(integer) => {
             let text = format!(in alloc; "{integer}")?;
-            fields.set(alloc, name, text.as_str())
+            set_text(alloc, fields, name, text.as_str())
         }
     }
+}
+
+fn set_text(alloc: Global, fields: &mut FieldList, name: &str, text: &str) -> Result<(), AllocError>
+    requires { 0 < length name.now }
+    ensures value { OnOk result (fields.new ≡ set_field fields.old name.now text.now) }
+    ensures texts { OnOk result (list_all is_text_field fields.old ≡ true → list_all is_text_field fields.new ≡ true) }
+{
+    fields.set(alloc, name, text)?;
+    Ok(())
 }

@@ -1,9 +1,9 @@
-//! What blocks of one row answer.
-ghost use Rattle.std.specs.Prelude.{◌≡◌, IfOk, length};
+//! What blocks answer.
+ghost use Rattle.std.specs.Prelude.{◌≡◌, ◌<◌, length};
 ghost use Rattle.row_columns.specs.Columns.{names_of};
 
-use crate::hex_tests::push_digits;
-use column_block::{Block, Head, Open, Steps, Value};
+use crate::hex_tests::{bytes_of, push_digits};
+use column_block::{Block, BlockFault, Head, Open, Steps, Value, is_block};
 use std::alloc::{AllocError, Global};
 use std::fmt::Write;
 use vl_row::{FieldList, Numbered, Row, Text};
@@ -13,7 +13,32 @@ use vl_row::{FieldList, Numbered, Row, Text};
 struct Tests;
 
 pub fn answer(alloc: Global, line: &str) -> Result<String, AllocError> {
-    let (key, rest) = line.split_once('|').unwrap_or((line, ""));
+    if let Some(digits) = line.strip_prefix("= ") {
+        let bytes = bytes_of(alloc, digits)?;
+        return read_text(alloc, bytes.as_slice());
+    }
+    if let Some(sizes) = line.strip_prefix("made ") {
+        return made_text(alloc, sizes);
+    }
+    match rows_of(alloc, line)? {
+        Some(rows) => rows_text(alloc, rows.as_slice()),
+        None => format!(in alloc; "no row"),
+    }
+}
+
+fn rows_of(alloc: Global, line: &str) -> Result<Option<Vec<Numbered>>, AllocError> {
+    let mut rows = Vec::new(alloc);
+    for text in line.split(';') {
+        match row_of(alloc, text)? {
+            Some(row) => rows.push(row)?,
+            None => return Ok(None),
+        }
+    }
+    Ok(Some(rows))
+}
+
+fn row_of(alloc: Global, text: &str) -> Result<Option<Numbered>, AllocError> {
+    let (key, rest) = text.split_once('|').unwrap_or((text, ""));
     let (labels, fields) = rest.split_once('|').unwrap_or((rest, ""));
     let (time, rest) = key.split_once(' ').unwrap_or((key, ""));
     let (batch, place) = rest.split_once(' ').unwrap_or((rest, ""));
@@ -25,18 +50,12 @@ pub fn answer(alloc: Global, line: &str) -> Result<String, AllocError> {
         names.as_slice(),
         fields,
     ) {
-        Ok(row) => {
-            let block = block_of(
-                alloc,
-                Numbered {
-                    batch: batch.parse::<u64>().unwrap_or(0),
-                    place: place.parse::<u32>().unwrap_or(0),
-                    row,
-                },
-            )?;
-            block_text(alloc, &block)
-        }
-        Err(_) => format!(in alloc; "no row"),
+        Ok(row) => Ok(Some(Numbered {
+            batch: batch.parse::<u64>().unwrap_or(0),
+            place: place.parse::<u32>().unwrap_or(0),
+            row,
+        })),
+        Err(_) => Ok(None),
     }
 }
 
@@ -59,29 +78,83 @@ fn fields_of(alloc: Global, text: &str) -> Result<FieldList, AllocError> {
     Ok(fields)
 }
 
-fn block_of(alloc: Global, numbered: Numbered) -> Result<Block, AllocError>
-    ensures { IfOk result (λ block. length block ≡ 1) }
-{
-    let _ = numbered.row.fields();
-    let mut rows = Vec::new(alloc);
-    rows.push(numbered)?;
-    let block = Block::try_of(alloc, rows.as_slice())?;
-    Ok(block)
+/// What a block of these rows says, and its bytes.
+fn rows_text(alloc: Global, rows: &[Numbered]) -> Result<String, AllocError> {
+    if !is_block(alloc, rows)? {
+        return format!(in alloc; "no block");
+    }
+    let block = Block::try_of(alloc, rows)?;
+    let mut text = block_text(alloc, &block)?;
+    let bytes = block.to_bytes(alloc)?;
+    push_digits(&mut text, bytes.as_slice())?;
+    Ok(text)
 }
 
-fn block_text(alloc: Global, block: &Block) -> Result<String, AllocError>
-    requires { length block.now ≡ 1 }
-{
+/// What the block of these bytes says, or where they are damaged.
+fn read_text(alloc: Global, bytes: &[u8]) -> Result<String, AllocError> {
+    match Block::from_bytes(alloc, bytes) {
+        Ok(block) => block_text(alloc, &block),
+        Err(BlockFault::Damaged { at }) => format!(in alloc; "damaged at {at}"),
+        Err(BlockFault::Memory) => Err(AllocError),
+    }
+}
+
+/// What a block of so many rows answers whose values are distinct and have so many bytes: its rows, the length of its
+/// bytes, whether they are read again, and where they are damaged without the last one.
+fn made_text(alloc: Global, sizes: &str) -> Result<String, AllocError> {
+    let (rows, len) = sizes.split_once(' ').unwrap_or((sizes, ""));
+    let rows = made_rows(
+        alloc,
+        rows.parse::<u16>().unwrap_or(1),
+        len.parse::<u16>().unwrap_or(1),
+    )?;
+    if !is_block(alloc, rows.as_slice())? {
+        return format!(in alloc; "no block");
+    }
+    let block = Block::try_of(alloc, rows.as_slice())?;
+    let bytes = block.to_bytes(alloc)?;
+    let again = Block::from_bytes(alloc, bytes.as_slice()).is_ok();
+    let cut = match bytes.as_slice() {
+        [front @ .., _] => read_text(alloc, front)?,
+        [] => String::new(alloc),
+    };
+    format!(in alloc; "{} {} {again} {cut}", rows.len(), bytes.len())
+}
+
+fn made_rows(alloc: Global, rows: u16, len: u16) -> Result<Vec<Numbered>, AllocError> {
+    let mut numbered = Vec::new(alloc);
+    for i in 0..rows {
+        let mut value = format!(in alloc; "{i}")?;
+        for _ in value.len()..len as usize {
+            value.push('x')?;
+        }
+        let mut fields = FieldList::new(alloc);
+        fields.set(alloc, "c", value.as_str())?;
+        if let Ok(row) = Row::try_new(alloc, i as i64, &[], fields) {
+            numbered.push(Numbered {
+                batch: 1,
+                place: i as u32,
+                row,
+            })?;
+        }
+    }
+    Ok(numbered)
+}
+
+fn block_text(alloc: Global, block: &Block) -> Result<String, AllocError> {
     let mut text = String::new(alloc);
     let mut steps: Steps<Tests> = Steps::new();
+    let _ = block.open(&mut steps);
     let opened = block.open(&mut steps);
     let head = block.head();
     push_outline(&mut text, head, steps.count());
     push_head(&mut text, head);
-    push_values(&mut text, &opened, head.columns());
-    push_row(alloc, &mut text, &opened)?;
-    let bytes = block.to_bytes(alloc)?;
-    push_digits(&mut text, bytes.as_slice())?;
+    for i in 0..head.rows() {
+        push_key(&mut text, &opened, i);
+        push_values(&mut text, &opened, i, head.columns());
+        push_row(alloc, &mut text, &opened, i)?;
+    }
+    text.push(' ')?;
     Ok(text)
 }
 
@@ -105,27 +178,31 @@ fn push_head(text: &mut String, head: &Head) {
     }
 }
 
-fn push_values(text: &mut String, opened: &Open<'_>, columns: usize)
-    requires row { length opened.now ≡ 1 }
+fn push_key(text: &mut String, opened: &Open<'_>, i: usize)
+    requires { i < length opened.now }
+{
+    let (time, batch, place) = opened.key(i);
+    let _ = write!(text, " / {time} {batch} {place}");
+}
+
+fn push_values(text: &mut String, opened: &Open<'_>, i: usize, columns: usize)
+    requires row { i < length opened.now }
     requires columns { columns ≡ length (names_of opened.now) }
 {
     for c in 0..columns {
-        let _ = match opened.value(0, c) {
+        let _ = match opened.value(i, c) {
             Value::Str(value) => write!(text, " [{value}]"),
             Value::Int(value) => write!(text, " {value}"),
         };
     }
 }
 
-fn push_row(alloc: Global, text: &mut String, opened: &Open<'_>) -> Result<(), AllocError>
-    requires { length opened.now ≡ 1 }
+fn push_row(alloc: Global, text: &mut String, opened: &Open<'_>, i: usize) -> Result<(), AllocError>
+    requires { i < length opened.now }
 {
-    let (time, batch, place) = opened.key(0);
-    let _ = write!(text, " / {time} {batch} {place}");
-    let numbered = opened.row(alloc, 0)?;
+    let numbered = opened.row(alloc, i)?;
     for field in numbered.row.fields().as_slice() {
         let _ = write!(text, " {}={}", field.name(), field.value());
     }
-    text.push(' ')?;
     Ok(())
 }

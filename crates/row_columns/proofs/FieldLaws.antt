@@ -86,7 +86,7 @@ at-end fields name below =
 not-set : (fields : List Field) (name : List ℕ) → AllBelow fields name → set_field fields name [] ≡ fields
 not-set fields name below = (at-end fields name below).unchanged
 
-set-last : (fields : List Field) (name value : List ℕ) → AllBelow fields name → 0 < length value
+pub set-last : (fields : List Field) (name value : List ℕ) → AllBelow fields name → 0 < length value
     → set_field fields name value ≡ fields ++ (name, value) ∷ []
 set-last fields name value below some =
     let all : take (length fields) fields ≡ fields = take_all (length fields) fields (omega arith) in
@@ -103,7 +103,7 @@ second-false false false e = refl
 some-bytes : (n : ℕ) → ltb n 1 ≡ false → 0 < n
 some-bytes n h = grind (arith, nat_tests)
 
-filled-value : (f : Field) → is_filled f ≡ true → 0 < length f.1
+pub filled-value : (f : Field) → is_filled f ≡ true → 0 < length f.1
 filled-value f e = some-bytes (length f.1) (second-false (ltb (length f.0) 1) (ltb (length f.1) 1) e)
 
 listed-other : (f : Field) (name : List ℕ) (names : List (List ℕ)) → list_any (bytes_eq f.0) (name ∷ names) ≡ true
@@ -115,7 +115,7 @@ listed-other f name names e other = by (bytes_eq f.0 name) refl e
     by true same h = absurd (other (sym ((bytes_eq-Decides f.0 name).0 same)))
     by false same h = h
 
-below-more : (acc : List Field) (f : Field) (names : List (List ℕ)) → AllByRecursion (AllBelow acc) names
+pub below-more : (acc : List Field) (f : Field) (names : List (List ℕ)) → AllByRecursion (AllBelow acc) names
     → Above f.0 names → AllByRecursion (AllBelow (acc ++ f ∷ [])) names
 below-more acc f [] b a = tt
 below-more acc f (n ∷ ns) b a =

@@ -2,3 +2,4 @@ pub mod FieldLaws
 pub mod NameLaws
 pub mod Sizes
 pub mod RowLaws
+pub mod FaultLaws

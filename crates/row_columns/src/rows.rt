@@ -1,12 +1,12 @@
 //! Rows of columns.
 
-ghost use Rattle.std.specs.Prelude.{◌≡◌, IfOk, map, unsigned_abs};
+ghost use Rattle.std.specs.Prelude.{◌≡◌, ◌≤ℤ◌, IfOk, map, pos, unsigned_abs};
 ghost use Rattle.log_model.specs.Row.{IsRow};
 ghost use Rattle.row_columns.specs.Columns.{row_of};
 
 use crate::keys::Key;
 use std::alloc::{AllocError, Global};
-use vl_row::{FieldList, Numbered, Row, Stream, Text};
+use vl_row::{FieldList, Numbered, Row, RowFault, Stream, Text};
 
 /// The row of this stream and this key that has these fields.
 pub fn numbered_row(
@@ -15,7 +15,8 @@ pub fn numbered_row(
     key: Key,
     fields: FieldList,
 ) -> Result<Numbered, AllocError>
-    requires { IsRow (row_of stream.now key fields).row }
+    requires time { pos 0 ≤ℤ key.time }
+    requires row { IsRow (row_of stream.now key fields).row }
     ensures { IfOk result (λ numbered. numbered ≡ row_of stream.now key fields) }
 {
     let names = label_names(alloc, stream)?;
@@ -25,7 +26,10 @@ pub fn numbered_row(
             place: key.place,
             row,
         }),
-        Err(_) => Err(AllocError),
+        Err((fault, _)) => match fault {
+            RowFault::Memory => Err(AllocError),
+            _ => unreachable!(),
+        },
     }
 }
 

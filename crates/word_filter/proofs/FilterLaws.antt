@@ -30,7 +30,7 @@ bits-length filter (b ∷ bits) =
     bits-length (with_bit filter b) bits
     ∙ length-set filter (b / 64) (bit_or (get_or filter (b / 64) 0) (1 * 2 ^ (b % 64) % 2 ^ 64))
 
-word-length : (filter word : List ℕ) → length (with_word filter word) ≡ length filter
+pub word-length : (filter word : List ℕ) → length (with_word filter word) ≡ length filter
 word-length filter word = by (eqb (length filter) 0)
   where
     by : (none : Bool) → length (cond none filter (with_bits filter (places (bit_count filter) (fnv word))))

@@ -1,2 +1,4 @@
 pub mod WordLaws
 pub mod FilterLaws
+pub mod Kept
+pub mod Again

@@ -1,13 +1,13 @@
 -- The words of a column's values, and the filter of them.
-use Rattle.std.specs.Prelude.{ℕ, List, ◌++◌, length, map, Result, Ok}
+use Rattle.std.specs.Prelude.{ℕ, IsTrue, List, ◌++◌, length, map, Result, Ok}
 use Rattle.std.specs.BTreeSet.{insert_key}
 use Rattle.std.specs.Int.{w32, w64, to_le_bytes}
-use Rattle.std.specs.List.{flat_map, fold, slice_range}
+use Rattle.std.specs.List.{All, flat_map, fold, slice_range}
 use Rattle.block_column.specs.Kinds.{distinct}
 use Rattle.byte_format.specs.Format.{Format, value, followed, many, front, ◌>>=◌}
 use Rattle.byte_format.specs.Items.{number}
 use Rattle.log_model.specs.Field.{bytes_cmp}
-use Rattle.token_bloom.specs.Filter.{empty_filter, filter_bytes, with_word}
+use Rattle.token_bloom.specs.Filter.{empty_filter, filter_bytes, may_have, with_word}
 use Rattle.word_tokens.specs.Runs.{words_of}
 
 -- the text of each word
@@ -21,6 +21,14 @@ column_words values = distinct (flat_map words_in values)
 -- a filter with room for them, to which each is added
 abbrev pub filter_of : List (List ℕ) → List ℕ
 filter_of values = fold with_word (empty_filter (length (column_words values))) (column_words values)
+
+-- Each word of the text may be there.
+abbrev pub HasWords : List ℕ → List ℕ → Type 0
+HasWords filter text = All (λ word. IsTrue (may_have filter word)) (words_in text)
+
+-- The filter of some values leaves out no word of them.
+abbrev pub LeavesNoneOut : Type 0
+LeavesNoneOut = (values : List (List ℕ)) → All (HasWords (filter_of values)) values
 
 -- some texts in order, and the words of one more value
 abbrev pub put_words : List (List ℕ) → List ℕ → List (List ℕ)

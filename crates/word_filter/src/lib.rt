@@ -3,14 +3,14 @@
 
 ghost use Rattle.std.specs.Prelude.{◌≡◌, ◌<◌, ◌^◌, ◌≤◌, ◌+◌, ◌++◌, IfOk, OnOk, length, map, sum_by};
 ghost use Rattle.std.specs.BTreeSet.{keys};
-ghost use Rattle.std.specs.List.{fold};
+ghost use Rattle.std.specs.List.{All, fold};
 ghost use Rattle.std.specs.Int.{w64};
 ghost use Rattle.byte_format.specs.Format.{front, many};
 ghost use Rattle.byte_format.specs.Gives.{Gives};
 ghost use Rattle.byte_format.specs.Items.{number};
 ghost use Rattle.token_bloom.specs.Filter.{with_word};
-ghost use Rattle.word_filter.specs.Words.{column_words, counted_filter, filter_item, filter_of, filter_steps};
-ghost use Rattle.word_filter.specs.Words.{put_words, skipped};
+ghost use Rattle.word_filter.specs.Words.{HasWords, LeavesNoneOut, column_words, counted_filter, filter_item};
+ghost use Rattle.word_filter.specs.Words.{filter_of, filter_steps, put_words, skipped};
 
 use byte_format::{Stop, put_u64s, take_u32, take_u64};
 use std::alloc::{AllocError, Global};
@@ -22,6 +22,7 @@ use word_tokens::words;
 pub fn filter_of(alloc: Global, values: &[&str]) -> Result<Bloom, AllocError>
     requires { sum_by (λ t. length t.now) values.now < 2 ^ 32 }
     ensures filter { IfOk result (λ bloom. bloom ≡ filter_of (map (λ t. t.now) values.now)) }
+    ensures words { IfOk result (λ bloom. All (HasWords bloom) (map (λ t. t.now) values.now)) }
     ensures small { IfOk result (λ bloom. length bloom < 2 ^ 32) }
 {
     let words = words_of(alloc, values)?;
@@ -29,6 +30,12 @@ pub fn filter_of(alloc: Global, values: &[&str]) -> Result<Bloom, AllocError>
     add_words(&mut bloom, &words);
     Ok(bloom)
 }
+
+/// What a search for words may rest on: the filter of some values says of no word of theirs that it is not there. This
+/// does nothing: its contract is the law.
+pub fn filter_law()
+    ensures { LeavesNoneOut }
+{}
 
 /// The words of the values, each once.
 fn words_of<'a>(alloc: Global, values: &[&'a str]) -> Result<BTreeSet<&'a str>, AllocError>
