@@ -1,10 +1,8 @@
-pub mod AnswerLemmas
 pub mod GroupLemmas
 pub mod HeldLemmas
 pub mod LineLemmas
 pub mod LoadLemmas
 pub mod PipeLemmas
-pub mod QueryLemmas
 pub mod ReportLemmas
 pub mod RunLemmas
 pub mod RefusalLemmas

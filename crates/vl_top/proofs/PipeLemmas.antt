@@ -1,19 +1,18 @@
 -- From the input to the answer.
-use Rattle.std.proofs.Common.{◌<◌, ◌≡◌, inl, inr, ℕ, pos, length, map, ◌≤◌, List, [], ◌++◌, flat_map, take, Option, All, refl, sym, ap, subst, ◌∙◌, arith}
+use Rattle.std.proofs.Common.{◌<◌, ◌≡◌, inl, inr, ℕ, pos, ◌≤◌, List, [], ◌++◌, flat_map, take, Option, All, refl, sym, ap, subst, ◌∙◌, arith}
 use Rattle.vl_io.specs.Bytes.{Appends}
 use Rattle.vl_io.specs.Change.{Change, Gave, IsCut, IsTold, Took}
 use Rattle.vl_io.specs.Lines.{is_feed}
 use Rattle.std.specs.Prelude.{count_by}
-use Rattle.std.proofs.lemmas.Bool.{le-ltb, lt-ltb}
 use Rattle.vl_io.proofs.Laws.{Appends-trans, Rose-earlier}
 use Rattle.log_model.specs.Core.{Contents, parts_of}
 use Rattle.log_model.specs.History.{AreInOrder, Numbered, rows_in, rows_of}
-use Rattle.log_model.specs.Row.{Row, record_of}
+use Rattle.log_model.specs.Row.{Row}
 use Rattle.lq_ast.specs.Question.{Question}
 use Rattle.lq_ast.specs.Evaluation.{evaluate}
-use Rattle.vl_top.specs.Answer.{FailsOver, IsAnswerOver}
-use Rattle.vl_top.specs.declared.answer.AnswerFault.{AnswerFault}
-use Rattle.vl_top.specs.declared.answer.AnswerFault.TheVariants as answers
+use Rattle.query_run.specs.Answer.{FailsOver, IsAnswerOver}
+use Rattle.query_run.specs.declared.evaluation.RunFault.{RunFault}
+use Rattle.query_run.specs.declared.evaluation.RunFault.TheVariants as answers
 use Rattle.vl_top.specs.Groups.{batches_of, refusals_of}
 use Rattle.vl_top.specs.Program as model
 use Rattle.vl_top.specs.Program.{AreFew, IsAnswer, IsTakenIn, overflow_text, overflowing, said_of_query, stop_text}
@@ -45,6 +44,10 @@ stops_loaded now source errors shelf l = record {
 }
 
 module _ (query : Question) (now : ℕ) (source output errors : Change) (shelf snapshot : Contents (List Numbered)) where
+  -- the rows that were looked at
+  abbrev seen : List Row
+  seen = flat_map rows_in (parts_of snapshot)
+
   -- what the input becomes
   taken : (l : IsLoaded now source errors shelf)
       → IsTakenIn now l.begins.taken (refusals_of l.groups) l.holding.history
@@ -65,18 +68,17 @@ module _ (query : Question) (now : ℕ) (source output errors : Change) (shelf s
 
   module _ (l : IsLoaded now source errors shelf) (same : snapshot ≡ shelf)
       (ordered : All AreInOrder (parts_of snapshot)) where
-    -- the rows that were looked at are those of the history
-    all_rows : flat_map rows_in (parts_of snapshot) ≡ rows_of l.holding.history
+    -- they are those of the history
+    all_rows : seen ≡ rows_of l.holding.history
     all_rows =
         ap (λ (s : Contents (List Numbered)). flat_map rows_in (parts_of s)) same
         ∙ held_rows shelf (batches_of l.groups) l.holding
         (subst (λ (s : Contents (List Numbered)). All AreInOrder (parts_of s)) same ordered)
 
-    evaluated : evaluate query (pos now) (flat_map rows_in (parts_of snapshot))
-        ≡ evaluate query (pos now) (rows_of l.holding.history)
+    evaluated : evaluate query (pos now) seen ≡ evaluate query (pos now) (rows_of l.holding.history)
     evaluated = ap (evaluate query (pos now)) all_rows
 
-    answer : (text : List ℕ) → IsAnswerOver query (pos now) (parts_of snapshot) text
+    answer : (text : List ℕ) → IsAnswerOver query (pos now) seen text
         → IsAnswer query now l.begins.taken text (refusals_of l.groups)
     answer text is = record {
       history = l.holding.history;
@@ -86,7 +88,7 @@ module _ (query : Question) (now : ℕ) (source output errors : Change) (shelf s
       answered = is.printed;
     }
 
-    pub answered : (text : List ℕ) → IsAnswerOver query (pos now) (parts_of snapshot) text → Took output text
+    pub answered : (text : List ℕ) → IsAnswerOver query (pos now) seen text → Took output text
         → IsAnswered query now source output errors
     answered text is written = record {
       input = l.begins.taken;
@@ -99,7 +101,7 @@ module _ (query : Question) (now : ℕ) (source output errors : Change) (shelf s
       named = l.named;
     }
 
-    pub answer_cut : (text : List ℕ) → IsAnswerOver query (pos now) (parts_of snapshot) text → IsCut output [] text
+    pub answer_cut : (text : List ℕ) → IsAnswerOver query (pos now) seen text → IsCut output [] text
         → IsAnswerCut query now source output errors
     answer_cut text is cut = record {
       input = l.begins.taken;
@@ -112,8 +114,8 @@ module _ (query : Question) (now : ℕ) (source output errors : Change) (shelf s
       named = l.named;
     }
 
-    untold : (cause : model.Overflow) → evaluate query (pos now) (flat_map rows_in (parts_of snapshot))
-        ≡ overflowing cause → OverflowsUntold query now source errors cause
+    untold : (cause : model.Overflow) → evaluate query (pos now) seen ≡ overflowing cause
+        → OverflowsUntold query now source errors cause
     untold cause is = record {
       input = l.begins.taken;
       refusals = refusals_of l.groups;
@@ -124,7 +126,7 @@ module _ (query : Question) (now : ℕ) (source output errors : Change) (shelf s
     }
 
     -- why there is no answer
-    pub unanswered : (fault : AnswerFault) → FailsOver query (pos now) (parts_of snapshot) fault
+    pub unanswered : (fault : RunFault) → FailsOver query (pos now) seen fault
         → StopsPipe query now source output errors (interrupt_of fault)
     unanswered answers.ManyRows h = (untold model.many_rows h, stops_loaded now source errors shelf l)
     unanswered (answers.Overflow name) h = (untold (model.total name) h, stops_loaded now source errors shelf l)

@@ -6,11 +6,12 @@ use Rattle.lq_ast.specs.Question.{Question}
 use Rattle.vl_top.specs.Pipe.{EndsPipe}
 use Rattle.lq_grammar.specs.Query.{IsQueryText}
 use Rattle.vl_top.specs.Program.{Refusal, command_of, no_memory, pipe, unreadable_pattern, unspelled}
-use Rattle.vl_top.specs.Refused.{Refuses, ReportsRefused}
+use Rattle.query_run.specs.Asked.{Refuses}
+use Rattle.query_run.specs.declared.query.QueryRefusal.{QueryRefusal}
+use Rattle.query_run.specs.declared.query.QueryRefusal.TheVariants.{Unspelled, Pattern, Memory}
+use Rattle.vl_top.specs.Refused.{ReportsRefused}
 use Rattle.vl_top.specs.Run.{ForCommand, HasNoAnswer, HasStopped, IsRefused, IsUnread, Run}
 use Rattle.vl_top.specs.Status.{status_number}
-use Rattle.vl_top.specs.declared.query.Refused.{Refused}
-use Rattle.vl_top.specs.declared.query.Refused.TheVariants.{Unspelled, Pattern, NoMemory}
 use Rattle.vl_top.specs.declared.status.Status.{Status}
 use Rattle.vl_top.specs.declared.status.Status.TheVariants as statuses
 
@@ -69,12 +70,12 @@ module _ (run : Run) (text : List ℕ) (query : Question) (asked : command_of ru
 module _ (run : Run) (text : List ℕ) (asked : command_of run.words ≡ Some (pipe text)) (unread : IsUnread run.source)
   where
     -- a query that is refused before anything is read
-    pub refused_early : (refused : Refused) (status : Status) → Refuses text refused
-        → ReportsRefused run.errors refused status → status_number status ≡ 1
-        → (refusal : Refusal) × ForCommand run (IsRefused run refusal)
+    pub refused_early : (refusal : QueryRefusal) (status : Status) → Refuses text refusal
+        → ReportsRefused run.errors refusal status → status_number status ≡ 1
+        → (cause : Refusal) × ForCommand run (IsRefused run cause)
     refused_early (Unspelled fault) status why (inl told) is = (unspelled fault, (pipe text, asked, (why, unread, told.2)))
     refused_early (Pattern nth) status why (inl told) is =
         (unreadable_pattern nth, (pipe text, asked, (why, unread, told.2)))
-    refused_early NoMemory status why (inl told) is = absurd (told.1 refl)
-    refused_early refused status why (inr told) is =
+    refused_early Memory status why (inl told) is = absurd (told.1 refl)
+    refused_early refusal status why (inr told) is =
         absurd (let none : ⊥ = omega (arith, ap status_number told.0, is) in none)

@@ -2,8 +2,8 @@
 use Rattle.vl_top.specs.Program as model
 use Rattle.vl_io.specs.declared.transfer.ReadFault.{ReadFault}
 use Rattle.vl_io.specs.declared.transfer.ReadFault.TheVariants as faults
-use Rattle.vl_top.specs.declared.answer.AnswerFault.{AnswerFault}
-use Rattle.vl_top.specs.declared.answer.AnswerFault.TheVariants as answers
+use Rattle.query_run.specs.declared.evaluation.RunFault.{RunFault}
+use Rattle.query_run.specs.declared.evaluation.RunFault.TheVariants as answers
 use Rattle.vl_top.specs.declared.interrupt.Overflow.{Overflow}
 use Rattle.vl_top.specs.declared.interrupt.Overflow.TheVariants.{ManyRows, Total}
 use Rattle.vl_top.specs.declared.interrupt.Limit.{Limit}
@@ -27,7 +27,7 @@ interrupt_at faults.Long = Beyond Long
 interrupt_at faults.Memory = NoMemory
 
 -- why there is no answer
-abbrev pub interrupt_of : AnswerFault → Interrupt
+abbrev pub interrupt_of : RunFault → Interrupt
 interrupt_of answers.ManyRows = NoAnswer ManyRows
 interrupt_of (answers.Overflow name) = NoAnswer (Total name)
 interrupt_of answers.Memory = NoMemory

@@ -1,4 +1,3 @@
-pub mod Answer
 pub mod Groups
 pub mod Interrupt
 pub mod Load

@@ -1,7 +1,6 @@
 -- What the program is to do: its words, the texts that it writes, and the answer to an input.
 use Rattle.std.specs.Prelude.{◌≡◌, ℕ, ◌-◌, ◌⊎◌, ◌<◌, ◌≤◌, List, [], ◌∷◌, ◌++◌, length, take, bytes_eq, codes, pos}
-use Rattle.std.specs.Prelude.{decimal, slice_get, Option, Some, None, Err, IsSomeAnd, if◌then◌else◌}
-use Rattle.std.specs.List.{AllByRecursion}
+use Rattle.std.specs.Prelude.{decimal, Option, Some, None, if◌then◌else◌}
 use Rattle.vl_io.specs.Change.{Change, HasFailed}
 use Rattle.vl_io.specs.Lines.{AreFewer, AreLines, piece_len}
 use Rattle.log_model.specs.Core.{held_limit}
@@ -11,12 +10,11 @@ use Rattle.log_model.specs.Print.{lines_text}
 use Rattle.log_model.specs.Row.{batch_limit, batch_weight}
 use Rattle.lq_ast.specs.Evaluation as evaluation
 use Rattle.lq_ast.specs.Evaluation.{evaluate, records}
-use Rattle.lq_ast.specs.Patterns.{CanBeRead, all_patterns}
 use Rattle.lq_ast.specs.Question.{Question}
 use Rattle.lq_grammar.specs.Faults.{fault_text}
-use Rattle.lq_grammar.specs.Query.{IsQueryText, QueryOf}
 use Rattle.lq_grammar.specs.declared.fault.QueryFault.{QueryFault}
 use Rattle.ingest_row.specs.Intake.{Outcome, rows_read}
+use Rattle.query_run.specs.Asked.{HasUnreadablePattern, IsNoReadableQuery, IsUnspelled}
 use Rattle.vl_top.specs.Groups.{AreGroups, BeginsWith, CanBeHeld, HaveOutcomes, batches_of, input_limit, outcomes_in}
 use Rattle.vl_top.specs.Groups.{refusals_of}
 
@@ -156,16 +154,6 @@ overflow_text (total name) = codes "Overflow in " ++ name
 abbrev pub said_of_query : List ℕ → List ℕ
 said_of_query cause = codes "query: " ++ (cause ++ 10 ∷ [])
 
--- the text spells a query whose patterns can all be read
-abbrev pub IsReadableQuery : List ℕ → Type 0
-IsReadableQuery text = (query : Question) × IsQueryText text query × AllByRecursion CanBeRead (all_patterns query)
-
--- the text spells no query, or one whose patterns cannot all be read
-abbrev pub IsNoReadableQuery : List ℕ → Type 0
-IsNoReadableQuery text =
-    ((query : Question) → IsQueryText text query → ⊥)
-    ⊎ ((query : Question) × IsQueryText text query × (AllByRecursion CanBeRead (all_patterns query) → ⊥))
-
 -- the command asks for a query that cannot be asked
 abbrev pub CannotBeAsked : Command → Type 0
 CannotBeAsked (pipe text) = IsNoReadableQuery text
@@ -173,10 +161,8 @@ CannotBeAsked (pipe text) = IsNoReadableQuery text
 -- Why the query with this text is refused before anything is read: it has this fault, or this pattern of it cannot be
 -- read.
 abbrev pub IsRefusedText : List ℕ → Refusal → Type 0
-IsRefusedText text (unspelled fault) = QueryOf text (Err fault)
-IsRefusedText text (unreadable_pattern nth) =
-    (query : Question) × IsQueryText text query
-    × IsSomeAnd (slice_get (all_patterns query) nth) (λ pattern. CanBeRead pattern → ⊥)
+IsRefusedText text (unspelled fault) = IsUnspelled text fault
+IsRefusedText text (unreadable_pattern nth) = HasUnreadablePattern text nth
 
 abbrev pub usage_text : List ℕ
 usage_text = codes "usage: pipe, load, query, trial or serve" ++ 10 ∷ []

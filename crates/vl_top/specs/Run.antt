@@ -9,7 +9,8 @@ use Rattle.vl_top.specs.Groups.{BeginsWith, CanBeHeld, outcomes_in, refusals_fro
 use Rattle.vl_top.specs.Status.{status_number}
 use Rattle.vl_top.specs.declared.status.Status.{Status}
 use Rattle.lq_grammar.specs.Query.{IsQueryText}
-use Rattle.vl_top.specs.Program.{CannotBeAsked, Command, pipe, IsAnswer, IsReadableQuery, IsRefusedText, Overflow}
+use Rattle.query_run.specs.Asked.{IsReadableQuery}
+use Rattle.vl_top.specs.Program.{CannotBeAsked, Command, pipe, IsAnswer, IsRefusedText, Overflow}
 use Rattle.vl_top.specs.Program.{Limit, Overflows, Refusal, Stop, StopsBehind, unreadable, beyond, no_memory}
 use Rattle.vl_top.specs.Program.{command_of, overflow_text, refusal_text, said_of_query, stop_text, usage_text}
 

@@ -1,7 +1,7 @@
 ghost use Rattle.std.specs.Prelude.{◌≡◌, ◌++◌, ◌∷◌, [], IfOk, string_bytes};
 ghost use Rattle.vl_top.specs.Program.{limit_text, overflow_text, said_of_query};
 
-use crate::answer::AnswerFault;
+use query_run::RunFault;
 use std::alloc::{AllocError, Global};
 use vl_io::ReadFault;
 use vl_row::Text;
@@ -97,16 +97,16 @@ impl From<ReadFault> for Interrupt {
     }
 }
 
-impl From<AnswerFault> for Interrupt {
+impl From<RunFault> for Interrupt {
     ghost use Rattle.vl_top.specs.Interrupt.{interrupt_of};
 
     ghost from_gives = { λ fault interrupt. interrupt ≡ interrupt_of fault };
 
-    fn from(fault: AnswerFault) -> Interrupt {
+    fn from(fault: RunFault) -> Interrupt {
         match fault {
-            AnswerFault::ManyRows => Interrupt::NoAnswer(Overflow::ManyRows),
-            AnswerFault::Overflow { name } => Interrupt::NoAnswer(Overflow::Total(name)),
-            AnswerFault::Memory => Interrupt::NoMemory,
+            RunFault::ManyRows => Interrupt::NoAnswer(Overflow::ManyRows),
+            RunFault::Overflow { name } => Interrupt::NoAnswer(Overflow::Total(name)),
+            RunFault::Memory => Interrupt::NoMemory,
         }
     }
 }

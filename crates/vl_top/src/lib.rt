@@ -5,20 +5,18 @@ ghost use Rattle.std.specs.Prelude.{◌≡◌, ◌≢◌, map};
 ghost use Rattle.vl_io.specs.Change.{change_of};
 ghost use Rattle.vl_top.specs.Run.{IsNotAsked, IsRun};
 
-mod answer;
 mod command;
 mod intake;
 mod interrupt;
 mod load;
 mod pipe;
-mod query;
+mod refusal;
 mod report;
-mod search;
 mod status;
 
 use command::query_text;
 use pipe::run_pipe;
-use query::read_query;
+use query_run::read_query;
 use report::report_refused;
 pub use report::{report_no_memory, report_usage};
 pub use status::Status;
@@ -59,6 +57,6 @@ pub fn run<R: AllocGlobal, S: Source, O: Sink, E: Sink, C: Clock>(
     let alloc = rt.alloc();
     match read_query(alloc, text) {
         Ok(search) => run_pipe(alloc, &search, src, out, err, clock).number(),
-        Err(refused) => report_refused(alloc, refused, err).number(),
+        Err(refusal) => report_refused(alloc, refusal, err).number(),
     }
 }

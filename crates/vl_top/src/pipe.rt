@@ -2,17 +2,16 @@
 ghost use Rattle.std.specs.Prelude.{◌≡◌, ◌≢◌, ◌≤◌, ◌≤ℤ◌, ℕ, OnOk, IfErr, pos, unsigned_abs};
 ghost use Rattle.vl_io.specs.Change.{change_of};
 ghost use Rattle.vl_io.specs.Moments.{FirstTold};
+ghost use Rattle.query_run.specs.Asked.{HasReadablePipes, asked_by};
 ghost use Rattle.vl_top.specs.Pipe.{EndsPipe, StopsPipe};
-ghost use Rattle.vl_top.specs.Answer.{HasReadablePipes, asked_by};
 ghost use Rattle.vl_top.specs.Run.{IsAnswered};
 
-use crate::answer::answer;
 use crate::interrupt::Interrupt;
 use crate::load::load;
 use crate::report::report_interrupt;
-use crate::search::Search;
 use crate::status::Status;
 use log_core::Shelf;
+use query_run::{Search, answer, order_law};
 use std::alloc::Global;
 use vl_io::{Clock, Failed, Sink, Source, put_all};
 
@@ -60,7 +59,9 @@ fn pipe<S: Source, O: Sink, E: Sink>(
 {
     let mut shelf = Shelf::fresh(alloc)?;
     load(alloc, now, src, err, &mut shelf)?;
-    let text = answer(alloc, search, now, &shelf.look()?)?;
+    let look = shelf.look()?;
+    order_law(&look);
+    let text = answer(alloc, search, now, &look)?;
     match put_all(out, text.as_str().as_bytes()) {
         Ok(()) => Ok(()),
         Err(Failed) => Err(Interrupt::Unwritable),

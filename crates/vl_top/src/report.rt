@@ -6,8 +6,9 @@ ghost use Rattle.vl_top.specs.Pipe.{ReportsInterrupt};
 ghost use Rattle.vl_top.specs.Refused.{ReportsRefused};
 
 use crate::interrupt::Interrupt;
-use crate::query::Refused;
+use crate::refusal::said_of;
 use crate::status::Status;
+use query_run::QueryRefusal;
 use std::alloc::Global;
 use vl_io::{Sink, put_all};
 
@@ -21,13 +22,13 @@ pub fn report_usage<E: Sink>(err: &mut E) -> Status
 }
 
 /// The query is refused. Where there is no memory to say why, that is what is said.
-pub fn report_refused<E: Sink>(alloc: Global, refused: Refused, err: &mut E) -> Status
-    ensures { ReportsRefused (change_of E.written E.faults err.old err.new) refused result }
+pub fn report_refused<E: Sink>(alloc: Global, refusal: QueryRefusal, err: &mut E) -> Status
+    ensures { ReportsRefused (change_of E.written E.faults err.old err.new) refusal result }
 {
-    if refused == Refused::NoMemory {
+    if refusal == QueryRefusal::Memory {
         return report_no_memory(err);
     }
-    match refused.text(alloc) {
+    match said_of(alloc, refusal) {
         Ok(text) => {
             say(err, text.as_str());
             Status::QueryRefused

@@ -1,7 +1,7 @@
 use Rattle.std.proofs.Common.{◌≡◌, rules, map, Some, inl, inr, refl, sym, ◌∙◌}
 use Rattle.vl_io.specs.Change.{change_of}
 use Rattle.vl_top.proofs.RunLemmas.{complete, refused_early, without_answer, without_memory}
-use Rattle.vl_top.specs.Answer.{asked_by}
+use Rattle.query_run.specs.Asked.{asked_by}
 use Rattle.vl_top.specs.Program.{command_of, pipe}
 use Rattle.vl_top.specs.Run.{Run}
 use Rattle.vl_top.proofs.run.Goals as goal
@@ -39,7 +39,7 @@ returns-in-Err-clause-run g c =
       status = c.number-in-Err.result;
     } in record {
       done = search rules;
-      refused = λ is. inl (refused_early run c.in-Some.text.now asked (refl, refl) c.in-Err.refused c.report_refused.result
+      refused = λ is. inl (refused_early run c.in-Some.text.now asked (refl, refl) c.in-Err.refusal c.report_refused.result
           c.in-Err.ensures.refused c.report_refused.ensures (sym c.number-in-Err.ensures ∙ is));
       unasked = search rules;
       usage = search rules;

@@ -1,7 +1,7 @@
 use Rattle.std.proofs.Common.{unsigned_abs, FitsSigned, w64}
 use Rattle.std.proofs.lemmas.Int.{fits_signed_from_abs, to_z-of_z}
 use Rattle.vl_io.proofs.Laws.{FirstTold-from_one}
-use Rattle.vl_top.specs.Answer.{asked_by}
+use Rattle.query_run.specs.Asked.{asked_by}
 use Rattle.vl_top.proofs.PipeLemmas.{reported}
 use Rattle.vl_top.proofs.pipe.run_pipe.Goals as goal
 

@@ -1,6 +1,6 @@
 use Rattle.log_model.specs.Core.{parts_of}
-use Rattle.vl_top.proofs.AnswerLemmas.{order-more}
-use Rattle.vl_top.proofs.answer.order_law.Goals as goal
+use Rattle.query_run.proofs.AnswerLemmas.{order-more}
+use Rattle.query_run.proofs.evaluation.order_law.Goals as goal
 
 pub loop-i-preserved : goal.loop-i-preserved
 loop-i-preserved c =

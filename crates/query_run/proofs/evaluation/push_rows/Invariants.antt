@@ -1,7 +1,7 @@
 use Rattle.std.proofs.Common.{◌≡◌, ◌<◌, ◌++◌, length, map, take}
 use Rattle.lq_ast.specs.Evaluation.{row_limit, rows_that_hold}
 use Rattle.lq_filter.specs.Tree.{moment_of, scanned}
-use Rattle.vl_top.proofs.answer.push_rows.Given as goal
+use Rattle.query_run.proofs.evaluation.push_rows.Given as goal
 
 abbrev pub invariant-loop-row : goal.invariant-loop-row
 invariant-loop-row l = record {

@@ -2,7 +2,7 @@
 ghost use Rattle.std.specs.Prelude.{◌≡◌, ◌<◌, ◌++◌, OnOk, IfErr, IfOk, Ok, flat_map, length, map};
 ghost use Rattle.std.specs.List.{All, AllByRecursion};
 ghost use Rattle.log_model.specs.Core.{parts_of};
-ghost use Rattle.log_model.specs.History.{AreInOrder};
+ghost use Rattle.log_model.specs.History.{AreInOrder, rows_in};
 ghost use Rattle.log_model.specs.Print.{lines_text};
 ghost use Rattle.log_model.specs.Row.{record_of};
 ghost use Rattle.lq_ast.specs.Evaluation.{row_limit, rows_that_hold};
@@ -10,8 +10,8 @@ ghost use Rattle.lq_ast.specs.Patterns.{CanBeRead, patterns_of_stage};
 ghost use Rattle.lq_ast.specs.PipeView.{stage};
 ghost use Rattle.lq_ast.specs.Pipes.{all_piped};
 ghost use Rattle.lq_filter.specs.Tree.{condition_of, moment_of, scanned};
-ghost use Rattle.vl_top.specs.Answer.{FailsFor, FailsOver, FailsPiped, HasReadablePipes, IsAnswerOver, PrintsPiped};
-ghost use Rattle.vl_top.specs.Answer.{asked_by, held_in};
+ghost use Rattle.query_run.specs.Answer.{FailsFor, FailsOver, FailsPiped, IsAnswerOver, PrintsPiped, held_in};
+ghost use Rattle.query_run.specs.Asked.{HasReadablePipes, asked_by};
 
 use crate::search::Search;
 use log_core::Snapshot;
@@ -21,60 +21,60 @@ use lq_pipes::{PipeFault, Printer, apply_rows, lines};
 use std::alloc::{AllocError, AllocFailed, Global};
 use vl_row::{Recs, Row, RowList, Text};
 
-/// How many rows are too many for an answer.
+/// How many rows are too many for an answer, if they hold.
 const ROW_LIMIT: usize = 4_294_967_296;
 
 /// Why there is no answer.
 #[derive(Drop)]
-pub enum AnswerFault {
-    /// Too many rows hold.
+pub enum RunFault {
+    /// 2^32 rows hold, or more.
     ManyRows,
-    /// The total of the function with this name is no 64-bit integer.
+    /// The total of the function of `stats` with this name is no 64-bit integer.
     Overflow { name: Text },
     /// Memory ran out.
     Memory,
 }
 
-impl From<AllocError> for AnswerFault {
-    ghost use Rattle.vl_top.specs.declared.answer.AnswerFault.TheVariants.{Memory};
+impl From<AllocError> for RunFault {
+    ghost use Rattle.query_run.specs.declared.evaluation.RunFault.TheVariants.{Memory};
 
     ghost from_gives = { λ _ fault. fault ≡ Memory };
 
-    fn from(_: AllocError) -> AnswerFault {
-        AnswerFault::Memory
+    fn from(_: AllocError) -> RunFault {
+        RunFault::Memory
     }
 }
 
-impl<T: Drop> From<AllocFailed<T>> for AnswerFault {
-    ghost use Rattle.vl_top.specs.declared.answer.AnswerFault.TheVariants.{Memory};
+impl<T: Drop> From<AllocFailed<T>> for RunFault {
+    ghost use Rattle.query_run.specs.declared.evaluation.RunFault.TheVariants.{Memory};
 
     ghost from_gives = { λ _ fault. fault ≡ Memory };
 
-    fn from(_: AllocFailed<T>) -> AnswerFault {
-        AnswerFault::Memory
+    fn from(_: AllocFailed<T>) -> RunFault {
+        RunFault::Memory
     }
 }
 
-/// The lines of the records that the pipes make of those rows that hold at the moment `now`, over all parts in their
-/// order.
+/// The answer to the query at the moment `now`, in nanoseconds since 1970: the lines of the records that its pipes make
+/// of those rows that hold, over all parts of the look in their order.
 pub fn answer(
     alloc: Global,
     search: &Search,
     now: i64,
     snapshot: &Snapshot<RowList>,
-) -> Result<Text, AnswerFault>
+) -> Result<Text, RunFault>
     requires { HasReadablePipes search.now }
-    ensures answered { IfOk result (IsAnswerOver (asked_by search.now) now (parts_of snapshot.now)) }
-    ensures fault { IfErr result (FailsOver (asked_by search.now) now (parts_of snapshot.now)) }
-    ensures order { All AreInOrder (parts_of snapshot.now) }
+    ensures answered { IfOk result (IsAnswerOver (asked_by search.now) now
+        (flat_map rows_in (parts_of snapshot.now))) }
+    ensures fault { IfErr result (FailsOver (asked_by search.now) now (flat_map rows_in (parts_of snapshot.now))) }
 {
-    order_law(snapshot);
     let rows = held_rows(alloc, &search.filter, now, snapshot)?;
     piped_lines(alloc, search.pipes.as_slice(), rows)
 }
 
-/// That the rows of each part stand in their order. It does nothing: its contract is the law.
-fn order_law(snapshot: &Snapshot<RowList>)
+/// That the rows of each part stand in their order, so that the rows of a part are those of its batch, in order too. It
+/// does nothing that matters: its contract is the law.
+pub fn order_law(snapshot: &Snapshot<RowList>)
     ensures { All AreInOrder (parts_of snapshot.now) }
 {
     for i in 0..snapshot.len() {
@@ -88,7 +88,7 @@ fn held_rows<'s>(
     filter: &Prepared,
     now: i64,
     snapshot: &'s Snapshot<RowList>,
-) -> Result<Vec<&'s Row>, AnswerFault>
+) -> Result<Vec<&'s Row>, RunFault>
     ensures rows { IfOk result (λ rows. map (λ row. row.now) rows.items
         ≡ held_in (condition_of filter.now) now (parts_of snapshot.now)) }
     ensures few { IfOk result (λ rows. length rows.items < row_limit) }
@@ -107,7 +107,7 @@ fn push_rows<'s>(
     scan: &mut Scan<'_>,
     rows: &'s [Row],
     held: &mut Vec<&'s Row>,
-) -> Result<(), AnswerFault>
+) -> Result<(), RunFault>
     requires { length held.old.items < row_limit }
     ensures pushed { OnOk result (map (λ row. row.now) held.new.items ≡ map (λ row. row.now) held.old.items
         ++ rows_that_hold (scanned scan.old) (moment_of scan.old) rows.now) }
@@ -120,7 +120,7 @@ fn push_rows<'s>(
     for row in rows {
         if scan.holds(row)? {
             if held.len() + 1 == ROW_LIMIT {
-                return Err(AnswerFault::ManyRows);
+                return Err(RunFault::ManyRows);
             }
             held.push(row)?;
         }
@@ -129,7 +129,7 @@ fn push_rows<'s>(
 }
 
 /// The lines of what the pipes make of the records of these rows.
-fn piped_lines(alloc: Global, pipes: &[Pipe], rows: Vec<&Row>) -> Result<Text, AnswerFault>
+fn piped_lines(alloc: Global, pipes: &[Pipe], rows: Vec<&Row>) -> Result<Text, RunFault>
     requires few { length rows.items < row_limit }
     requires readable { AllByRecursion CanBeRead (flat_map patterns_of_stage (map stage pipes.now)) }
     ensures made { IfOk result (PrintsPiped (map stage pipes.now) (map (λ row. record_of row.now) rows.entry.items)) }
@@ -157,7 +157,7 @@ fn lines_of(alloc: Global, rows: &[&Row]) -> Result<Text, AllocError>
 }
 
 /// What the pipes make of the records of these rows.
-fn made_of(alloc: Global, pipes: &[Pipe], rows: Vec<&Row>) -> Result<Recs, AnswerFault>
+fn made_of(alloc: Global, pipes: &[Pipe], rows: Vec<&Row>) -> Result<Recs, RunFault>
     requires few { length rows.items < row_limit }
     requires readable { AllByRecursion CanBeRead (flat_map patterns_of_stage (map stage pipes.now)) }
     ensures made { IfOk result (λ made.
@@ -167,7 +167,7 @@ fn made_of(alloc: Global, pipes: &[Pipe], rows: Vec<&Row>) -> Result<Recs, Answe
     match apply_rows(alloc, pipes, rows) {
         Ok(made) => Ok(made),
         Err(PipeFault::RegexRefused { .. }) => unreachable!(),
-        Err(PipeFault::Overflow { name }) => Err(AnswerFault::Overflow { name }),
-        Err(PipeFault::Memory) => Err(AnswerFault::Memory),
+        Err(PipeFault::Overflow { name }) => Err(RunFault::Overflow { name }),
+        Err(PipeFault::Memory) => Err(RunFault::Memory),
     }
 }

@@ -2,8 +2,8 @@ use Rattle.std.proofs.Common.{◌≡◌, ◌<◌, length, map, take}
 use Rattle.log_model.specs.Core.{parts_of}
 use Rattle.lq_ast.specs.Evaluation.{row_limit}
 use Rattle.lq_filter.specs.Tree.{condition_of, moment_of, scanned}
-use Rattle.vl_top.specs.Answer.{held_in}
-use Rattle.vl_top.proofs.answer.held_rows.Given as goal
+use Rattle.query_run.specs.Answer.{held_in}
+use Rattle.query_run.proofs.evaluation.held_rows.Given as goal
 
 abbrev pub invariant-loop-i : goal.invariant-loop-i
 invariant-loop-i l = record {

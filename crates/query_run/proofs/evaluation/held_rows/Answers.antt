@@ -3,10 +3,9 @@ use Rattle.std.proofs.lemmas.Int.{to_z-of_z}
 use Rattle.log_model.specs.Core.{parts_of}
 use Rattle.log_model.specs.History.{rows_in}
 use Rattle.lq_filter.specs.Tree.{condition_of}
-use Rattle.vl_top.proofs.AnswerLemmas.{fails-part, held-parts}
-use Rattle.vl_top.proofs.LoadLemmas.{if_err}
-use Rattle.vl_top.specs.Answer.{FailsFor}
-use Rattle.vl_top.proofs.answer.held_rows.Goals as goal
+use Rattle.query_run.proofs.AnswerLemmas.{fails-part, held-parts, if_err}
+use Rattle.query_run.specs.Answer.{FailsFor}
+use Rattle.query_run.proofs.evaluation.held_rows.Goals as goal
 
 pub returns-in_err-push_rows-clause-fault : goal.returns-in_err-push_rows-clause-fault
 returns-in_err-push_rows-clause-fault c =

@@ -1,10 +1,10 @@
-use Rattle.std.proofs.Common.{rules, ◌≡◌, ◌<◌, ◌≤◌, ◌+◌, true, length, map, sym, ◌∙◌, arith, ap}
+use Rattle.std.proofs.Common.{rules, ◌≡◌, ◌<◌, ◌≤◌, ◌+◌, true, length, map, sym, ◌∙◌, arith}
 use Rattle.std.proofs.lemmas.List.{length-map}
 use Rattle.lq_ast.specs.Evaluation.{row_limit}
 use Rattle.lq_ast.specs.Holds.{holds}
 use Rattle.lq_filter.specs.Tree.{moment_of, scanned}
-use Rattle.vl_top.proofs.AnswerLemmas.{fails-more}
-use Rattle.vl_top.proofs.answer.push_rows.Goals as goal
+use Rattle.query_run.proofs.AnswerLemmas.{fails-more}
+use Rattle.query_run.proofs.evaluation.push_rows.Goals as goal
 
 pub returns-then-len-eq-ROW_LIMIT-clause-fault : goal.returns-then-len-eq-ROW_LIMIT-clause-fault
 returns-then-len-eq-ROW_LIMIT-clause-fault c =

@@ -11,9 +11,8 @@ use Rattle.lq_grammar.specs.Query.{IsQueryText}
 use Rattle.lq_grammar.specs.declared.fault.QueryFault.{QueryFault}
 use Rattle.lq_grammar.specs.declared.fault.QueryFault.TheVariants.{Lex, Syntax, TooDeep, BadNumber, BadTime, BadDuration}
 use Rattle.lq_grammar.specs.declared.fault.QueryFault.TheVariants.{Memory}
-use Rattle.vl_top.specs.Program.{IsNoReadableQuery}
-use Rattle.vl_top.specs.Refused.{refused_by, refused_pattern}
-use Rattle.vl_top.specs.declared.query.Refused.TheVariants.{NoMemory}
+use Rattle.query_run.specs.Asked.{IsNoReadableQuery, refused_by, refused_pattern}
+use Rattle.query_run.specs.declared.query.QueryRefusal.TheVariants as outcomes
 
 abbrev IsOk : {A E : Type 0} → Result A E → Type 0
 IsOk (Ok x) = Unit {0}
@@ -48,7 +47,7 @@ other_fault Q c fault other finds =
 
 -- A text that spells a query has no fault but want of memory.
 pub only_memory : (Q : Type 0) (c : Question) (fault : QueryFault) → FindsQuery Q c fault
-    → refused_by fault ≡ NoMemory
+    → refused_by fault ≡ outcomes.Memory
 only_memory Q c (Lex fault) finds = absurd (other_fault Q c (Lex fault) tt finds)
 only_memory Q c (Syntax at) finds = absurd (other_fault Q c (Syntax at) tt finds)
 only_memory Q c (TooDeep at) finds = absurd (other_fault Q c (TooDeep at) tt finds)
@@ -71,7 +70,7 @@ all_but_one (p ∷ ps) (suc n) all one = all_but_one ps n all.1 one
 
 -- Where all patterns can be read, none is refused.
 pub only_memory_of : (patterns : List Pattern) → AllByRecursion CanBeRead patterns → (fault : PrepareFault)
-    → IsRefusal 0 patterns fault → refused_pattern fault ≡ NoMemory
+    → IsRefusal 0 patterns fault → refused_pattern fault ≡ outcomes.Memory
 only_memory_of patterns all (refusals.RegexRefused nth) refusal = absurd (all_but_one patterns _ all refusal.1)
 only_memory_of patterns all refusals.Memory refusal = refl
 

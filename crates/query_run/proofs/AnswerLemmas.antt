@@ -1,6 +1,6 @@
 -- The rows that hold, over one part after another.
 use Rattle.std.proofs.Common.{◌≡◌, ℕ, ℤ, zero, suc, ◌+◌, ◌<◌, List, [], ◌∷◌, ◌++◌, map, flat_map, take, drop, length}
-use Rattle.std.specs.Prelude.{Option, Result, Ok, Err, IfOk, IfErr}
+use Rattle.std.specs.Prelude.{Result, Ok, Err, IfOk, IfErr, IsErrAnd}
 use Rattle.std.proofs.Common.{get_or, Some, true, ◌≤◌, arith, sym, ap, subst, ◌∙◌, add-one, below_more, refl}
 use Rattle.std.proofs.lemmas.Grind.{flat_map-append}
 use denote.Ref.{Bor}
@@ -8,7 +8,7 @@ use Rattle.std.proofs.lemmas.Bool.{le-ltb, lt-ltb}
 use Rattle.std.proofs.lemmas.List.{length-append, length-map, take-append-drop}
 use Rattle.std.proofs.lemmas.List.Elements.{filter-append}
 use Rattle.std.proofs.lemmas.Option.{none-some}
-use Rattle.std.specs.List.{AllByRecursion, slice_get}
+use Rattle.std.specs.List.{slice_get}
 use Rattle.log_model.specs.History.{AreInOrder, Numbered, rows_in}
 use Rattle.log_model.specs.Row.{Row, record_of}
 use Rattle.lq_ast.specs.Condition.{Condition}
@@ -16,13 +16,12 @@ use Rattle.lq_ast.specs.Evaluation.{evaluate, piped_outcome, row_limit, rows_tha
 use Rattle.lq_ast.specs.Holds.{holds}
 use Rattle.lq_ast.specs.Pipes.{all_piped}
 use Rattle.lq_ast.specs.PipeView.{stage}
-use Rattle.lq_ast.specs.Records.{Record}
-use Rattle.lq_ast.specs.Stage.{Stage}
 use Rattle.lq_filter.specs.Tree.{condition_of}
-use Rattle.vl_top.specs.Answer.{FailsFor, FailsOver, FailsPiped, IsAnswerOver, PrintsPiped, asked_by, held_in}
-use Rattle.vl_top.specs.declared.search.Search.{Search}
-use Rattle.vl_top.specs.declared.answer.AnswerFault.{AnswerFault}
-use Rattle.vl_top.specs.declared.answer.AnswerFault.TheVariants.{ManyRows, Overflow, Memory}
+use Rattle.query_run.specs.Answer.{FailsFor, FailsOver, FailsPiped, IsAnswerOver, PrintsPiped, held_in}
+use Rattle.query_run.specs.Asked.{asked_by}
+use Rattle.query_run.specs.declared.search.Search.{Search}
+use Rattle.query_run.specs.declared.evaluation.RunFault.{RunFault}
+use Rattle.query_run.specs.declared.evaluation.RunFault.TheVariants.{ManyRows, Overflow, Memory}
 
 take-part : {X : Type 0} (parts : List X) (i : ℕ) (part : X) → slice_get parts i ≡ Some part → take (suc i) parts
     ≡ take i parts ++ part ∷ []
@@ -65,7 +64,7 @@ held-part condition now parts i part is =
 -- too many rows of one part more are too many of all
 pub fails-part : (condition : Condition) (now : ℤ) (parts : List (List Numbered)) (i : ℕ) (part : List Numbered)
     (rows before : List Row) → slice_get parts i ≡ Some part → rows ≡ rows_in part
-    → before ≡ held_in condition now (take i parts) → (fault : AnswerFault)
+    → before ≡ held_in condition now (take i parts) → (fault : RunFault)
     → FailsFor (before ++ rows_that_hold condition now rows) fault → FailsFor (held_in condition now parts) fault
 fails-part condition now parts i part rows before is same held Memory h = tt
 fails-part condition now parts i part rows before is same held (Overflow name) h = absurd h
@@ -144,39 +143,46 @@ pub err_so : {T E : Type 0} (result : Result T E) (P Q : E → Type 0) → IfErr
 err_so (Ok x) P Q h f = tt
 err_so (Err e) P Q h f = f e h
 
+-- what holds of an error holds of what it became
+pub if_err : {T E : Type 0} (result : Result T E) (Q P : E → Type 0) → IsErrAnd result Q → ((e : E) → Q e → P e)
+    → IfErr result P
+if_err (Ok x) Q P is f = tt
+if_err (Err e) Q P is f = f e is
+
 map_twice : {X Y Z : Type 0} (g : Y → Z) (f : X → Y) (xs : List X) → map g (map f xs) ≡ map (λ x. g (f x)) xs
 map_twice g f [] = refl
 map_twice g f (x ∷ xs) = ap (λ ys. g (f x) ∷ ys) (map_twice g f xs)
 
-module _ (search : Search) (now : ℤ) (parts : List (List Numbered)) where
+module _ (search : Search) (now : ℤ) (seen : List Row) where
   -- there are too many rows, or memory was wanting
-  pub fails-gathering : (fault : AnswerFault) → FailsFor (held_in (condition_of search.filter) now parts) fault
-      → FailsOver (asked_by search) now parts fault
-  fails-gathering ManyRows h = rw (le-ltb (length (held_in (condition_of search.filter) now parts)) row_limit h) refl
+  pub fails-gathering : (fault : RunFault) → FailsFor (rows_that_hold (condition_of search.filter) now seen) fault
+      → FailsOver (asked_by search) now seen fault
+  fails-gathering ManyRows h =
+      rw (le-ltb (length (rows_that_hold (condition_of search.filter) now seen)) row_limit h) refl
   fails-gathering (Overflow name) h = absurd h
   fails-gathering Memory h = tt
 
   module _ (rows : List (Bor Row))
-      (held : map (λ row. row.now) rows ≡ held_in (condition_of search.filter) now parts)
+      (held : map (λ row. row.now) rows ≡ rows_that_hold (condition_of search.filter) now seen)
       (few : length rows < row_limit) where
-    all_piped_of : evaluate (asked_by search) now (flat_map rows_in parts)
+    all_piped_of : evaluate (asked_by search) now seen
         ≡ piped_outcome (all_piped (map stage search.pipes) (map (λ row. record_of row.now) rows))
     all_piped_of =
-        let held_few : length (held_in (condition_of search.filter) now parts) < row_limit =
+        let held_few : length (rows_that_hold (condition_of search.filter) now seen) < row_limit =
         omega (arith, few, ap length held, length-map rows (λ row. row.now)) in
-        rw (lt-ltb (length (held_in (condition_of search.filter) now parts)) row_limit held_few)
+        rw (lt-ltb (length (rows_that_hold (condition_of search.filter) now seen)) row_limit held_few)
         (ap (λ rs. piped_outcome (all_piped (map stage search.pipes) (map record_of rs))) (sym held)
         ∙ ap (λ rs. piped_outcome (all_piped (map stage search.pipes) rs)) (map_twice record_of (λ row. row.now) rows))
 
     pub answers : (text : List ℕ)
         → PrintsPiped (map stage search.pipes) (map (λ row. record_of row.now) rows) text
-        → IsAnswerOver (asked_by search) now parts text
+        → IsAnswerOver (asked_by search) now seen text
     answers text (found, made, printed) =
         record { found = found; evaluated = all_piped_of ∙ ap piped_outcome made; printed = printed }
 
-    pub fails : (fault : AnswerFault)
+    pub fails : (fault : RunFault)
         → FailsPiped (map stage search.pipes) (map (λ row. record_of row.now) rows) fault
-        → FailsOver (asked_by search) now parts fault
+        → FailsOver (asked_by search) now seen fault
     fails ManyRows h = absurd h
     fails (Overflow name) h = all_piped_of ∙ ap piped_outcome h
     fails Memory h = tt

@@ -1,0 +1,71 @@
+-- Which texts are asked, which are refused and why, and what a search asks.
+use Rattle.std.specs.Prelude.{◌⊎◌, ℕ, List, Err, IsSomeAnd, flat_map, map, slice_get}
+use Rattle.std.specs.List.{AllByRecursion}
+use Rattle.lq_ast.specs.Patterns.{CanBeRead, all_patterns, patterns_of_stage}
+use Rattle.lq_ast.specs.PipeView.{stage}
+use Rattle.lq_ast.specs.Question.{Question}
+use Rattle.lq_filter.specs.Tree.{condition_of}
+use Rattle.lq_filter.specs.declared.fault.PrepareFault.{PrepareFault}
+use Rattle.lq_filter.specs.declared.fault.PrepareFault.TheVariants as preparing
+use Rattle.lq_grammar.specs.Query.{IsQueryText, QueryOf}
+use Rattle.lq_grammar.specs.declared.fault.QueryFault.{QueryFault}
+use Rattle.lq_grammar.specs.declared.fault.QueryFault.TheVariants as faults
+use Rattle.query_run.specs.declared.query.QueryRefusal.{QueryRefusal}
+use Rattle.query_run.specs.declared.query.QueryRefusal.TheVariants.{Unspelled, Pattern, Memory}
+use Rattle.query_run.specs.declared.search.Search.{Search}
+
+-- ---- texts
+
+-- the text spells a query whose patterns can all be read
+abbrev pub IsReadableQuery : List ℕ → Type 0
+IsReadableQuery text = (query : Question) × IsQueryText text query × AllByRecursion CanBeRead (all_patterns query)
+
+-- the text spells no query, or one whose patterns cannot all be read
+abbrev pub IsNoReadableQuery : List ℕ → Type 0
+IsNoReadableQuery text =
+    ((query : Question) → IsQueryText text query → ⊥)
+    ⊎ ((query : Question) × IsQueryText text query × (AllByRecursion CanBeRead (all_patterns query) → ⊥))
+
+-- the text spells no query, and this is its one first fault
+abbrev pub IsUnspelled : List ℕ → QueryFault → Type 0
+IsUnspelled text fault = QueryOf text (Err fault)
+
+-- The text spells a query whose regular expression with this number, counted from 0 in the order of the text, cannot
+-- be read.
+abbrev pub HasUnreadablePattern : List ℕ → ℕ → Type 0
+HasUnreadablePattern text nth =
+    (query : Question) × IsQueryText text query
+    × IsSomeAnd (slice_get (all_patterns query) nth) (λ pattern. CanBeRead pattern → ⊥)
+
+-- why the text is refused; want of memory is free
+abbrev pub Refuses : List ℕ → QueryRefusal → Type 0
+Refuses text (Unspelled fault) = IsUnspelled text fault
+Refuses text (Pattern nth) = HasUnreadablePattern text nth
+Refuses text Memory = Unit {0}
+
+-- ---- refusals
+
+-- the refusal that a fault of reading is
+abbrev pub refused_by : QueryFault → QueryRefusal
+refused_by (faults.Lex fault) = Unspelled (faults.Lex fault)
+refused_by (faults.Syntax at) = Unspelled (faults.Syntax at)
+refused_by (faults.TooDeep at) = Unspelled (faults.TooDeep at)
+refused_by (faults.BadNumber at) = Unspelled (faults.BadNumber at)
+refused_by (faults.BadTime at) = Unspelled (faults.BadTime at)
+refused_by (faults.BadDuration at) = Unspelled (faults.BadDuration at)
+refused_by faults.Memory = Memory
+
+-- the refusal that a fault of preparing is
+abbrev pub refused_pattern : PrepareFault → QueryRefusal
+refused_pattern (preparing.RegexRefused nth) = Pattern nth
+refused_pattern preparing.Memory = Memory
+
+-- ---- searches
+
+-- what a search asks
+abbrev pub asked_by : Search → Question
+asked_by search = record { condition = condition_of search.filter; stages = map stage search.pipes }
+
+-- the regular expressions of its pipes can all be read
+abbrev pub HasReadablePipes : Search → Type 0
+HasReadablePipes search = AllByRecursion CanBeRead (flat_map patterns_of_stage (map stage search.pipes))

@@ -1,0 +1,10 @@
+//! Queries read and prepared, and their answers over a look at the shelf.
+#![tactic(auto)]
+
+mod evaluation;
+mod query;
+mod search;
+
+pub use evaluation::{RunFault, answer, order_law};
+pub use query::{QueryRefusal, read_query};
+pub use search::Search;
