@@ -3,8 +3,8 @@ ghost use Rattle.std.specs.Prelude.{◌∷◌, map};
 ghost use Rattle.std.specs.Arc.{arc_value};
 ghost use Rattle.log_model.specs.Core.{Goes, Stands, StandsAfterAll, after, commit, count_of, held_limit, look};
 ghost use Rattle.log_model.specs.Core.{nothing, with_part};
-ghost use Rattle.log_model.specs.History.{AreBatch, AreRowsOf, Entry, History, entry_rows};
-ghost use Rattle.log_core.specs.Shared.{parts_in};
+ghost use Rattle.log_model.specs.History.{AreBatch, AreRowsOf, Entry, History, entry_rows, with_batch};
+ghost use Rattle.log_core.specs.Shared.{contents_of, parts_in};
 ghost use Rattle.log_core.specs.Faults.{IsPartRefused, commit_fault};
 
 use crate::fault::CommitFault;
@@ -22,22 +22,23 @@ const LAST_BATCH: u64 = i64::MAX as u64;
 
 /// The state that all callers share: the accepted batches, each held as a part.
 ///
-/// It stands for the history of these batches. [`stands_after_all`] says so of every list of commits and looks.
+/// It always stands for a history of these batches. [`stands_after_all`] says so of every list of commits and looks.
 #[derive(Drop)]
-pub struct Shelf<P> {
+pub struct Shelf<P: Held> {
     parts: Arc<Vec<Arc<P>>>,
 }
 
-impl<P> Model for Shelf<P> {
-    ghost use Rattle.std.specs.Prelude.{◌≤◌, length};
-    ghost use Rattle.log_model.specs.Core.{Contents, held_limit};
+impl<P: Held> Model for Shelf<P> {
+    ghost use Rattle.log_model.specs.Core.{Contents, Stands};
+    ghost use Rattle.log_model.specs.History.{History};
     ghost use Rattle.log_core.specs.Shared.{contents_of, parts_in};
 
     ghost Value = { Contents P };
 
     ghost view = { λ s. contents_of (parts_in s.parts) };
 
-    ghost invariant = { λ s. length (parts_in s.parts) ≤ held_limit };
+    // There is a history for which it stands.
+    ghost invariant = { λ s. (history : History) × Stands P.numbered (contents_of (parts_in s.parts)) history };
 }
 
 impl<P: Held> Shelf<P> {
@@ -63,6 +64,14 @@ impl<P: Held> Shelf<P> {
             → AreRowsOf (P.numbered part) (entry_rows entry)
             → Stands P.numbered self.old history → Stands P.numbered self.new (after history (commit entry))) }
 
+        // The part is held behind the others, under its number.
+        ensures held { OnOk result ((kept : P) × (self.new ≡ with_part self.old kept)
+            × (P.numbered kept ≡ with_batch (count_of self.old + 1) (P.numbered part))) }
+
+        // What was held before stood for some history, of which nothing was settled.
+        ensures stood { (history : History) × Stands P.numbered self.old history }
+        ensures unsettled { self.old ≡ contents_of self.old.unsettled }
+
         // A batch is refused exactly where something stands against it, or for memory.
         ensures accepted { OnOk result (commit_fault self.old ≡ None) }
         ensures refused { IfErr result (IsPartRefused (commit_fault self.old) part) }
@@ -87,17 +96,32 @@ impl<P: Held> Shelf<P> {
     }
 
     /// How many batches there are.
-    fn count(&self) -> u64
+    pub fn count(&self) -> u64
         ensures value { result ≡ count_of self.now }
         ensures small { result < 2 ^ 63 }
+        // It stands for some history, of which nothing is settled.
+        ensures stands { (history : History) × Stands P.numbered self.now history }
+        ensures unsettled { self.now ≡ contents_of self.now.unsettled }
     {
         self.parts.len() as u64
+    }
+
+    /// How many of them, from the first on, are held as day parts.
+    pub fn settled(&self) -> u64
+        ensures value { result ≡ self.now.settled }
+        ensures none { result ≡ 0 }
+    {
+        // What a shelf holds is known where one of its fields is named.
+        let _ = &self.parts;
+        0
     }
 
     /// What stands against one more batch.
     fn fault(&self) -> Option<CommitFault>
         ensures value { result ≡ commit_fault self.now }
         ensures room { IfNone result (length self.now.unsettled < held_limit) }
+        ensures stands { (history : History) × Stands P.numbered self.now history }
+        ensures unsettled { self.now ≡ contents_of self.now.unsettled }
     {
         if self.parts.len() == HELD_LIMIT {
             return Some(CommitFault::Full {
@@ -118,21 +142,15 @@ impl<P: Held> Shelf<P> {
         ensures number { IfOk result (λ number. number ≡ count_of self.old + 1) }
         ensures goes { OnOk result ((entry : Entry) → AreRowsOf (P.numbered part) (entry_rows entry)
             → Goes P.numbered self.old (commit entry) self.new) }
+        ensures held { OnOk result ((kept : P) × (self.new ≡ with_part self.old kept)
+            × (P.numbered kept ≡ with_batch (count_of self.old + 1) (P.numbered part))) }
         ensures err { OnErr result (self.new ≡ self.old) }
     {
         let number = self.count() + 1;
         part.set_batch(number);
         let part = Arc::new(alloc, part)?;
-        self.append(alloc, part)?;
+        push_part(alloc, &mut self.parts, part)?;
         Ok(number)
-    }
-
-    fn append(&mut self, alloc: Global, part: Arc<P>) -> Result<(), AllocError>
-        requires { length self.old.unsettled < held_limit }
-        ensures ok { OnOk result (self.new ≡ with_part self.old (arc_value part)) }
-        ensures err { OnErr result (self.new ≡ self.old) }
-    {
-        push_part(alloc, &mut self.parts, part)
     }
 }
 

@@ -3,3 +3,7 @@ pub mod TurnLemmas
 pub mod RequestLemmas
 pub mod Going
 pub mod StatusLemmas
+mod InsertLemmas
+mod CommitLemmas
+mod AnswerLemmas
+mod QueryLemmas

@@ -1,6 +1,6 @@
 -- What becomes of a body that is to be taken in (VictoriaLogs, "Data ingestion").
 use Rattle.std.specs.Prelude.{◌≡◌, ℕ, ◌+◌, ◌-◌, ◌^◌, ◌<◌, ◌≤◌, pos, List, [], ◌∷◌, ◌++◌, length, map, take, codes}
-use Rattle.std.specs.Prelude.{decimal}
+use Rattle.std.specs.Prelude.{decimal, flat_map, min}
 use Rattle.log_model.specs.Core.{held_limit}
 use Rattle.log_model.specs.Field.{Field}
 use Rattle.log_model.specs.Print.{line_text}
@@ -20,7 +20,7 @@ pub data InsertOutcome : Type 0 where
   no_row : List Outcome → InsertOutcome
   -- the rows are one batch
   taken : List Outcome → InsertOutcome
-  -- they weigh so much, which is too much for a batch
+  -- they weigh so much, or 2^64 - 1 where that is more, which is too much for a batch
   large : ℕ → InsertOutcome
   -- as many batches wait to be settled as may
   full : InsertOutcome
@@ -33,6 +33,11 @@ pub record CanBeBatch (options : Options) (now : ℕ) (body : List ℕ) (outcome
   pub some : 0 < length (rows_read outcomes)
   pub light : batch_weight (rows_read outcomes) ≤ batch_limit
 
+-- One more batch may be added to what has been seen: another may wait to be settled, and there is a number for it.
+pub record HasRoom (seen : Seen) : Type 0 where
+  pub few : length seen.history < seen.settled + held_limit
+  pub numbered : length seen.history < 2 ^ 63 - 1
+
 -- a body that came in at that moment, and what had been seen once it was served
 abbrev pub HasInsertOutcome : Options → ℕ → List ℕ → Seen → InsertOutcome → Type 0
 HasInsertOutcome options now body seen (no_row outcomes) =
@@ -40,7 +45,8 @@ HasInsertOutcome options now body seen (no_row outcomes) =
 HasInsertOutcome options now body seen (taken outcomes) = CanBeBatch options now body outcomes
 HasInsertOutcome options now body seen (large weight) =
     (outcomes : List Outcome) × IsIntake options (pos now) body outcomes
-    × (weight ≡ batch_weight (rows_read outcomes)) × (batch_limit < weight)
+    × (weight ≡ min (batch_weight (rows_read outcomes)) (2 ^ 64 - 1))
+    × (batch_limit < batch_weight (rows_read outcomes))
 HasInsertOutcome options now body seen full =
     (outcomes : List Outcome) × CanBeBatch options now body outcomes
     × (length seen.history ≡ seen.settled + held_limit)
@@ -73,8 +79,7 @@ named_line fault = decimal fault.line ++ (codes " " ++ kind_text fault.kind)
 -- with a comma and a blank between each two
 abbrev pub joined : List (List ℕ) → List ℕ
 joined [] = []
-joined (text ∷ []) = text
-joined (text ∷ next ∷ texts) = text ++ (codes ", " ++ joined (next ∷ texts))
+joined (text ∷ texts) = text ++ flat_map (λ next. codes ", " ++ next) texts
 
 abbrev pub fault_fields : List LineFault → List Field
 fault_fields [] = []
@@ -88,11 +93,19 @@ insert_fields outcomes batch =
     (codes "accepted", decimal (length (rows_read outcomes)))
     ∷ (batch ++ (fault_fields refused ++ (codes "refused", decimal (length refused)) ∷ []))
 
+-- what is said where nothing was taken in
+abbrev pub refusal_text : InsertOutcome → List ℕ
+refusal_text (no_row outcomes) = []
+refusal_text (taken outcomes) = []
+refusal_text (large weight) = codes "Large " ++ (decimal weight ++ codes "\n")
+refusal_text full = codes "Full 4096\n"
+refusal_text spent = codes "Spent\n"
+
 -- The batch is the last of what was seen, so its number is the length of that.
 abbrev pub insert_content : Seen → InsertOutcome → List ℕ
 insert_content seen (no_row outcomes) = line_text (insert_fields outcomes [])
 insert_content seen (taken outcomes) =
     line_text (insert_fields outcomes ((codes "batch", decimal (length seen.history)) ∷ []))
-insert_content seen (large weight) = codes "Large " ++ (decimal weight ++ codes "\n")
-insert_content seen full = codes "Full 4096\n"
-insert_content seen spent = codes "Spent\n"
+insert_content seen (large weight) = refusal_text (large weight)
+insert_content seen full = refusal_text full
+insert_content seen spent = refusal_text spent

@@ -5,3 +5,7 @@ pub mod Reply
 pub mod Turns
 pub mod Session
 pub mod Sent
+pub mod Insertion
+pub mod Answer
+pub mod Incoming
+pub mod Answering

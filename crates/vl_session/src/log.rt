@@ -1,5 +1,5 @@
 //! What a session asks of the log.
-ghost use Rattle.std.specs.Prelude.{◌≡◌, ◌<◌, ◌^◌, Bool, length};
+ghost use Rattle.std.specs.Prelude.{◌≡◌, ◌<◌, ◌^◌, ℕ, Bool, length};
 ghost use Rattle.log_model.specs.History.{Entry};
 ghost use Rattle.http_in.specs.Reading.{asked_by};
 ghost use Rattle.vl_session.specs.Reply.{IsServed};
@@ -28,13 +28,17 @@ pub trait Log {
     // Which entries are the caller's own.
     ghost mine: { Self → Entry → Bool };
 
+    // The name of what the caller was lent, if it was lent anything.
+    ghost name: { Self → ℕ };
+
     /// Serves a request that was whole at the moment `now`, in nanoseconds since the start of 1970, and gives the
     /// reply, behind which the connection ends or goes on.
     fn serve(&mut self, request: &Request, now: u64, closes: bool) -> Reply
         requires { now < 2 ^ 63 }
         ensures served { (effect : Effect) × IsServed (mine self.old) (asked_by request.now) closes now (seen self.old)
             (seen self.new) effect (bytes_of result) }
-        ensures own { mine self.new ≡ mine self.old };
+        ensures own { mine self.new ≡ mine self.old }
+        ensures lent { name self.new ≡ name self.old };
 
     /// How many batches the caller has seen.
     fn front(&self) -> u64

@@ -1,12 +1,13 @@
 //! What a session reports.
 
 use http_in::RequestFault;
+use vl_row::Items;
 
 /// What a session did.
 #[derive(Drop)]
 pub struct Report {
     /// The requests that were served, in order.
-    pub turns: Vec<Done>,
+    pub turns: Items<Done>,
     pub end: End,
 }
 

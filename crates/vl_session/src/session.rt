@@ -4,12 +4,13 @@ ghost use Rattle.vl_io.specs.Change.{change_of};
 ghost use Rattle.vl_session.specs.Session.{IsSession};
 
 use crate::log::Log;
-use crate::report::{End, Report};
+use crate::report::{Done, End, Report};
 use crate::request::next_request;
 use crate::turn::{TURN_LIMIT, take_turn};
 use http_in::Reader;
 use std::alloc::{AllocError, Global};
 use vl_io::{Clock, Sink, Source};
+use vl_row::Items;
 
 /// Serves the requests of a connection, until one asks to close, the input ends, something fails, or 1,000 were served.
 /// Room for a turn is taken before its request is read.
@@ -22,29 +23,57 @@ pub fn serve_requests<L: Log, S: Source, K: Sink, C: Clock>(
 ) -> Report
     ensures session { IsSession (L.mine log.old) (L.seen log.old) (L.seen log.new)
         (change_of S.left S.faults src.old src.new) (change_of K.written K.faults sink.old sink.new)
+        (C.moments clock.old) (C.moments clock.new) result.turns result.end }
+    ensures own { L.mine log.new ≡ L.mine log.old }
+    ensures lent { L.name log.new ≡ L.name log.old }
+{
+    let Served { turns, end } = serve_turns(alloc, log, src, sink, clock);
+    Report {
+        turns: Items::of(turns),
+        end,
+    }
+}
+
+/// The turns that were served, and why no more.
+#[derive(Drop)]
+struct Served {
+    turns: Vec<Done>,
+    end: End,
+}
+
+fn serve_turns<L: Log, S: Source, K: Sink, C: Clock>(
+    alloc: Global,
+    log: &mut L,
+    src: &mut S,
+    sink: &mut K,
+    clock: &mut C,
+) -> Served
+    ensures session { IsSession (L.mine log.old) (L.seen log.old) (L.seen log.new)
+        (change_of S.left S.faults src.old src.new) (change_of K.written K.faults sink.old sink.new)
         (C.moments clock.old) (C.moments clock.new) result.turns.items result.end }
     ensures own { L.mine log.new ≡ L.mine log.old }
+    ensures lent { L.name log.new ≡ L.name log.old }
 {
     let mut reader = Reader::new(alloc);
     let mut turns = Vec::new(alloc);
     'turns: while turns.len() < TURN_LIMIT {
         match turns.reserve(1) {
             Ok(()) => {}
-            Err(AllocError) => return Report {
+            Err(AllocError) => return Served {
                 turns,
                 end: End::Memory,
             },
         }
         let request = match next_request(&mut reader, src, sink) {
             Ok(request) => request,
-            Err(end) => return Report { turns, end },
+            Err(end) => return Served { turns, end },
         };
         match take_turn(log, &request, &mut turns, sink, clock) {
             Ok(()) => {}
-            Err(end) => return Report { turns, end },
+            Err(end) => return Served { turns, end },
         }
     }
-    Report {
+    Served {
         turns,
         end: End::Limit,
     }

@@ -30,6 +30,7 @@ pub(crate) fn take_turn<L: Log, K: Sink, C: Clock>(
         × Tells (C.moments clock.old) (C.moments clock.new) (pos turn.now)
         × GoesOn turn (change_of K.written K.faults sink.old sink.new) result }
     ensures own { L.mine log.new ≡ L.mine log.old }
+    ensures lent { L.name log.new ≡ L.name log.old }
     ensures faults { K.faults sink.old ≤ K.faults sink.new }
 {
     let now = moment(clock);
@@ -49,6 +50,7 @@ fn serve<L: Log>(log: &mut L, request: &Request, turns: &mut Vec<Done>, now: u64
     ensures served { (turn : Turn) × Serves (L.mine log.old) (asked_by request.now) (L.seen log.old) (L.seen log.new)
         turns.old.items turns.new.items turn × (turn.now ≡ now) × (turn.reply ≡ bytes_of result) }
     ensures own { L.mine log.new ≡ L.mine log.old }
+    ensures lent { L.name log.new ≡ L.name log.old }
 {
     let closes = closes_after(turns.len(), request.last);
     let reply = log.serve(request, now, closes);

@@ -5,7 +5,7 @@ use std::alloc::{AllocError, Global};
 use vl_session::End;
 
 /// The longest connection that is also cut and of which each read fails.
-const SHORT: usize = 400;
+const SHORT: usize = 200;
 
 /// More writes than any case has.
 const WRITES: u64 = 8;
@@ -56,28 +56,36 @@ fn push_cut(
     Ok(())
 }
 
-/// Lets each read fail in turn. The session ends there, and what was written is the front of what is written else.
+/// Lets each read fail in turn. The session ends there, as it would where the input ended there, but for how it ends.
 fn push_reads(
     alloc: Global,
     bytes: &[u8],
     whole: &Told,
     answer: &mut String,
 ) -> Result<(), AllocError> {
-    for call in 0..bytes.len() as u64 {
+    for call in 0..=bytes.len() {
         let failing = Setting {
             by_bytes: true,
-            failing_read: Some(call),
+            failing_read: Some(call as u64),
             ..Setting::default()
         };
         let told = tell(alloc, bytes, failing)?;
-        let same = told.text.as_str() == whole.text.as_str();
-        let front = whole.written.as_slice().starts_with(&told.written);
-        if !same && (told.end != End::SourceFault || !front) {
+        if !is_stopped(alloc, &bytes[..call], whole, &told)? {
             answer.push_str("; a read fails: ")?;
             answer.push_str(told.text.as_str())?;
         }
     }
     Ok(())
+}
+
+/// Whether a session is the one whose source failed behind these bytes, or ended before that.
+fn is_stopped(alloc: Global, read: &[u8], whole: &Told, told: &Told) -> Result<bool, AllocError> {
+    if told.text.as_str() == whole.text.as_str() && told.end != End::SourceFault {
+        return Ok(true);
+    }
+    let before = tell(alloc, read, Setting::default())?;
+    let same = told.written.as_slice() == before.written.as_slice();
+    Ok(same && told.end == End::SourceFault)
 }
 
 /// Lets each write fail in turn.

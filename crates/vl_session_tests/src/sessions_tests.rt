@@ -1,12 +1,13 @@
-//! One session over a log that never has a batch.
+//! One session over a shelf that is empty before.
 ghost use Rattle.std.specs.Prelude.{◌<◌, All, IfOk};
 
-use crate::log_tests::QuietLog;
 use crate::spelling_tests::push_spelled;
+use log_core::Shelf;
 use std::alloc::{AllocError, Global};
 use std::fmt::Write;
 use vl_io::{MemClock, MemSink, MemSource};
-use vl_session::{End, Report, serve_requests};
+use vl_row::RowList;
+use vl_session::{End, Report, serve_session};
 
 /// How the outside behaves.
 #[derive(Clone, Copy, Default)]
@@ -31,8 +32,8 @@ pub fn tell(alloc: Global, bytes: &[u8], setting: Setting) -> Result<Told, Alloc
     let mut source = MemSource::of(alloc, bytes, &pieces, &reads)?;
     let mut sink = MemSink::of(alloc, &writes)?;
     let mut clock = MemClock::of(alloc, &[5, 6, 7])?;
-    let mut log = QuietLog { alloc };
-    let report = serve_requests(alloc, &mut log, &mut source, &mut sink, &mut clock);
+    let mut shelf: Shelf<RowList> = Shelf::fresh(alloc)?;
+    let report = serve_session(alloc, &mut shelf, &mut source, &mut sink, &mut clock);
     let written = Vec::from_slice(alloc, sink.bytes())?;
     let text = shown(alloc, &written, &report)?;
     Ok(Told {
@@ -45,10 +46,11 @@ pub fn tell(alloc: Global, bytes: &[u8], setting: Setting) -> Result<Told, Alloc
 fn shown(alloc: Global, written: &[u8], report: &Report) -> Result<String, AllocError> {
     let mut text = String::new(alloc);
     push_spelled(written, &mut text)?;
-    for done in report.turns.iter().take(4) {
-        write!(text, " at {}", done.now)?;
+    let turns = report.turns.as_slice();
+    for done in turns.iter().take(4) {
+        write!(text, " at {} with {}", done.now, done.front)?;
     }
-    write!(text, ", {} turns, {:?}", report.turns.len(), report.end)?;
+    write!(text, ", {} turns, {:?}", turns.len(), report.end)?;
     Ok(text)
 }
 

@@ -3,7 +3,7 @@ use std::alloc::{AllocError, Global};
 use std::fmt::Write;
 
 /// The most bytes that are written out; of more the number is written.
-const LONGEST: usize = 400;
+const LONGEST: usize = 4_000;
 
 pub fn push_spelled(bytes: &[u8], out: &mut String) -> Result<(), AllocError> {
     if bytes.len() > LONGEST {

@@ -1,22 +1,38 @@
-use Rattle.std.proofs.Common.{◌≡◌, suc, ◌+◌, ap, sym, subst, ◌∙◌, arith}
-use Rattle.std.specs.List.Sorted.{IsPermutation}
-use Rattle.log_model.specs.Core.{count_of, with_part}
-use Rattle.log_model.specs.History.{entry_rows, numbered_in, with_batch}
-use Rattle.log_model.proofs.Numbering.{batch_with_number}
+use Rattle.std.proofs.Common.{◌≡◌, ◌+◌, ◌<◌, ◌∷◌, [], ◌++◌, length, ap, sym, subst, ◌∙◌}
+use Rattle.log_model.specs.Core.{count_of, held_limit, with_part}
+use Rattle.log_model.specs.History.{with_batch}
+use Rattle.log_core.specs.Shared.{contents_of, parts_in}
+use Rattle.log_core.proofs.Standing.{goes_on, stands_for_one}
 use Rattle.log_core.proofs.shelf.Shelf.push.Goals as goal
 
 pub returns-clause-goes : goal.returns-clause-goes
-returns-clause-goes g c = λ entry are.
-    let rows = g.P.Held.numbered c.args.part in
-    let next : c.count-number.result + 1 ≡ suc (count_of c.args.self.now) = omega
-    (arith, c.count-number.ensures.value) in
-    let held : IsPermutation (with_batch (c.count-number.result + 1) rows)
-    (numbered_in (c.count-number.result + 1) (entry_rows entry)) =
-    batch_with_number (c.count-number.result + 1) rows (entry_rows entry) are in (
+returns-clause-goes g c =
+    let pushed = ap contents_of c.in_ok-push_part.ensures.ok
+    ∙ ap (λ part. contents_of (parts_in c.self.inside.parts ++ part ∷ [])) c.in_ok-part.ensures.ok in
+    goes_on g.P.Held.numbered c.args.part c.set_batch.new.self _ _ _ c.count-number.ensures.value
+    c.requires.room c.set_batch.ensures
+    (subst (λ held. contents_of (parts_in c.push_part.new.parts) ≡ with_part held c.set_batch.new.self) c.self.view_is
+    pushed)
+
+pub invariant_of-self-2 : goal.invariant_of-self-2
+invariant_of-self-2 g c =
+    let was = contents_of (parts_in c.self.inside.parts) in
+    let is : c.args.self.now ≡ was = sym c.self.view_is in
+    stands_for_one g.P.Held.numbered c.args.part was _ c.requires.batch
+    (goes_on g.P.Held.numbered c.args.part c.set_batch.new.self c.count-number.result was _
+    (subst (λ held. c.count-number.result ≡ count_of held) is c.count-number.ensures.value)
+    (subst (λ held. length held.unsettled < held_limit) is c.requires.room) c.set_batch.ensures
+    (ap contents_of c.in_ok-push_part.ensures.ok
+    ∙ ap (λ part. contents_of (parts_in c.self.inside.parts ++ part ∷ [])) c.in_ok-part.ensures.ok))
+    c.self.invariant
+
+pub returns-clause-held : goal.returns-clause-held
+returns-clause-held g c =
+    let pushed = ap contents_of c.in_ok-push_part.ensures.ok
+    ∙ ap (λ part. contents_of (parts_in c.self.inside.parts ++ part ∷ [])) c.in_ok-part.ensures.ok in (
       c.set_batch.new.self,
-      c.requires.room,
-      subst (λ n. IsPermutation (g.P.Held.numbered c.set_batch.new.self) (numbered_in n (entry_rows entry))) next
-          (subst (λ list. IsPermutation list (numbered_in (c.count-number.result + 1) (entry_rows entry)))
-          (sym c.set_batch.ensures) held),
-      c.in_ok-append.ensures.ok ∙ ap (with_part c.args.self.now) c.in_ok-part.ensures.ok,
+      subst (λ held. contents_of (parts_in c.push_part.new.parts) ≡ with_part held c.set_batch.new.self) c.self.view_is
+          pushed,
+      c.set_batch.ensures
+          ∙ ap (λ n. with_batch (n + 1) (g.P.Held.numbered c.args.part)) c.count-number.ensures.value,
     )

@@ -2,12 +2,13 @@ use Rattle.std.proofs.Common.{◌≡◌, ◌<◌, ◌≤◌, ◌∷◌, [], leng
 use Rattle.vl_session.proofs.Going.{ends_limit, ends_memory, ends_reading, ends_turn, going_first, going_more}
 use Rattle.vl_session.proofs.Going.{going_moved}
 use Rattle.vl_session.proofs.TurnLemmas.{serves_as}
-use Rattle.vl_session.proofs.session.serve_requests.Goals as goal
+use Rattle.vl_session.proofs.session.serve_turns.Goals as goal
 
 pub turns-init : goal.turns-init
 turns-init g c = record {
   going = going_first _ _ _ _ _ _ _ _ _ c.new-turns.ensures.items c.new-reader.ensures.holds;
   own = refl;
+  lent = refl;
   faultless = c.new-reader.ensures.fresh;
   few = omega (arith, c.new-turns.ensures.len);
   src_stays = omega arith;
@@ -54,6 +55,7 @@ turns-preserved g c =
           (going_moved _ _ _ _ _ _ _ _ _ _ _ _ _ _ _ c.in-Ok.ensures.items found.silent before.going) found.found
           (serves_as _ _ _ _ _ _ _ _ before.own t.1) t.2 t.3.0 t.3.1;
       own = c.in-Ok-take_turn.ensures.own ∙ before.own;
+      lent = c.in-Ok-take_turn.ensures.lent ∙ before.lent;
       faultless = found.found.faultless;
       few = omega (
         arith,

@@ -1,6 +1,6 @@
 use Rattle.std.proofs.Common.{◌≡◌, ◌-◌, ◌≤◌, None, vec_len}
 use Rattle.vl_session.proofs.Going.{Going, change}
-use Rattle.vl_session.proofs.session.serve_requests.Given as goal
+use Rattle.vl_session.proofs.session.serve_turns.Given as goal
 
 abbrev pub invariant-turns : goal.invariant-turns
 invariant-turns g l = record {
@@ -11,6 +11,7 @@ invariant-turns g l = record {
       (g.K.Sink.faults l.sink))
       (g.C.Clock.moments l.initial.clock) (g.C.Clock.moments l.clock) l.turns.items l.reader;
   own : g.L.Log.mine l.log ≡ g.L.Log.mine l.initial.log;
+  lent : g.L.Log.name l.log ≡ g.L.Log.name l.initial.log;
   faultless : l.reader.fault ≡ None;
   few : vec_len l.turns ≤ 1000;
   src_stays : g.S.Source.faults l.initial.src ≤ g.S.Source.faults l.src;

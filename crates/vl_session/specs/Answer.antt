@@ -1,0 +1,51 @@
+-- The answer to a query over the shared state, and why there is none.
+use Rattle.std.specs.Prelude.{◌≡◌, ◌≢◌, ℕ, List, length, Option, None, Some}
+use Rattle.log_model.specs.History.{History}
+use Rattle.log_model.specs.Print.{lines_text}
+use Rattle.lq_ast.specs.Evaluation as evaluation
+use Rattle.lq_ast.specs.Records.{Record}
+use Rattle.lq_grammar.specs.declared.fault.QueryFault.TheVariants as spelling
+use Rattle.query_run.specs.declared.evaluation.RunFault.{RunFault}
+use Rattle.query_run.specs.declared.evaluation.RunFault.TheVariants as running
+use Rattle.query_run.specs.declared.query.QueryRefusal.{QueryRefusal}
+use Rattle.query_run.specs.declared.query.QueryRefusal.TheVariants as refusals
+use Rattle.vl_session.specs.Query.{Evaluates, HasQueryOutcome, QueryOutcome, many_rows, overflows, unreadable, unspelled}
+use Rattle.vl_session.specs.declared.answer.Answer.{Answer}
+use Rattle.vl_session.specs.declared.answer.AnswerFault.{AnswerFault}
+use Rattle.vl_session.specs.declared.answer.AnswerFault.TheVariants.{Query, RegexRefused, ManyRows, Overflow, Memory}
+
+-- The answer is the lines of the records that the query of this text has over the history.
+pub record IsAnswer (text : List ℕ) (now : ℕ) (history : History) (answer : Answer) : Type 0 where
+  pub records : List Record
+  pub evaluated : Evaluates text now history (evaluation.records records)
+  pub lines : answer.lines ≡ lines_text records
+  pub front : answer.front ≡ length history
+
+-- Why there is none. Want of memory is free.
+abbrev pub FailsQuery : List ℕ → ℕ → History → AnswerFault → Type 0
+FailsQuery text now history (Query fault) =
+    (fault ≢ spelling.Memory) × HasQueryOutcome text now history (unspelled fault)
+FailsQuery text now history (RegexRefused nth) = HasQueryOutcome text now history (unreadable nth)
+FailsQuery text now history ManyRows = HasQueryOutcome text now history many_rows
+FailsQuery text now history (Overflow name) = HasQueryOutcome text now history (overflows name)
+FailsQuery text now history Memory = Unit {0}
+
+-- ---- what other faults are to the caller
+
+abbrev pub fault_of_refusal : QueryRefusal → AnswerFault
+fault_of_refusal (refusals.Unspelled fault) = Query fault
+fault_of_refusal (refusals.Pattern nth) = RegexRefused nth
+fault_of_refusal refusals.Memory = Memory
+
+abbrev pub fault_of_run : RunFault → AnswerFault
+fault_of_run running.ManyRows = ManyRows
+fault_of_run (running.Overflow name) = Overflow name
+fault_of_run running.Memory = Memory
+
+-- what a fault is to a session; want of memory is no outcome
+abbrev pub outcome_of : AnswerFault → Option QueryOutcome
+outcome_of (Query fault) = Some (unspelled fault)
+outcome_of (RegexRefused nth) = Some (unreadable nth)
+outcome_of ManyRows = Some many_rows
+outcome_of (Overflow name) = Some (overflows name)
+outcome_of Memory = None
