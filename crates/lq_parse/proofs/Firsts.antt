@@ -1,5 +1,5 @@
 -- Which tokens the fields of COUNT begin with.
-use Rattle.std.proofs.Common.{◌≡◌, ℕ, Ok, List, [], ◌∷◌, ◌∙◌, Bool, true, false}
+use Rattle.std.proofs.Common.{◌≡◌, ℕ, Ok, List, [], ◌∷◌, ◌∙◌, true, false}
 use Rattle.std.proofs.lemmas.Bool.{cond-true, cond-false}
 use Rattle.grammar.specs.Rule.{Token, empty, next}
 use Rattle.lq_grammar.specs.Clauses.{at}

@@ -1,4 +1,5 @@
 pub mod Firsts
 pub mod Joined
+pub mod Most
 pub mod Stops
 pub mod Turned

@@ -97,7 +97,7 @@ fn word_most(tokens: &[Item]) -> Result<(u64, &[Item]), Stop>
 }
 
 /// How many tuples TOP keeps, which are 10 where it does not say.
-#[tactic(auto, unfolding(lq_grammar::specs::LogsQL::most, lq_grammar::specs::LogsQL::by_most, lq_grammar::specs::LogsQL::word_most))]
+#[tactic(auto, using(crate::proofs::Most::most_by, crate::proofs::Most::most_word, crate::proofs::Most::most_none))]
 fn most(tokens: &[Item]) -> Result<(u64, &[Item]), Stop>
     ensures { (depth : ℕ) → Gives (λ x. (x.0, x.1.now)) result (at_of depth most tokens.now) }
 {
