@@ -9,32 +9,29 @@ use Rattle.std.proofs.lemmas.List.Sorted.{length_permutation}
 use Rattle.std.proofs.lemmas.Map.Keys.{le_from_not_gt}
 use Rattle.std.specs.Bool.{nat_le}
 use Rattle.std.specs.Cmp.{IsTotalOrder, back_total, nat_cmp_total, on_total}
-use Rattle.std.specs.Cmp.Lexicographic.{lists_total, slice_cmp}
 use Rattle.std.specs.List.{AllByRecursion, filter}
-use Rattle.std.specs.Ordering.{is_gt, nat_cmp, on, ordering_then}
+use Rattle.std.specs.Ordering.{is_gt, nat_cmp, on}
 use Rattle.std.specs.declared.cmp.Ordering.{Ordering}
-use Rattle.vl_row.specs.KeyOrder.{key_cmp_total}
-use Rattle.log_model.specs.Field.{set_all, set_field}
-use Rattle.log_model.specs.Order.{key_cmp, key_of, value_cmp}
-use Rattle.lq_ast.proofs.Sorted.{all_from_places, all_sorted, all_weaker, map_sorted, permutation_sorted}
+use Rattle.log_model.specs.Field.{set_field}
+use Rattle.lq_ast.proofs.Sorted.{all_sorted, all_weaker, map_sorted, permutation_sorted}
 use Rattle.lq_ast.proofs.Sorted.{sorted_alike}
 use Rattle.lq_ast.proofs.TupleOrder.{tuple_cmp_total}
 use Rattle.lq_ast.specs.Records.{Record}
 use Rattle.lq_ast.specs.Sorting.{at_most, counted_record, hits, tuple_record, tuples}
 use Rattle.lq_ast.specs.Sorting as sorting
 use Rattle.lq_ast.specs.Tuples.{Tuple, is_wholly_empty, sorted_by, tuple_cmp, tuple_of}
-use Rattle.lq_tuple.proofs.Lists.{map_twice}
+use Rattle.lq_tuple.proofs.Lists.{map_alike, map_twice}
 use Rattle.lq_tuple.proofs.Once.{once_kept_sorted}
 use Rattle.lq_tuple.proofs.Tuples.{tuple_tells}
 use Rattle.lq_order.proofs.Leading.{sorted_filtered, take_sorted}
+use Rattle.lq_order.proofs.Named.{named_put}
 use Rattle.lq_order.proofs.Picked.{map_at_most}
 use Rattle.lq_tuple.specs.Once.{HasEachOnce}
-use Rattle.lq_order.specs.Groups.{IsGroup, IsNthGreatest, group_hits, group_tuple, keyed_group, counted_group}
-use Rattle.lq_order.specs.Groups.{group_pair}
-use Rattle.lq_order.specs.Tally.{AreGroups, Tallies, filled_tuples, has_hits}
-use Rattle.lq_order.specs.declared.group.Group.{Group}
-use Rattle.lq_order.specs.declared.keyed.KeyedGroup.{KeyedGroup}
-use Rattle.lq_order.specs.declared.tally.Tally.{Tally}
+use Rattle.lq_order.specs.Groups.{IsGroup, IsNthGreatest, counted_group}
+use Rattle.lq_tuple.specs.Groups.{group_tuple, keyed_group}
+use Rattle.lq_tuple.specs.declared.group.Group.{Group}
+use Rattle.lq_tuple.specs.declared.keyed.KeyedGroup.{KeyedGroup}
+use Rattle.lq_order.specs.Tally.{AreGroups, filled_tuples, has_hits}
 
 -- ---- lists
 
@@ -49,52 +46,22 @@ filter_made f test (x ∷ xs) =
       | false ↦ more
     ]
 
-map_alike : {A B : Type 0} (f g : A → B) (xs : List A) → AllByRecursion (λ x. f x ≡ g x) xs → map f xs ≡ map g xs
-map_alike f g [] h = refl
-map_alike f g (x ∷ xs) h = ap (λ y. y ∷ map f xs) h.0 ∙ ap (λ l. g x ∷ l) (map_alike f g xs h.1)
-
 all_pass : {A : Type 0} (test : A → Bool) (xs : List A) → ((x : A) → test x ≡ true) → filter test xs ≡ xs
 all_pass test [] pass = refl
 all_pass test (x ∷ xs) pass =
     ap (λ t. cond t (x ∷ filter test xs) (filter test xs)) (pass x) ∙ ap (λ l. x ∷ l) (all_pass test xs pass)
 
--- ---- groups in tuple order
-
-keys_cmp : (xs ys : Tuple) → slice_cmp key_cmp (map key_of xs) (map key_of ys) ≡ tuple_cmp xs ys
-unfolding value_cmp
-keys_cmp [] [] = refl
-keys_cmp [] (y ∷ ys) = refl
-keys_cmp (x ∷ xs) [] = refl
-keys_cmp (x ∷ xs) (y ∷ ys) = ap (ordering_then (key_cmp (key_of x) (key_of y))) (keys_cmp xs ys)
-
--- by what their tuples are compared by
-abbrev pub by_keys : KeyedGroup → KeyedGroup → Ordering
-by_keys a b = slice_cmp key_cmp a.keys.items b.keys.items
-
-pub by_keys_total : IsTotalOrder by_keys
-by_keys_total = on_total (λ (k : KeyedGroup). k.keys.items) (lists_total key_cmp_total)
-
-by_keys_is : (a b : KeyedGroup) → by_keys a b ≡ on keyed_group (on group_tuple tuple_cmp) a b
-by_keys_is a b =
-    ap (λ l. slice_cmp key_cmp l b.keys.items) a.same
-    ∙ ap (slice_cmp key_cmp (map key_of (group_tuple a.group.now))) b.same
-    ∙ keys_cmp (group_tuple a.group.now) (group_tuple b.group.now)
-
-pub keyed_in_order : (keyed sorted : List KeyedGroup) (groups : List Group) → sorted ≡ sorted_by by_keys keyed
-    → map keyed_group keyed ≡ groups → map keyed_group sorted ≡ sorted_by (on group_tuple tuple_cmp) groups
-keyed_in_order keyed sorted groups is of =
-    ap (map keyed_group) (is ∙ (λ i. sorted_by (λ a b. by_keys_is a b i) keyed))
-    ∙ map_sorted keyed_group (on group_tuple tuple_cmp) keyed ∙ ap (sorted_by (on group_tuple tuple_cmp)) of
+-- ---- groups in order
 
 -- from the most records down
-abbrev most_first : Group → Group → Ordering
-most_first a b = nat_cmp b.hits a.hits
+abbrev most_first : Group ℕ → Group ℕ → Ordering
+most_first a b = nat_cmp b.kept a.kept
 
-abbrev pub keyed_most_first : KeyedGroup → KeyedGroup → Ordering
+abbrev pub keyed_most_first : KeyedGroup ℕ → KeyedGroup ℕ → Ordering
 keyed_most_first a b = most_first a.group.now b.group.now
 
 pub most_first_total : IsTotalOrder keyed_most_first
-most_first_total = back_total (on_total (λ (k : KeyedGroup). k.group.now.hits) nat_cmp_total)
+most_first_total = back_total (on_total (λ (k : KeyedGroup ℕ). k.group.now.kept) nat_cmp_total)
 
 -- ---- the records of groups
 
@@ -102,17 +69,17 @@ most_first_total = back_total (on_total (λ (k : KeyedGroup). k.group.now.hits) 
 abbrev record_of : List (List ℕ) → List Record → Bool → Tuple → Record
 record_of names records counted = cond counted (counted_record names records) (tuple_record names)
 
-made_is : (names : List (List ℕ)) (records : List Record) (counted : Bool) (group : Group)
+made_is : (names : List (List ℕ)) (records : List Record) (counted : Bool) (group : Group ℕ)
     → IsGroup names records group
     → counted_group names counted group ≡ record_of names records counted (group_tuple group)
 made_is names records true group h =
-    ap (λ fields. set_field (set_all [] fields) (codes "hits") (decimal group.hits)) h.0
+    ap (λ fields. set_field fields (codes "hits") (decimal group.kept)) (named_put names (group_tuple group) h.0)
     ∙ ap (λ n. set_field (tuple_record names (group_tuple group)) (codes "hits") (decimal n)) h.1
-made_is names records false group h = ap (set_all []) h.0
+made_is names records false group h = named_put names (group_tuple group) h.0
 
 -- the first of some groups
 made_at_most : (names : List (List ℕ)) (records : List Record) (counted : Bool) (limit : Option ℕ)
-    (kept : List KeyedGroup) (groups : List Group) → map keyed_group kept ≡ at_most limit groups
+    (kept : List (KeyedGroup ℕ)) (groups : List (Group ℕ)) → map keyed_group kept ≡ at_most limit groups
     → AllByRecursion (IsGroup names records) groups
     → map (counted_group names counted) (map keyed_group kept)
     ≡ at_most limit (map (record_of names records counted) (map group_tuple groups))
@@ -173,7 +140,7 @@ module _ (names : List (List ℕ)) (records : List Record) where
         ∙ sym (take_sorted most_hits most_hits_total keep (fewer_behind least) most (tuples names records) enough)
 
   -- all groups
-  pub uniq_made : (counted : Bool) (limit : Option ℕ) (groups : List Group) (keyed kept : List KeyedGroup)
+  pub uniq_made : (counted : Bool) (limit : Option ℕ) (groups : List (Group ℕ)) (keyed kept : List (KeyedGroup ℕ))
       → AreGroups names records 0 groups → kept ≡ at_most limit keyed
       → map keyed_group keyed ≡ sorted_by (on group_tuple tuple_cmp) groups
       → map (counted_group names counted) (map keyed_group kept)
@@ -189,8 +156,8 @@ module _ (names : List (List ℕ)) (records : List Record) where
       (λ t. le-leb 0 (hits names records t) (omega arith))) ∙ tuples_are h.tuples h.once)
 
   -- the groups that can be among the first
-  pub top_made : (most least : ℕ) (some : List Tuple) (numbers : List ℕ) (groups : List Group)
-      (keyed sorted kept : List KeyedGroup) → AreGroups names records least groups
+  pub top_made : (most least : ℕ) (some : List Tuple) (numbers : List ℕ) (groups : List (Group ℕ))
+      (keyed sorted kept : List (KeyedGroup ℕ)) → AreGroups names records least groups
       → HasEachOnce tuple_cmp some (filled_tuples names records) → numbers ≡ map (hits names records) some
       → IsNthGreatest most least numbers → kept ≡ take most sorted → sorted ≡ sorted_by keyed_most_first keyed
       → map keyed_group keyed ≡ sorted_by (on group_tuple tuple_cmp) groups
@@ -205,7 +172,7 @@ module _ (names : List (List ℕ)) (records : List Record) where
       ∙ ap (take most) (map_sorted keyed_group most_first keyed ∙ ap (sorted_by most_first) of) in
       let same : sorted_by most_first ordered ≡ sorted_by (on group_tuple most_hits) ordered =
       sorted_alike most_first (on group_tuple most_hits) (IsGroup names records)
-      (λ a b of_a of_b. ap (λ n. nat_cmp n a.hits) of_b.1 ∙ ap (nat_cmp (hits names records (group_tuple b))) of_a.1)
+      (λ a b of_a of_b. ap (λ n. nat_cmp n a.kept) of_b.1 ∙ ap (nat_cmp (hits names records (group_tuple b))) of_a.1)
       ordered each in
       let are_tuples : map group_tuple (sorted_by most_first ordered)
       ≡ sorted_by most_hits (sorted_by tuple_cmp (filter (has_hits names records least) h.tuples)) =

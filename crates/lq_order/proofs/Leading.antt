@@ -1,11 +1,9 @@
 -- The first of many items in an order are among those that none of the others stands before.
-use Rattle.std.proofs.Common.{◌≡◌, ℕ, zero, suc, ◌+◌, ◌≤◌, Bool, true, false, not, cond, List, []}
-use Rattle.std.proofs.Common.{◌∷◌, ◌++◌, map, length}
-use Rattle.std.proofs.Common.{append-nil, get_or, inl, inr, ◌⊎◌, length-append, min, take, ◌<◌, refl}
+use Rattle.std.proofs.Common.{◌≡◌, ℕ, zero, suc, ◌+◌, ◌≤◌, Bool, true, false, cond, List, []}
+use Rattle.std.proofs.Common.{◌∷◌, ◌++◌, length}
+use Rattle.std.proofs.Common.{get_or, inl, inr, ◌⊎◌, length-append, min, take, ◌<◌, refl}
 use Rattle.std.proofs.Common.{sym, ap, ◌∙◌, arith}
 use Rattle.std.proofs.lemmas.Bool.{le-leb, le-ltb}
-use Rattle.std.proofs.lemmas.List.{map_push}
-use Rattle.std.proofs.lemmas.List.Elements.{filter_more}
 use Rattle.std.proofs.lemmas.List.Sorted.{length_permutation, sum_by-IsPermutation}
 use Rattle.std.proofs.lemmas.List.Sums.{count_by-le-length, length-filter}
 use Rattle.std.proofs.lemmas.Map.Keys.{ge_from_not_lt}

@@ -1,31 +1,22 @@
 -- The groups of a tally, as they are read from texts.
-use Rattle.std.proofs.Common.{◌≡◌, ℕ, zero, suc, ◌+◌, ◌<◌, ◌≤◌, Bool, true, false, cond, List, [], ◌∷◌, ◌++◌, length, map}
-use Rattle.std.proofs.Common.{append-nil, get_or, take, zip, Bor, refl, sym, ap, subst, ◌∙◌, arith}
-use Rattle.std.proofs.lemmas.List.{get_or-map, get_or_default, length-map, map_push, take_all}
+use Rattle.std.proofs.Common.{◌≡◌, ℕ, ◌+◌, ◌<◌, ◌≤◌, Bool, true, false, cond, List, [], ◌∷◌, ◌++◌, length, map}
+use Rattle.std.proofs.Common.{get_or, take, zip, Bor, refl, sym, ap, subst, ◌∙◌, arith}
+use Rattle.std.proofs.lemmas.List.{map_push, take_all}
 use Rattle.std.specs.Bool.{nat_le}
 use Rattle.std.specs.List.{AllByRecursion, filter}
-use Rattle.lq_ast.proofs.Sorted.{all_at}
 use Rattle.lq_ast.specs.Records.{Record}
 use Rattle.lq_ast.specs.Sorting.{hits}
 use Rattle.lq_ast.specs.Tuples.{Tuple}
+use Rattle.lq_tuple.proofs.Lists.{filter_more}
 use Rattle.lq_tuple.proofs.Once.{all_filtered}
-use Rattle.lq_tuple.specs.Counted.{AreShort, HaveLength, tuple_text}
+use Rattle.lq_tuple.proofs.ReadEach.{as_long, zip_more}
+use Rattle.lq_tuple.specs.Counted.{HaveLength, tuple_text}
 use Rattle.lq_order.proofs.Answering.{filter_made}
-use Rattle.lq_order.proofs.Tallying.{filter_one_more}
-use Rattle.lq_order.specs.Groups.{IsGroup, IsNamed, group_pair, group_tuple}
+use Rattle.lq_tuple.specs.Groups.{group_tuple}
+use Rattle.lq_tuple.specs.declared.group.Group.{Group}
+use Rattle.lq_order.specs.Groups.{IsGroup, IsNamed, group_pair}
 use Rattle.lq_order.specs.Tally.{AreGroups, Tallies, has_hits}
-use Rattle.lq_order.specs.declared.group.Group.{Group}
 use Rattle.lq_order.specs.declared.tally.Tally.{Tally}
-
-zip_more : {A B : Type 0} (xs : List A) (ys : List B) (i : ℕ) (d : A) (e : B) → i < length xs → i < length ys
-    → zip (take (i + 1) xs) (take (i + 1) ys) ≡ zip (take i xs) (take i ys) ++ (get_or xs i d, get_or ys i e) ∷ []
-zip_more [] ys i d e a b = absurd (omega arith)
-zip_more (x ∷ xs) [] i d e a b = absurd (omega arith)
-zip_more (x ∷ xs) (y ∷ ys) zero d e a b = refl
-zip_more (x ∷ xs) (y ∷ ys) (suc i) d e a b =
-    let next : suc i + 1 ≡ suc (i + 1) = omega arith in
-    ap (λ n. zip (take n (x ∷ xs)) (take n (y ∷ ys))) next
-    ∙ ap (λ l. (x, y) ∷ l) (zip_more xs ys i d e (omega arith) (omega arith))
 
 -- so many records or more
 abbrev is_kept : ℕ → Tuple × ℕ → Bool
@@ -35,62 +26,43 @@ module _ (texts : List (Bor (List ℕ))) (tuples : List Tuple) (numbers : List �
     (same : map (λ text. text.now) texts ≡ map tuple_text tuples) (wide : HaveLength width tuples)
     (long : length numbers ≡ length tuples) where
   -- the groups of the first so many texts
-  abbrev pub AreRead : ℕ → List Group → Type 0
+  abbrev pub AreRead : ℕ → List (Group ℕ) → Type 0
   AreRead i groups = map group_pair groups ≡ filter (is_kept least) (zip (take i tuples) (take i numbers))
 
-  as_long : length texts ≡ length tuples
-  as_long =
-      sym (length-map texts (λ text. text.now)) ∙ ap length same
-      ∙ length-map tuples tuple_text
-
-  -- the tuple of a text
-  pub tuple_at : (i : ℕ) (d : Bor (List ℕ)) → i < length texts
-      → (length (get_or tuples i []) ≡ width) × AreShort (get_or tuples i [])
-      × ((get_or texts i d).now ≡ tuple_text (get_or tuples i []))
-  tuple_at i d within =
-      let inside : i < length tuples = omega (arith, within, as_long) in
-      let has = all_at (λ t. (length t ≡ width) × AreShort t) tuples wide i [] inside in (
-        has.0,
-        has.1,
-        sym (get_or-map (λ t. t.now) texts i d d.now within) ∙ ap (λ l. get_or l i d.now) same
-            ∙ get_or_default (map tuple_text tuples) i d.now (tuple_text [])
-            (omega (arith, inside, length-map tuples tuple_text)) ∙ get_or-map tuple_text tuples i [] (tuple_text []) inside,
-      )
-
-  one_more : (i : ℕ) (number : ℕ) (groups : List Group) → i < length texts → number ≡ get_or numbers i 0
+  one_more : (i : ℕ) (number : ℕ) (groups : List (Group ℕ)) → i < length texts → number ≡ get_or numbers i 0
       → AreRead i groups
       → filter (is_kept least) (zip (take (i + 1) tuples) (take (i + 1) numbers))
       ≡ cond (nat_le least number) (map group_pair groups ++ (get_or tuples i [], number) ∷ []) (map group_pair groups)
   one_more i number groups within is so_far =
-      ap (filter (is_kept least)) (zip_more tuples numbers i [] 0 (omega (arith, within, as_long))
-      (omega (arith, within, as_long, long)))
-      ∙ filter_one_more (is_kept least) (zip (take i tuples) (take i numbers)) (get_or tuples i [], get_or numbers i 0)
+      ap (filter (is_kept least)) (zip_more tuples numbers i [] 0 (omega (arith, within, as_long texts tuples width same wide))
+      (omega (arith, within, as_long texts tuples width same wide, long)))
+      ∙ filter_more (is_kept least) (zip (take i tuples) (take i numbers)) (get_or tuples i [], get_or numbers i 0)
       ∙ ap (λ n. cond (nat_le least n)
       (filter (is_kept least) (zip (take i tuples) (take i numbers)) ++ (get_or tuples i [], n) ∷ [])
       (filter (is_kept least) (zip (take i tuples) (take i numbers)))) (sym is)
       ∙ ap (λ l. cond (nat_le least number) (l ++ (get_or tuples i [], number) ∷ []) l) (sym so_far)
 
-  pub read_kept : (i : ℕ) (number : ℕ) (groups more : List Group) (group : Group) → i < length texts
+  pub read_kept : (i : ℕ) (number : ℕ) (groups more : List (Group ℕ)) (group : Group ℕ) → i < length texts
       → number ≡ get_or numbers i 0 → nat_le least number ≡ true → group_tuple group ≡ get_or tuples i []
-      → group.hits ≡ number → more ≡ groups ++ group ∷ [] → AreRead i groups → AreRead (i + 1) more
+      → group.kept ≡ number → more ≡ groups ++ group ∷ [] → AreRead i groups → AreRead (i + 1) more
   read_kept i number groups more group within is keep tuple hits pushed so_far =
       ap (map group_pair) pushed ∙ map_push group_pair groups group
       ∙ ap (λ p. map group_pair groups ++ p ∷ []) (λ j. (tuple j, hits j))
       ∙ ap (λ t. cond t (map group_pair groups ++ (get_or tuples i [], number) ∷ []) (map group_pair groups)) (sym keep)
       ∙ sym (one_more i number groups within is so_far)
 
-  pub read_left : (i : ℕ) (number : ℕ) (groups : List Group) → i < length texts → number ≡ get_or numbers i 0
+  pub read_left : (i : ℕ) (number : ℕ) (groups : List (Group ℕ)) → i < length texts → number ≡ get_or numbers i 0
       → nat_le least number ≡ false → AreRead i groups → AreRead (i + 1) groups
   read_left i number groups within is keep so_far =
       ap (λ t. cond t (map group_pair groups ++ (get_or tuples i [], number) ∷ []) (map group_pair groups)) (sym keep)
       ∙ sym (one_more i number groups within is so_far)
 
-  pub read_all : (i : ℕ) (groups : List Group) → length texts ≤ i → AreRead i groups
+  pub read_all : (i : ℕ) (groups : List (Group ℕ)) → length texts ≤ i → AreRead i groups
       → map group_pair groups ≡ filter (is_kept least) (zip tuples numbers)
   read_all i groups all so_far =
       so_far
-      ∙ ap (λ ts. filter (is_kept least) (zip ts (take i numbers))) (take_all i tuples (omega (arith, all, as_long)))
-      ∙ ap (λ ns. filter (is_kept least) (zip tuples ns)) (take_all i numbers (omega (arith, all, as_long, long)))
+      ∙ ap (λ ts. filter (is_kept least) (zip ts (take i numbers))) (take_all i tuples (omega (arith, all, as_long texts tuples width same wide)))
+      ∙ ap (λ ns. filter (is_kept least) (zip tuples ns)) (take_all i numbers (omega (arith, all, as_long texts tuples width same wide, long)))
 
 -- ---- the groups of a tally
 
@@ -98,7 +70,7 @@ zip_made : {A B : Type 0} (f : A → B) (xs : List A) → zip xs (map f xs) ≡ 
 zip_made f [] = refl
 zip_made f (x ∷ xs) = ap (λ l. (x, f x) ∷ l) (zip_made f xs)
 
-pairs_told : (names : List (List ℕ)) (records : List Record) (groups : List Group) (tuples : List Tuple)
+pairs_told : (names : List (List ℕ)) (records : List Record) (groups : List (Group ℕ)) (tuples : List Tuple)
     → AllByRecursion (IsNamed names) tuples → map group_pair groups ≡ map (λ t. (t, hits names records t)) tuples
     → (map group_tuple groups ≡ tuples) × AllByRecursion (IsGroup names records) groups
 pairs_told names records [] [] named e = (refl, tt)
@@ -119,7 +91,7 @@ pairs_told names records (g ∷ gs) (t ∷ ts) named e =
       ),
     )
 
-pub groups_are : (tally : Tally) (names : List (List ℕ)) (records : List Record) (least : ℕ) (groups : List Group)
+pub groups_are : (tally : Tally) (names : List (List ℕ)) (records : List Record) (least : ℕ) (groups : List (Group ℕ))
     → (h : Tallies tally names records)
     → map group_pair groups ≡ filter (is_kept least) (zip h.tuples tally.hits.items)
     → AreGroups names records least groups

@@ -4,10 +4,8 @@ use Rattle.std.proofs.Common.{◌∷◌, ◌++◌, length, map, get_or, set, min
 use Rattle.std.proofs.lemmas.Bool.{cases_lt, false_from_ne_true}
 use Rattle.std.proofs.lemmas.List.{get_or-map, get_or_default, length-map, map_push}
 use Rattle.std.proofs.lemmas.List.Sums.{count_by-le-length, length-filter}
-use Rattle.std.specs.List.{AllByRecursion, count_by, filter}
-use Rattle.std.specs.Ordering.{is_eq, ordering_reverse}
-use Rattle.std.specs.declared.cmp.Ordering.{Ordering}
-use Rattle.std.specs.declared.cmp.Ordering.TheVariants.{Equal, Greater, Less}
+use Rattle.std.specs.List.{AllByRecursion, filter}
+use Rattle.std.specs.Ordering.{is_eq}
 use Rattle.log_model.specs.Field.{field_value}
 use Rattle.vl_row.proofs.Sorted.{all_append}
 use Rattle.lq_ast.proofs.Sorted.{all_from_places, all_weaker, split_bool}
@@ -16,9 +14,10 @@ use Rattle.lq_ast.specs.Records.{Record}
 use Rattle.lq_ast.specs.Sorting.{hits}
 use Rattle.lq_ast.specs.Tuples.{Tuple, is_wholly_empty, tuple_cmp, tuple_of}
 use Rattle.lq_tuple.proofs.Counting.{IsAmong, IsNewAmong, placed_tuple, wide_more}
-use Rattle.lq_tuple.proofs.Once.{count_at, count_cons, count_made, count_more, count_same, itself, kept_count}
+use Rattle.lq_tuple.proofs.Lists.{filter_more, map_alike}
+use Rattle.lq_tuple.proofs.Once.{count_cons, count_made, count_more, count_same, count_two, itself, kept_count}
 use Rattle.lq_tuple.proofs.Once.{once_new, once_old}
-use Rattle.lq_tuple.proofs.Tuples.{tuple_tells}
+use Rattle.lq_tuple.proofs.Tuples.{eq_turned, tuple_tells}
 use Rattle.lq_tuple.specs.Counted.{AreShort, HaveLength, tuple_text}
 use Rattle.lq_tuple.specs.Once.{HasEachOnce, count}
 use Rattle.lq_tuple.specs.Places.{AreKnown, IsPlaced}
@@ -28,14 +27,6 @@ use Rattle.lq_order.specs.Tally.{Tallies, filled_tuples}
 use Rattle.lq_order.specs.declared.tally.Tally.{Tally}
 
 -- ---- how many records have a tuple
-
-reversed_is_eq : (o : Ordering) → is_eq (ordering_reverse o) ≡ is_eq o
-reversed_is_eq Less = refl
-reversed_is_eq Equal = refl
-reversed_is_eq Greater = refl
-
-eq_turned : (t u : Tuple) → is_eq (tuple_cmp t u) ≡ is_eq (tuple_cmp u t)
-eq_turned t u = ap is_eq (tuple_cmp_total.antisymm t u) ∙ reversed_is_eq (tuple_cmp u t)
 
 hits_more : (names : List (List ℕ)) (records : List Record) (r : Record) (t : Tuple)
     → hits names (records ++ r ∷ []) t ≡ hits names records t + cond (is_eq (tuple_cmp (tuple_of names r) t)) 1 0
@@ -61,27 +52,6 @@ hits_none names records t none =
 
 -- ---- lists that are made of tuples
 
-pub filter_one_more : {A : Type 0} (keep : A → Bool) (xs : List A) (x : A)
-    → filter keep (xs ++ x ∷ []) ≡ cond (keep x) (filter keep xs ++ x ∷ []) (filter keep xs)
-filter_one_more keep [] x = refl
-filter_one_more keep (y ∷ ys) x =
-    elim (keep y) as
-    (λ t. cond t (y ∷ filter keep (ys ++ x ∷ [])) (filter keep (ys ++ x ∷ []))
-    ≡ cond (keep x) (cond t (y ∷ filter keep ys) (filter keep ys) ++ x ∷ []) (cond t (y ∷ filter keep ys)
-    (filter keep ys))) [
-      | true ↦ ap (λ l. y ∷ l) (filter_one_more keep ys x) ∙ moved (keep x)
-      | false ↦ filter_one_more keep ys x
-    ]
-  where
-    moved : (t : Bool) → y ∷ cond t (filter keep ys ++ x ∷ []) (filter keep ys)
-        ≡ cond t (y ∷ (filter keep ys ++ x ∷ [])) (y ∷ filter keep ys)
-    moved true = refl
-    moved false = refl
-
-map_alike : {A B : Type 0} (f g : A → B) (xs : List A) → AllByRecursion (λ x. f x ≡ g x) xs → map f xs ≡ map g xs
-map_alike f g [] h = refl
-map_alike f g (x ∷ xs) h = ap (λ y. y ∷ map f xs) h.0 ∙ ap (λ l. g x ∷ l) (map_alike f g xs h.1)
-
 -- what is made anew at one place alone
 map_raised : {A B : Type 0} (f g : A → B) (xs : List A) (place : ℕ) (d : A) → place < length xs
     → ((k : ℕ) → k < length xs → k ≢ place → g (get_or xs k d) ≡ f (get_or xs k d))
@@ -105,20 +75,6 @@ all_apart t (u ∷ us) none =
     (λ b. count tuple_cmp t (u ∷ us) ≡ cond b 1 0 + count tuple_cmp t us
     → (b ≡ false) × AllByRecursion (λ v. is_eq (tuple_cmp t v) ≡ false) us)
     (λ _ e. absurd (omega arith)) (λ _ e. (refl, all_apart t us (omega arith))) whole
-
-count_two : {A : Type 0} (p : A → Bool) (xs : List A) (i j : ℕ) (d : A) → i < j → j < length xs
-    → p (get_or xs i d) ≡ true → p (get_or xs j d) ≡ true → 2 ≤ count_by p xs
-count_two p [] i j d up within a b = absurd (omega arith)
-count_two p (x ∷ xs) zero zero d up within a b = absurd (omega arith)
-count_two p (x ∷ xs) zero (suc j) d up within a b =
-    let more = count_at p xs j d (omega arith) b in
-    let whole = count_cons p x xs ∙ ap (λ t. cond t 1 0 + count_by p xs) a in
-    omega arith
-count_two p (x ∷ xs) (suc i) zero d up within a b = absurd (omega arith)
-count_two p (x ∷ xs) (suc i) (suc j) d up within a b =
-    let more = count_two p xs i j d (omega arith) (omega arith) a b in
-    let whole = count_cons p x xs in
-    omega arith
 
 -- a tuple that stands once stands at one place
 elsewhere : (some : List Tuple) (t : Tuple) (k place : ℕ) (d : Tuple) → count tuple_cmp t some ≤ 1 → k ≢ place
@@ -148,7 +104,7 @@ module _ (old : Tally) (names : List (List ℕ)) (records : List Record) (r : Re
       ≡ cond (not t) (filled_tuples names records ++ tuple_of names r ∷ []) (filled_tuples names records)
   all_filled t e =
       ap (filter (λ u. not (is_wholly_empty u))) all_tuples
-      ∙ filter_one_more (λ u. not (is_wholly_empty u)) (map (tuple_of names) records) (tuple_of names r)
+      ∙ filter_more (λ u. not (is_wholly_empty u)) (map (tuple_of names) records) (tuple_of names r)
       ∙ ap (λ b. cond (not b) (filled_tuples names records ++ tuple_of names r ∷ []) (filled_tuples names records)) e
 
   same_hits : (u : Tuple) → is_eq (tuple_cmp (tuple_of names r) u) ≡ false → now_hits u ≡ hits names records u
@@ -165,20 +121,21 @@ module _ (old : Tally) (names : List (List ℕ)) (records : List Record) (r : Re
       (itself tuple_cmp tuple_cmp_total tuple_tells (tuple_of names r))
 
   -- a record whose tuple is wholly empty
-  pub tallied_empty : is_wholly_empty (tuple_of old.names.now r) ≡ true → Tallies old names (records ++ r ∷ [])
+  pub tallied_empty : (new : Tally) → new.names ≡ old.names → new.places ≡ old.places → new.hits.items ≡ old.hits.items
+      → is_wholly_empty (tuple_of old.names.now r) ≡ true → Tallies new names (records ++ r ∷ [])
   unfolding now_hits
-  tallied_empty empty =
+  tallied_empty new fields same kept empty =
       let t = tuple_of names r in
       let is : is_wholly_empty t ≡ true = ap (λ ns. is_wholly_empty (tuple_of ns r)) (sym h.fields) ∙ empty in
       record {
-        fields = h.fields;
+        fields = ap (λ b. b.now) fields ∙ h.fields;
         tuples = h.tuples;
-        known = h.known;
+        known = subst (λ p. AreKnown p (map tuple_text h.tuples)) (sym same) h.known;
         once = subst (HasEachOnce tuple_cmp h.tuples) (sym (all_filled true is)) h.once;
         wide = h.wide;
         filled = h.filled;
         named = h.named;
-        counted = h.counted ∙ map_alike (hits names records) now_hits h.tuples
+        counted = kept ∙ h.counted ∙ map_alike (hits names records) now_hits h.tuples
             (all_weaker (λ u. is_wholly_empty u ≡ false) (λ u. hits names records u ≡ now_hits u)
             (λ u full. sym (same_hits u (false_from_ne_true (is_eq (tuple_cmp t u)) (λ e.
             let bad : true ≡ false = sym is ∙ ap is_wholly_empty (tuple_tells t u e) ∙ full in absurd cc))))

@@ -7,8 +7,9 @@ use Rattle.lq_ast.specs.Tuples.{Tuple, is_wholly_empty, tuple_cmp, tuple_of}
 use Rattle.lq_tuple.specs.Counted.{HaveLength, tuple_text}
 use Rattle.lq_tuple.specs.Once.{HasEachOnce}
 use Rattle.lq_tuple.specs.Places.{AreKnown}
-use Rattle.lq_order.specs.Groups.{IsGroup, IsNamed, group_tuple}
-use Rattle.lq_order.specs.declared.group.Group.{Group}
+use Rattle.lq_tuple.specs.Groups.{group_tuple}
+use Rattle.lq_tuple.specs.declared.group.Group.{Group}
+use Rattle.lq_order.specs.Groups.{IsGroup, IsNamed}
 use Rattle.lq_order.specs.declared.tally.Tally.{Tally}
 
 -- the tuples of the records that are not wholly empty, as often as records have them
@@ -38,7 +39,8 @@ abbrev pub has_hits : List (List ℕ) → List Record → ℕ → Tuple → Bool
 has_hits names records least tuple = nat_le least (hits names records tuple)
 
 -- The groups are those of the tuples that so many records or more have, but for one that is wholly empty.
-pub record AreGroups (names : List (List ℕ)) (records : List Record) (least : ℕ) (groups : List Group) : Type 0 where
+pub record AreGroups (names : List (List ℕ)) (records : List Record) (least : ℕ)
+    (groups : List (Group ℕ)) : Type 0 where
   pub tuples : List Tuple
   pub once : HasEachOnce tuple_cmp tuples (filled_tuples names records)
   pub chosen : map group_tuple groups ≡ filter (has_hits names records least) tuples

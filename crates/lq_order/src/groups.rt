@@ -6,14 +6,13 @@ ghost use Rattle.lq_tuple.specs.Counted.{HaveLength, tuple_text};
 ghost use Rattle.lq_order.specs.Groups.{group_pair};
 ghost use Rattle.lq_order.specs.Tally.{AreGroups, Tallies};
 
-use crate::group::Group;
 use crate::tally::Tally;
-use lq_tuple::read_tuple;
+use lq_tuple::{Group, read_tuple};
 use std::alloc::{AllocError, Global};
 
 impl<'p> Tally<'p> {
     /// The groups of so many records or more.
-    pub(crate) fn groups(&self, alloc: Global, least: u64) -> Result<Vec<Group>, AllocError>
+    pub(crate) fn groups(&self, alloc: Global, least: u64) -> Result<Vec<Group<u64>>, AllocError>
         ensures { IfOk result (λ groups. (names : List (List ℕ)) (records : List Record)
             → Tallies self.now names records → AreGroups names records least groups.items) }
     {
@@ -35,7 +34,7 @@ fn read_groups(
     hits: &[u64],
     width: usize,
     least: u64,
-) -> Result<Vec<Group>, AllocError>
+) -> Result<Vec<Group<u64>>, AllocError>
     ensures { IfOk result (λ groups. (tuples : List Tuple) → map (λ text. text.now) texts.now ≡ map tuple_text tuples
         → HaveLength width tuples → length hits.now ≡ length tuples
         → map group_pair groups.items ≡ filter (λ p. nat_le least p.1) (zip tuples hits.now)) }
@@ -45,7 +44,7 @@ fn read_groups(
         let hits = number_at(hits, i);
         if hits >= least {
             let tuple = read_tuple(alloc, text, width)?;
-            groups.push(Group { tuple, hits })?;
+            groups.push(Group { tuple, kept: hits })?;
         }
     }
     Ok(groups)

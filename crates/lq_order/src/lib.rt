@@ -5,7 +5,6 @@ mod column;
 mod dictionary;
 mod group;
 mod groups;
-mod keyed;
 mod ranks;
 mod records;
 mod sort;

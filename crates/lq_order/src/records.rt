@@ -1,53 +1,36 @@
-//! Groups in tuple order, and the records of groups.
+//! The records of groups.
 ghost use Rattle.std.specs.Prelude.{◌≡◌, IfOk, map};
-ghost use Rattle.std.specs.Ordering.{on};
-ghost use Rattle.lq_ast.specs.Tuples.{sorted_by, tuple_cmp};
-ghost use Rattle.lq_order.specs.Groups.{group_tuple, keyed_group, counted_group};
+ghost use Rattle.lq_tuple.specs.Groups.{keyed_group};
+ghost use Rattle.lq_order.specs.Groups.{counted_group};
 
-use crate::group::Group;
-use crate::keyed::KeyedGroup;
-use lq_tuple::value_keys;
+use crate::group::group_record;
+use lq_tuple::KeyedGroup;
 use std::alloc::{AllocError, Global};
 use vl_row::{Recs, Text};
-
-/// The groups in tuple order.
-pub(crate) fn in_order<'a>(
-    alloc: Global,
-    groups: &'a [Group],
-) -> Result<Vec<KeyedGroup<'a>>, AllocError>
-    ensures { IfOk result (λ keyed. map keyed_group keyed.items
-        ≡ sorted_by (on group_tuple tuple_cmp) groups.entry.now) }
-{
-    let mut keyed = all_keyed(alloc, groups)?;
-    keyed.sort_by(|a, b| a.keys.as_slice().cmp(b.keys.as_slice()))?;
-    Ok(keyed)
-}
-
-fn all_keyed<'a>(alloc: Global, groups: &'a [Group]) -> Result<Vec<KeyedGroup<'a>>, AllocError>
-    ensures { IfOk result (λ keyed. map keyed_group keyed.items ≡ groups.entry.now) }
-{
-    let mut keyed = Vec::with_capacity(alloc, groups.len())?;
-    for group in groups {
-        keyed.push(KeyedGroup {
-            keys: value_keys(alloc, group.tuple.as_slice())?,
-            group,
-        })?;
-    }
-    Ok(keyed)
-}
 
 /// A record for each of these groups: its tuple, and its number where that is wanted.
 pub(crate) fn records_of(
     alloc: Global,
     names: &[Text],
     counted: bool,
-    groups: &[KeyedGroup<'_>],
+    groups: &[KeyedGroup<'_, u64>],
 ) -> Result<Recs, AllocError>
     ensures { IfOk result (λ made. made ≡ map (counted_group names.now counted) (map keyed_group groups.now)) }
 {
+    let texts = texts_of(alloc, names)?;
     let mut records = Vec::with_capacity(alloc, groups.len())?;
     for keyed in groups {
-        records.push(keyed.group.record(alloc, names, counted)?)?;
+        records.push(group_record(alloc, texts.as_slice(), counted, keyed.group)?)?;
     }
     Ok(Recs::of(records))
+}
+
+fn texts_of<'a>(alloc: Global, names: &'a [Text]) -> Result<Vec<&'a str>, AllocError>
+    ensures { IfOk result (λ texts. map (λ text. text.now) texts.items ≡ names.entry.now) }
+{
+    let mut texts = Vec::with_capacity(alloc, names.len())?;
+    for name in names {
+        texts.push(name.as_str())?;
+    }
+    Ok(texts)
 }

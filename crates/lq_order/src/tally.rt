@@ -3,7 +3,7 @@ ghost use Rattle.std.specs.Prelude.{◌<◌, ◌+◌, ◌^◌, ◌++◌, [], Lis
 ghost use Rattle.lq_ast.specs.Records.{Record};
 ghost use Rattle.lq_order.specs.Tally.{TalliesRecord, Tallies};
 
-use lq_tuple::{Places, is_wholly_empty, tuple_text};
+use lq_tuple::{Places, filled_text};
 use std::alloc::{AllocError, Global};
 use vl_row::{FieldList, Text};
 
@@ -47,12 +47,11 @@ impl<'p> Tally<'p> {
     fn add(&mut self, alloc: Global, fields: &FieldList) -> Result<(), AllocError>
         ensures { OnOk result (TalliesRecord self.old self.new fields.now) }
     {
-        if is_wholly_empty(self.names, fields) {
-            return Ok(());
-        }
         // What a list of fields tells of itself: none of them has an empty name.
         let _ = fields.as_slice();
-        let text = tuple_text(&mut self.scratch, self.names, fields)?;
+        let Some(text) = filled_text(&mut self.scratch, self.names, fields)? else {
+            return Ok(());
+        };
         let place = self.places.place(alloc, text)?;
         if place < self.hits.len() {
             self.hits[place] = self.hits[place].saturating_add(1);

@@ -6,10 +6,11 @@ ghost use Rattle.lq_ast.specs.Sorting as sorting;
 ghost use Rattle.lq_order.specs.Groups.{IsNthGreatest};
 ghost use Rattle.lq_order.specs.Tally.{Tallies};
 
-use crate::records::{in_order, records_of};
+use crate::records::records_of;
 use crate::sort::kept;
 use crate::tally::Tally;
 use lq_ast::TopPipe;
+use lq_tuple::in_tuple_order;
 use std::alloc::{AllocError, Global};
 use vl_row::Recs;
 
@@ -35,8 +36,8 @@ impl<'p> Tally<'p> {
         let least = least_hits(alloc, self.hits.as_slice(), p.n)?;
         let groups = self.groups(alloc, least)?;
         drop(self.places);
-        let mut keyed = in_order(alloc, groups.as_slice())?;
-        keyed.sort_by(|a, b| b.group.hits.cmp(&a.group.hits))?;
+        let mut keyed = in_tuple_order(alloc, groups.as_slice())?;
+        keyed.sort_by(|a, b| b.group.kept.cmp(&a.group.kept))?;
         let kept = kept(keyed.as_slice(), 0, Some(p.n));
         records_of(alloc, self.names, true, kept)
     }

@@ -5,10 +5,11 @@ ghost use Rattle.lq_ast.specs.Records.{Record};
 ghost use Rattle.lq_ast.specs.Sorting as sorting;
 ghost use Rattle.lq_order.specs.Tally.{Tallies};
 
-use crate::records::{in_order, records_of};
+use crate::records::records_of;
 use crate::sort::kept;
 use crate::tally::Tally;
 use lq_ast::UniqPipe;
+use lq_tuple::in_tuple_order;
 use std::alloc::{AllocError, Global};
 use vl_row::Recs;
 
@@ -32,7 +33,7 @@ impl<'p> Tally<'p> {
     {
         let groups = self.groups(alloc, 0)?;
         drop(self.places);
-        let keyed = in_order(alloc, groups.as_slice())?;
+        let keyed = in_tuple_order(alloc, groups.as_slice())?;
         let kept = kept(keyed.as_slice(), 0, p.limit);
         records_of(alloc, self.names, p.hits, kept)
     }

@@ -1,17 +1,13 @@
 -- The records of groups are those that the grouping asks for.
-use Rattle.std.proofs.Common.{◌≡◌, ℕ, suc, ◌+◌, ◌-◌, ◌<◌, ◌≤◌, not, List, [], ◌∷◌, ◌++◌, length, map}
+use Rattle.std.proofs.Common.{◌≡◌, ℕ, suc, Bor, ◌+◌, ◌-◌, ◌<◌, ◌≤◌, not, List, [], ◌∷◌, ◌++◌, length, map}
 use Rattle.std.proofs.Common.{append-nil, drop, take, get_or, zip, decimal, min, ℤ, Some, Result, Ok, Err}
-use Rattle.std.proofs.Common.{append_assoc, refl, sym, ap, ◌∙◌, arith}
+use Rattle.std.proofs.Common.{append_assoc, refl, sym, ap, subst, ◌∙◌, arith}
 use Rattle.std.proofs.lemmas.List.{length-map, take_all}
 use Rattle.std.specs.List.{AllByRecursion, filter_map}
-use Rattle.std.specs.Cmp.{IsTotalOrder, on_total}
-use Rattle.std.specs.Cmp.Lexicographic.{lists_total, slice_cmp}
-use Rattle.std.specs.Ordering.{is_eq, on, ordering_then}
-use Rattle.std.specs.declared.cmp.Ordering.{Ordering}
-use Rattle.vl_row.specs.KeyOrder.{key_cmp_total}
+use Rattle.std.specs.Ordering.{is_eq, on}
 use Rattle.log_model.proofs.ValueOrder.{value_cmp_linear}
-use Rattle.log_model.specs.Order.{key_cmp, key_of, number_of, value_cmp}
-use Rattle.lq_ast.proofs.Sorted.{all_from_places, all_sorted, map_sorted}
+use Rattle.log_model.specs.Order.{number_of, value_cmp}
+use Rattle.lq_ast.proofs.Sorted.{all_sorted, all_weaker, map_sorted}
 use Rattle.lq_ast.proofs.TupleOrder.{tuple_cmp_total}
 use Rattle.lq_ast.specs.Grouping.{◌>>=◌, all, asked, group_record, grouped, put, set_statistics, statistic_text}
 use Rattle.lq_ast.specs.Groups.{group_tuples, key_tuple, members}
@@ -19,21 +15,22 @@ use Rattle.lq_ast.specs.Records.{Record, put_fields}
 use Rattle.lq_ast.specs.Stage.{GroupBy, Grouping, Statistic}
 use Rattle.lq_ast.specs.Statistics.{array_text, call_text, sum_text, values}
 use Rattle.lq_ast.specs.Tuples.{Tuple, distinct_by, is_wholly_empty, sorted_by, tuple_cmp, tuple_of}
-use Rattle.lq_tuple.proofs.Lists.{map_twice}
+use Rattle.lq_tuple.proofs.Lists.{map_alike, map_twice}
 use Rattle.lq_tuple.proofs.Once.{count_cons, once_kept, once_sorted}
 use Rattle.lq_tuple.proofs.Tuples.{tuple_tells, value_tells}
-use Rattle.lq_stats.specs.Finish.{keyed_group, made_record, measure_text, set_states, state_text, total_text}
+use Rattle.lq_tuple.specs.Groups.{group_tuple, keyed_group}
+use Rattle.lq_tuple.specs.declared.group.Group.{Group}
+use Rattle.lq_tuple.specs.declared.keyed.KeyedGroup.{KeyedGroup}
+use Rattle.lq_stats.specs.Finish.{group_pair, made_record, measure_text, set_states, state_text, total_text}
 use Rattle.lq_stats.specs.Function.{statistic_of}
-use Rattle.lq_stats.specs.Groups.{AreStates, IsStateOf, group_tuple}
+use Rattle.lq_stats.specs.Groups.{AreStates, IsStateOf}
 use Rattle.lq_stats.specs.Key.{grouped_by}
 use Rattle.lq_stats.specs.Measure.{AreMeasured, are_filled, measure_call, sum_of}
 use Rattle.lq_tuple.specs.Once.{HasEachOnce, count}
 use Rattle.lq_stats.specs.Partial.{StandsFor, opening}
 use Rattle.lq_stats.specs.State.{AreTaken, state_call}
 use Rattle.lq_stats.specs.declared.function.Function.{Function}
-use Rattle.lq_stats.specs.declared.groups.Group.{Group}
-use Rattle.lq_stats.specs.declared.key.Key.{Key}
-use Rattle.lq_stats.specs.declared.keyed.Keyed.{Keyed}
+use Rattle.lq_stats.specs.declared.groups.States.{States}
 use Rattle.lq_stats.specs.declared.measure.Measure.{Measure}
 use Rattle.lq_stats.specs.declared.measure.Measure.TheVariants.{Sum, Min, Max, UniqValues}
 use Rattle.lq_stats.specs.declared.partial.Partial.{Partial}
@@ -87,16 +84,31 @@ statistics_are (s ∷ ss) (t ∷ ts) records long each r =
 
 -- ---- groups
 
-made_is : (g : Grouping) (records : List Record) (group : Group)
-    → AreStates g.statistics group.states.items (members g.keys records (group_tuple group))
-    → made_record g.keys g.statistics group ≡ group_record g records (group_tuple group)
+made_is : (g : Grouping) (records : List Record) (group : Group (Bor States))
+    → AreStates g.statistics group.kept.now.list.items (members g.keys records (group_tuple group))
+    → made_record (map (λ key. key.0) g.keys) g.statistics group ≡ group_record g records (group_tuple group)
 made_is g records group h =
-    statistics_are g.statistics group.states.items (members g.keys records (group_tuple group)) h.long h.each
+    statistics_are g.statistics group.kept.now.list.items (members g.keys records (group_tuple group)) h.long h.each
     (put_fields [] (zip (map (λ key. key.0) g.keys) (group_tuple group)))
 
-map_alike : {A B : Type 0} (f g : A → B) (xs : List A) → AllByRecursion (λ x. f x ≡ g x) xs → map f xs ≡ map g xs
-map_alike f g [] h = refl
-map_alike f g (x ∷ xs) h = ap (λ y. y ∷ map f xs) h.0 ∙ ap (λ l. g x ∷ l) (map_alike f g xs h.1)
+all_zipped : {A B : Type 0} (P : A × B → Type 0) (xs : List A) (ys : List B) (d : A) → length ys ≡ length xs
+    → ((k : ℕ) (e : B) → k < length xs → P (get_or xs k d, get_or ys k e)) → AllByRecursion P (zip xs ys)
+all_zipped P [] ys d long each = tt
+all_zipped P (x ∷ xs) [] d long each = absurd (omega arith)
+all_zipped P (x ∷ xs) (y ∷ ys) d long each = (
+  each 0 y (omega arith),
+  all_zipped P xs ys d (omega arith) (λ k e within. each (suc k) e (omega arith)),
+)
+
+all_unmapped : {A B : Type 0} (f : A → B) (P : B → Type 0) (xs : List A) → AllByRecursion P (map f xs)
+    → AllByRecursion (λ x. P (f x)) xs
+all_unmapped f P [] h = tt
+all_unmapped f P (x ∷ xs) h = (h.0, all_unmapped f P xs h.1)
+
+first_parts : {A B : Type 0} (xs : List A) (ys : List B) → length ys ≡ length xs → map (λ p. p.0) (zip xs ys) ≡ xs
+first_parts [] ys long = refl
+first_parts (x ∷ xs) [] long = absurd (omega arith)
+first_parts (x ∷ xs) (y ∷ ys) long = ap (λ l. x ∷ l) (first_parts xs ys (omega arith))
 
 none_count : (x : List ℕ) (xs : Tuple) (records : List Record) → count tuple_cmp (x ∷ xs) (map (key_tuple []) records) ≡ 0
 none_count x xs [] = refl
@@ -126,42 +138,48 @@ opened [] records =
 opened (key ∷ keys) records = refl
 
 -- the records of the groups in tuple order
-pub finished : (partial : Partial) (g : Grouping) (records : List Record) → StandsFor partial g records
-    → all (map (made_record g.keys g.statistics) (sorted_by (on group_tuple tuple_cmp) partial.groups.list.items))
+pub finished : (partial : Partial) (g : Grouping) (records : List Record) (h : StandsFor partial g records)
+    (groups : List (Group (Bor States)))
+    → map group_pair groups ≡ zip h.groups.tuples partial.groups.states.items
+    → all (map (made_record (map (λ key. key.0) g.keys) g.statistics) (sorted_by (on group_tuple tuple_cmp) groups))
     ≡ grouped g records
-finished partial g records h =
-    let list = partial.groups.list.items in
+finished partial g records h groups read =
     let order = on group_tuple tuple_cmp in
-    let each : AllByRecursion (λ group. made_record g.keys g.statistics group
-    ≡ group_record g records (group_tuple group)) list =
-    all_from_places _ list (λ k d within. made_is g records (get_or list k d) (h.groups.states k d within)) in
+    let tuples = h.groups.tuples in
+    let states = partial.groups.states.items in
+    let are = λ (p : Tuple × States). AreStates g.statistics p.1.list.items (members g.keys records p.0) in
+    let made = made_record (map (λ key. key.0) g.keys) g.statistics in
+    let tuples_are : map group_tuple groups ≡ tuples =
+    sym (map_twice group_pair (λ p. p.0) groups) ∙ ap (map (λ p. p.0)) read
+    ∙ first_parts tuples states h.groups.long in
+    let each : AllByRecursion (λ group. made group ≡ group_record g records (group_tuple group)) groups =
+    all_weaker (λ group. are (group_pair group)) (λ group. made group ≡ group_record g records (group_tuple group))
+    (λ group has. made_is g records group has) groups
+    (all_unmapped group_pair are groups (subst (AllByRecursion are) (sym read)
+    (all_zipped are tuples states [] h.groups.long h.groups.states))) in
     ap all
-    (map_alike (made_record g.keys g.statistics) (λ group. group_record g records (group_tuple group))
-    (sorted_by order list)
-    (all_sorted order (λ group. made_record g.keys g.statistics group ≡ group_record g records (group_tuple group)) list
-    each)
-    ∙ sym (map_twice group_tuple (group_record g records) (sorted_by order list))
+    (map_alike made (λ group. group_record g records (group_tuple group)) (sorted_by order groups)
+    (all_sorted order (λ group. made group ≡ group_record g records (group_tuple group)) groups each)
+    ∙ sym (map_twice group_tuple (group_record g records) (sorted_by order groups))
     ∙ ap (map (group_record g records))
-    (map_sorted group_tuple tuple_cmp list
-    ∙ once_sorted tuple_cmp tuple_cmp_total tuple_tells (map group_tuple list)
+    (map_sorted group_tuple tuple_cmp groups ∙ ap (sorted_by tuple_cmp) tuples_are
+    ∙ once_sorted tuple_cmp tuple_cmp_total tuple_tells tuples
     (opening g.keys ++ map (key_tuple g.keys) records) h.groups.once
     ∙ opened g.keys records))
 
 -- the same, by what the code has of the partial statistics
-pub finished_as : (partial : Partial) (g : Grouping) (records : List Record) (keys : List Key)
-    (functions : List Function) (list : List Group) → keys ≡ partial.keys.items
-    → functions ≡ partial.functions.items → list ≡ partial.groups.list.items → StandsFor partial g records
+pub finished_as : (partial : Partial) (g : Grouping) (records : List Record) (h : StandsFor partial g records)
+    (names : List (List ℕ)) (functions : List Function) (groups : List (Group (Bor States)))
+    → names ≡ map (λ key. key.0) (map grouped_by partial.keys.items) → functions ≡ partial.functions.items
+    → map group_pair groups ≡ zip h.groups.tuples partial.groups.states.items
     → grouped g records
-    ≡ all (map (made_record (map grouped_by keys) (map statistic_of functions))
-    (sorted_by (on group_tuple tuple_cmp) list))
-finished_as partial g records keys functions list a b e h =
-    sym (finished partial g records h)
-    ∙ ap (λ ks. all (map (made_record ks g.statistics)
-    (sorted_by (on group_tuple tuple_cmp) partial.groups.list.items))) (sym (ap (map grouped_by) a ∙ h.keys))
-    ∙ ap (λ ss. all (map (made_record (map grouped_by keys) ss)
-    (sorted_by (on group_tuple tuple_cmp) partial.groups.list.items))) (sym (ap (map statistic_of) b ∙ h.statistics))
-    ∙ ap (λ l. all (map (made_record (map grouped_by keys) (map statistic_of functions))
-    (sorted_by (on group_tuple tuple_cmp) l))) (sym e)
+    ≡ all (map (made_record names (map statistic_of functions)) (sorted_by (on group_tuple tuple_cmp) groups))
+finished_as partial g records h names functions groups a b read =
+    sym (finished partial g records h groups read)
+    ∙ ap (λ ns. all (map (made_record ns g.statistics) (sorted_by (on group_tuple tuple_cmp) groups)))
+    (sym (a ∙ ap (map (λ key. key.0)) h.keys))
+    ∙ ap (λ ss. all (map (made_record names ss) (sorted_by (on group_tuple tuple_cmp) groups)))
+    (sym (ap (map statistic_of) b ∙ h.statistics))
 
 -- ---- one result after another
 
@@ -178,37 +196,9 @@ pub prepended_none : {A E : Type 0} (rest : Result (List A) E) → rest ≡ prep
 prepended_none (Ok more) = refl
 prepended_none (Err e) = refl
 
--- ---- groups in tuple order
-
-keys_cmp : (xs ys : Tuple) → slice_cmp key_cmp (map key_of xs) (map key_of ys) ≡ tuple_cmp xs ys
-unfolding value_cmp
-keys_cmp [] [] = refl
-keys_cmp [] (y ∷ ys) = refl
-keys_cmp (x ∷ xs) [] = refl
-keys_cmp (x ∷ xs) (y ∷ ys) = ap (ordering_then (key_cmp (key_of x) (key_of y))) (keys_cmp xs ys)
-
--- groups that are sorted by what their tuples are compared by
-abbrev pub by_keys : Keyed → Keyed → Ordering
-by_keys a b = slice_cmp key_cmp a.keys.items b.keys.items
-
-pub by_keys_total : IsTotalOrder by_keys
-by_keys_total = on_total (λ (k : Keyed). k.keys.items) (lists_total key_cmp_total)
-
-by_keys_is : (a b : Keyed) → by_keys a b ≡ on keyed_group (on group_tuple tuple_cmp) a b
-by_keys_is a b =
-    ap (λ l. slice_cmp key_cmp l b.keys.items) a.same
-    ∙ ap (slice_cmp key_cmp (map key_of (group_tuple a.group.now))) b.same
-    ∙ keys_cmp (group_tuple a.group.now) (group_tuple b.group.now)
-
-pub keyed_in_order : (keyed sorted : List Keyed) (groups : List Group) → sorted ≡ sorted_by by_keys keyed
-    → map keyed_group keyed ≡ groups → map keyed_group sorted ≡ sorted_by (on group_tuple tuple_cmp) groups
-keyed_in_order keyed sorted groups is of =
-    ap (map keyed_group) (is ∙ (λ i. sorted_by (λ a b. by_keys_is a b i) keyed))
-    ∙ map_sorted keyed_group (on group_tuple tuple_cmp) keyed ∙ ap (sorted_by (on group_tuple tuple_cmp)) of
-
 -- ---- the records, one after another
 
-pub records_step : (f : Group → Result Record (List ℕ)) (done : List Record) (left : List Keyed) (one : Keyed)
+pub records_step : (f : Group (Bor States) → Result Record (List ℕ)) (done : List Record) (left : List (KeyedGroup (Bor States))) (one : KeyedGroup (Bor States))
     (made : Record) → 1 ≤ length left → one ≡ get_or left 0 one → f (keyed_group one) ≡ Ok made
     → prepended done (all (map f (map keyed_group left)))
     ≡ prepended (done ++ made ∷ []) (all (map f (map keyed_group (take (length left - 1) (drop 1 left)))))
@@ -221,7 +211,7 @@ records_step f done (x ∷ xs) one made some is ok =
     ∙ prepended_one done made (all (map f (map keyed_group xs)))
     ∙ sym (ap (λ l. prepended (done ++ made ∷ []) (all (map f (map keyed_group l)))) rest)
 
-pub records_fail : (f : Group → Result Record (List ℕ)) (done : List Record) (left : List Keyed) (one : Keyed)
+pub records_fail : (f : Group (Bor States) → Result Record (List ℕ)) (done : List Record) (left : List (KeyedGroup (Bor States))) (one : KeyedGroup (Bor States))
     (name : List ℕ) → 1 ≤ length left → one ≡ get_or left 0 one → f (keyed_group one) ≡ Err name
     → prepended done (all (map f (map keyed_group left))) ≡ Err name
 records_fail f done [] one name some is failed = absurd (omega arith)
@@ -229,7 +219,7 @@ records_fail f done (x ∷ xs) one name some is failed =
     ap (λ r. prepended done (r >>= λ y. all (map f (map keyed_group xs)) >>= λ ys. Ok (y ∷ ys)))
     (ap (λ k. f (keyed_group k)) (sym is) ∙ failed)
 
-pub records_end : (f : Group → Result Record (List ℕ)) (done : List Record) (left : List Keyed) → length left < 1
+pub records_end : (f : Group (Bor States) → Result Record (List ℕ)) (done : List Record) (left : List (KeyedGroup (Bor States))) → length left < 1
     → prepended done (all (map f (map keyed_group left))) ≡ Ok done
 records_end f done [] none = ap (λ l. Ok l) (append-nil done)
 records_end f done (x ∷ xs) none = absurd (omega arith)

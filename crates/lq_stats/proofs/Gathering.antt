@@ -1,15 +1,13 @@
 -- Groups, as one more record comes.
-use Rattle.std.proofs.Common.{◌≡◌, ◌≢◌, ℕ, zero, suc, ◌+◌, ◌^◌, ◌<◌, ◌≤◌, Bool, true, false, cond, List, [], ◌∷◌, ◌++◌}
+use Rattle.std.proofs.Common.{◌≡◌, ◌≢◌, ℕ, ◌+◌, ◌^◌, ◌<◌, ◌≤◌, Bool, true, false, cond, List, [], ◌∷◌, ◌++◌}
 use Rattle.std.proofs.Common.{length, map, take, get_or, set, Option, Some, None, append_assoc, length-append}
 use Rattle.std.proofs.Common.{refl, sym, ap, subst, ◌∙◌, inl, inr, ◌⊎◌, arith}
 use Rattle.std.proofs.lemmas.Bool.{cases_eq, cases_lt, false_from_ne_true}
-use Rattle.std.proofs.lemmas.List.{get_or-map, get_or-set_same, get_or_default, length-map, length-take, map_push, take_more}
+use Rattle.std.proofs.lemmas.List.{get_or-set_same, get_or_default, length-map, length-take, map_push, take_more}
 use Rattle.std.proofs.lemmas.List.Sums.{count_by-le-length, length-filter}
 use Rattle.std.specs.List.{count_by, filter}
 use Rattle.std.specs.Option.{option_map_or}
-use Rattle.std.specs.Ordering.{is_eq, ordering_reverse}
-use Rattle.std.specs.declared.cmp.Ordering.{Ordering}
-use Rattle.std.specs.declared.cmp.Ordering.TheVariants.{Equal, Greater, Less}
+use Rattle.std.specs.Ordering.{is_eq}
 use Rattle.lq_ast.proofs.Sorted.{split_bool}
 use Rattle.lq_ast.proofs.TupleOrder.{tuple_cmp_total}
 use Rattle.lq_ast.specs.Condition.{Condition}
@@ -20,23 +18,23 @@ use Rattle.lq_ast.specs.Records.{Record}
 use Rattle.lq_ast.specs.Stage.{GroupBy, Statistic}
 use Rattle.lq_ast.specs.Tuples.{Tuple, tuple_cmp}
 use Rattle.lq_tuple.proofs.Counting.{IsAmong, IsNewAmong, placed_tuple, wide_more}
-use Rattle.lq_stats.proofs.Measuring.{filter_more}
+use Rattle.lq_tuple.proofs.Lists.{filter_more}
 use Rattle.lq_tuple.proofs.Numbered.{get_front, get_last}
-use Rattle.lq_tuple.proofs.Once.{count_at, count_cons, count_joined, count_made, count_same, itself}
+use Rattle.lq_tuple.proofs.Once.{count_cons, count_joined, count_made, count_same, count_two, itself}
 use Rattle.lq_tuple.proofs.Once.{once_alike, once_new, once_old}
-use Rattle.lq_tuple.proofs.Tuples.{tuple_tells}
+use Rattle.lq_tuple.proofs.Tuples.{eq_turned, tuple_tells}
 use Rattle.lq_tuple.specs.Counted.{AreShort, HaveLength, tuple_text}
 use Rattle.lq_stats.specs.Function.{is_asked}
 use Rattle.lq_stats.specs.Groups.{AreGroups, AreStates, IsEnteredIn, IsStateOf, TakeRecord, TakesOne}
-use Rattle.lq_stats.specs.Groups.{TakesRecord, group_tuple}
+use Rattle.lq_stats.specs.Groups.{TakesRecord}
 use Rattle.lq_stats.specs.Key.{grouped_by}
-use Rattle.lq_tuple.specs.Once.{HasEachOnce, count}
+use Rattle.lq_tuple.specs.Once.{count}
 use Rattle.lq_stats.specs.Partial.{opening}
 use Rattle.lq_tuple.specs.Places.{AreKnown, IsPlaced}
 use Rattle.lq_tuple.specs.declared.places.Places.{Places}
 use Rattle.lq_stats.specs.State.{AreTaken, Takes, state_call}
-use Rattle.lq_stats.specs.declared.groups.Group.{Group}
 use Rattle.lq_stats.specs.declared.groups.Groups.{Groups}
+use Rattle.lq_stats.specs.declared.groups.States.{States}
 use Rattle.lq_stats.specs.declared.key.Key.{Key}
 use Rattle.lq_stats.specs.declared.state.State.{State}
 
@@ -70,14 +68,6 @@ asked_more s records r = at s.only
 
 -- ---- the records of a group
 
-reversed_is_eq : (o : Ordering) → is_eq (ordering_reverse o) ≡ is_eq o
-reversed_is_eq Less = refl
-reversed_is_eq Equal = refl
-reversed_is_eq Greater = refl
-
-eq_turned : (t u : Tuple) → is_eq (tuple_cmp t u) ≡ is_eq (tuple_cmp u t)
-eq_turned t u = ap is_eq (tuple_cmp_total.antisymm t u) ∙ reversed_is_eq (tuple_cmp u t)
-
 filter_none : {A : Type 0} (keep : A → Bool) (xs : List A) → count_by keep xs ≡ 0 → filter keep xs ≡ []
 filter_none keep [] e = refl
 filter_none keep (x ∷ xs) e =
@@ -106,47 +96,16 @@ members_few keys records t =
     let few = count_by-le-length (λ s. is_eq (tuple_cmp (key_tuple keys s) t)) records in
     omega arith
 
--- ---- lists by their places
-
-count_two : {A : Type 0} (p : A → Bool) (xs : List A) (i j : ℕ) (d : A) → i < j → j < length xs
-    → p (get_or xs i d) ≡ true → p (get_or xs j d) ≡ true → 2 ≤ count_by p xs
-count_two p [] i j d up within a b = absurd (omega arith)
-count_two p (x ∷ xs) zero zero d up within a b = absurd (omega arith)
-count_two p (x ∷ xs) zero (suc j) d up within a b =
-    let more = count_at p xs j d (omega arith) b in
-    let whole = count_cons p x xs ∙ ap (λ t. cond t 1 0 + count_by p xs) a in
-    omega arith
-count_two p (x ∷ xs) (suc i) zero d up within a b = absurd (omega arith)
-count_two p (x ∷ xs) (suc i) (suc j) d up within a b =
-    let more = count_two p xs i j d (omega arith) (omega arith) a b in
-    let whole = count_cons p x xs in
-    omega arith
-
-tuples_same : (xs ys : List Group) → length xs ≡ length ys
-    → ((k : ℕ) (d : Group) → k < length ys → group_tuple (get_or xs k d) ≡ group_tuple (get_or ys k d))
-    → map group_tuple xs ≡ map group_tuple ys
-tuples_same [] [] long same = refl
-tuples_same [] (y ∷ ys) long same = absurd (omega arith)
-tuples_same (x ∷ xs) [] long same = absurd (omega arith)
-tuples_same (x ∷ xs) (y ∷ ys) long same =
-    ap (λ t. t ∷ map group_tuple xs) (same 0 x (omega arith))
-    ∙ ap (λ l. group_tuple y ∷ l) (tuples_same xs ys (omega arith) (λ k d within. same (suc k) d (omega arith)))
-
-twice : (list : List Group) (t : Tuple) (k place : ℕ) (d : Group) → k ≢ place → k < length list → place < length list
-    → group_tuple (get_or list k d) ≡ t → group_tuple (get_or list place d) ≡ t
-    → 2 ≤ count tuple_cmp t (map group_tuple list)
-twice list t k place d ne a b e f =
-    let passes : (u : Tuple) → u ≡ t → is_eq (tuple_cmp t u) ≡ true =
+-- a tuple that stands at two places
+twice : (list : List Tuple) (t : Tuple) (k place : ℕ) → k ≢ place → k < length list → place < length list
+    → get_or list k [] ≡ t → get_or list place [] ≡ t → 2 ≤ count tuple_cmp t list
+twice list t k place ne a b e f =
+    let test = λ (u : Tuple). is_eq (tuple_cmp t u) in
+    let passes : (u : Tuple) → u ≡ t → test u ≡ true =
     λ u is. ap (λ v. is_eq (tuple_cmp t v)) is ∙ itself tuple_cmp tuple_cmp_total tuple_tells t in
-    let made = count_made (λ u. is_eq (tuple_cmp t u)) group_tuple list in
-    let test = λ (g : Group). is_eq (tuple_cmp t (group_tuple g)) in
     elim (cases_lt k place) [
-      | inl up ↦
-          let two = count_two test list k place d up b (passes _ e) (passes _ f) in
-          omega arith
-      | inr down ↦
-          let two = count_two test list place k d (omega (arith, ne)) a (passes _ f) (passes _ e) in
-          omega arith
+      | inl up ↦ count_two test list k place [] up b (passes _ e) (passes _ f)
+      | inr down ↦ count_two test list place k [] (omega (arith, ne)) a (passes _ f) (passes _ e)
     ]
 
 module _ (keys : List GroupBy) (statistics : List Statistic) (more : List Tuple) (records : List Record)
@@ -176,160 +135,145 @@ module _ (keys : List GroupBy) (statistics : List Statistic) (more : List Tuple)
       (short : AreShort (key_tuple keys r)) (text : List ℕ) (is : text ≡ tuple_text (key_tuple keys r))
       (places : Places) (place : ℕ)
       (placed : (texts : List (List ℕ)) → AreKnown groups.places texts → IsPlaced places texts text place) where
-    stands : IsNewAmong places (map group_tuple groups.list.items) (key_tuple keys r) place
-        ⊎ IsAmong places (map group_tuple groups.list.items) (key_tuple keys r) place
+    stands : IsNewAmong places h.tuples (key_tuple keys r) place ⊎ IsAmong places h.tuples (key_tuple keys r) place
     stands =
-        let list = map group_tuple groups.list.items in
-        placed_tuple places list (key_tuple keys r) text place is
-        (subst (λ n. HaveLength n list) (sym (length-map keys (key_value r))) h.wide) short
-        (placed (map tuple_text list) h.known)
+        placed_tuple places h.tuples (key_tuple keys r) text place is
+        (subst (λ n. HaveLength n h.tuples) (sym (length-map keys (key_value r))) h.wide) short
+        (placed (map tuple_text h.tuples) h.known)
 
-    pub entered_old : place < length groups.list.items
-        → IsEnteredIn keys statistics (record { places = places; list = groups.list }) (more ++ key_tuple keys r ∷ [])
-        records r place
+    pub entered_old : place < length groups.states.items
+        → IsEnteredIn keys statistics (record { places = places; states = groups.states })
+        (more ++ key_tuple keys r ∷ []) records r place
     unfolding tuple
     entered_old below =
-        let list = groups.list.items in
-        let long = length-map list group_tuple in
         elim stands [
-          | inl one ↦ absurd (omega (arith, one.behind, below, long))
+          | inl one ↦ absurd (omega (arith, one.behind, below, h.long))
           | inr one ↦ record {
-            inside = below;
-            tuple = λ d. sym (get_or-map group_tuple list place d (group_tuple d) below) ∙ one.there (group_tuple d);
             are = record {
+              tuples = h.tuples;
               known = one.known;
-              once = once_alike tuple_cmp tuple_cmp_total tuple_tells (map group_tuple list)
+              once = once_alike tuple_cmp tuple_cmp_total tuple_tells h.tuples
                   ((more ++ map (key_tuple keys) records) ++ key_tuple keys r ∷ [])
                   ((more ++ key_tuple keys r ∷ []) ++ map (key_tuple keys) records) entered_alike
-                  (once_old tuple_cmp tuple_cmp_total tuple_tells (map group_tuple list)
+                  (once_old tuple_cmp tuple_cmp_total tuple_tells h.tuples
                   (more ++ map (key_tuple keys) records) (key_tuple keys r) h.once one.had);
               wide = h.wide;
+              long = h.long;
               states = h.states;
             };
+            inside = one.inside;
+            tuple = one.there [];
           }
         ]
 
-    pub entered_new : (new : Groups) (group : Group) → length groups.list.items ≤ place → new.places ≡ places
-        → new.list.items ≡ groups.list.items ++ group ∷ [] → group_tuple group ≡ key_tuple keys r
-        → AreStates statistics group.states.items []
+    pub entered_new : (new : Groups) (begun : States) → length groups.states.items ≤ place → new.places ≡ places
+        → new.states.items ≡ groups.states.items ++ begun ∷ [] → AreStates statistics begun.list.items []
         → IsEnteredIn keys statistics new (more ++ key_tuple keys r ∷ []) records r place
     unfolding tuple
-    entered_new new group above kept pushed same states =
-        let list = groups.list.items in
+    entered_new new begun above kept pushed none =
+        let old = groups.states.items in
         let t = key_tuple keys r in
-        let before = map group_tuple list in
-        let width = length-map list group_tuple in
         elim stands [
-          | inr one ↦ absurd (omega (arith, one.inside, above, width))
+          | inr one ↦ absurd (omega (arith, one.inside, above, h.long))
           | inl one ↦
-              let at : place ≡ length list = omega (arith, one.behind, width) in
-              let made : map group_tuple new.list.items ≡ before ++ t ∷ [] =
-              ap (map group_tuple) pushed ∙ map_push group_tuple list group ∙ ap (λ u. before ++ u ∷ []) same in
               let had = h.once.each t in
               let split = count_joined (λ u. is_eq (tuple_cmp t u)) more (map (key_tuple keys) records) in
               let empty : members keys records t ≡ [] =
               members_none keys records t (omega (arith, had, split, one.free)) in
-              let long : length new.list.items ≡ length list + 1 = ap length pushed ∙ length-append list (group ∷ []) in
+              let longer = length-append h.tuples (t ∷ []) in
+              let grown = ap length pushed ∙ length-append old (begun ∷ []) in
               record {
-                inside = omega arith;
-                tuple = λ d. ap group_tuple (ap (λ l. get_or l place d) pushed ∙ get_last list group place d at) ∙ same;
                 are = record {
-                  known = subst (λ p. AreKnown p (map tuple_text (map group_tuple new.list.items))) (sym kept)
-                      (subst (λ l. AreKnown places (map tuple_text l)) (sym made) one.known);
-                  once = subst (λ l. HasEachOnce tuple_cmp l ((more ++ t ∷ []) ++ map (key_tuple keys) records)) (sym made)
-                      (once_alike tuple_cmp tuple_cmp_total tuple_tells (before ++ t ∷ [])
+                  tuples = h.tuples ++ t ∷ [];
+                  known = subst (λ p. AreKnown p (map tuple_text (h.tuples ++ t ∷ []))) (sym kept) one.known;
+                  once = once_alike tuple_cmp tuple_cmp_total tuple_tells (h.tuples ++ t ∷ [])
                       ((more ++ map (key_tuple keys) records) ++ t ∷ [])
                       ((more ++ t ∷ []) ++ map (key_tuple keys) records) entered_alike
-                      (once_new tuple_cmp tuple_cmp_total tuple_tells before (more ++ map (key_tuple keys) records) t
-                      h.once one.free));
-                  wide = subst (HaveLength (length keys)) (sym made)
-                      (wide_more (length keys) before t h.wide (length-map keys (key_value r)) short);
+                      (once_new tuple_cmp tuple_cmp_total tuple_tells h.tuples (more ++ map (key_tuple keys) records) t
+                      h.once one.free);
+                  wide = wide_more (length keys) h.tuples t h.wide (length-map keys (key_value r)) short;
+                  long = omega (arith, grown, longer, h.long);
                   states = λ k d within. elim (cases_eq k place) [
                     | inl e ↦
-                        let one_is : get_or new.list.items k d ≡ group =
-                        ap (λ l. get_or l k d) pushed ∙ get_last list group k d (e ∙ at) in
-                        subst (λ g. AreStates statistics g.states.items (members keys records (group_tuple g)))
-                        (sym one_is)
-                        (subst (λ u. AreStates statistics group.states.items (members keys records u)) (sym same)
-                        (subst (AreStates statistics group.states.items) (sym empty) states))
+                        let states_are : get_or new.states.items k d ≡ begun =
+                        ap (λ l. get_or l k d) pushed
+                        ∙ get_last old begun k d (omega (arith, e, one.behind, h.long)) in
+                        let tuple_is : get_or (h.tuples ++ t ∷ []) k [] ≡ t =
+                        get_last h.tuples t k [] (e ∙ one.behind) in
+                        subst (λ s. AreStates statistics s.list.items
+                        (members keys records (get_or (h.tuples ++ t ∷ []) k []))) (sym states_are)
+                        (subst (λ u. AreStates statistics begun.list.items (members keys records u)) (sym tuple_is)
+                        (subst (AreStates statistics begun.list.items) (sym empty) none))
                     | inr ne ↦
-                        let below : k < length list = omega (arith, ne) in
-                        let one_is : get_or new.list.items k d ≡ get_or list k d =
-                        ap (λ l. get_or l k d) pushed ∙ get_front list (group ∷ []) k d below in
-                        subst (λ g. AreStates statistics g.states.items (members keys records (group_tuple g)))
-                        (sym one_is) (h.states k d below)
+                        let below : k < length h.tuples = omega (arith, ne, within, longer, one.behind) in
+                        let states_are : get_or new.states.items k d ≡ get_or old k d =
+                        ap (λ l. get_or l k d) pushed
+                        ∙ get_front old (begun ∷ []) k d (omega (arith, below, h.long)) in
+                        subst (λ s. AreStates statistics s.list.items
+                        (members keys records (get_or (h.tuples ++ t ∷ []) k []))) (sym states_are)
+                        (subst (λ u. AreStates statistics (get_or old k d).list.items (members keys records u))
+                        (sym (get_front h.tuples (t ∷ []) k [] below)) (h.states k d below))
                   ];
                 };
+                inside = omega (arith, longer, one.behind);
+                tuple = get_last h.tuples t place [] one.behind;
               }
         ]
 
-  -- ---- the group takes the record
+  -- ---- the states take the record
 
   pub gathered : (old new : Groups) (place : ℕ)
       → IsEnteredIn keys statistics old (more ++ key_tuple keys r ∷ []) records r place → new.places ≡ old.places
-      → length new.list.items ≡ length old.list.items
-      → ((k : ℕ) (d : Group) → k ≢ place → get_or new.list.items k d ≡ get_or old.list.items k d)
-      → ((d : Group) → group_tuple (get_or new.list.items place d) ≡ group_tuple (get_or old.list.items place d))
-      → ((d : Group) → TakesRecord statistics (get_or old.list.items place d).states.items
-      (get_or new.list.items place d).states.items r) → length records < 2 ^ 32
+      → length new.states.items ≡ length old.states.items
+      → ((k : ℕ) (d : States) → k ≢ place → get_or new.states.items k d ≡ get_or old.states.items k d)
+      → ((d : States) → TakesRecord statistics (get_or old.states.items place d).list.items
+      (get_or new.states.items place d).list.items r) → length records < 2 ^ 32
       → AreGroups keys statistics new more (records ++ r ∷ [])
   unfolding tuple
-  gathered old new place h places long others same takes few =
+  gathered old new place h places long others takes few =
       let t = key_tuple keys r in
-      let test = λ (u : Tuple). is_eq (tuple_cmp t u) in
-      let tuples : map group_tuple new.list.items ≡ map group_tuple old.list.items =
-      tuples_same new.list.items old.list.items long
-      (λ k d within. elim (cases_eq k place) [
-        | inl e ↦
-            subst (λ j. group_tuple (get_or new.list.items j d) ≡ group_tuple (get_or old.list.items j d)) (sym e)
-            (same d)
-        | inr ne ↦ ap group_tuple (others k d ne)
-      ]) in
+      let tuples = h.are.tuples in
       let pushed : map (key_tuple keys) (records ++ r ∷ []) ≡ map (key_tuple keys) records ++ t ∷ [] =
       map_push (key_tuple keys) records r in
       record {
-        known = subst (λ p. AreKnown p (map tuple_text (map group_tuple new.list.items))) (sym places)
-            (subst (λ l. AreKnown old.places (map tuple_text l)) (sym tuples) h.are.known);
-        once = subst (λ l. HasEachOnce tuple_cmp l (more ++ map (key_tuple keys) (records ++ r ∷ []))) (sym tuples)
-            (once_alike tuple_cmp tuple_cmp_total tuple_tells (map group_tuple old.list.items)
+        tuples = tuples;
+        known = subst (λ p. AreKnown p (map tuple_text tuples)) (sym places) h.are.known;
+        once = once_alike tuple_cmp tuple_cmp_total tuple_tells tuples
             ((more ++ t ∷ []) ++ map (key_tuple keys) records) (more ++ map (key_tuple keys) (records ++ r ∷ []))
             (λ x. sym (entered_alike x)
             ∙ ap (count tuple_cmp x) (append_assoc more (map (key_tuple keys) records) (t ∷ [])
-            ∙ ap (λ l. more ++ l) (sym pushed))) h.are.once);
-        wide = subst (HaveLength (length keys)) (sym tuples) h.are.wide;
+            ∙ ap (λ l. more ++ l) (sym pushed))) h.are.once;
+        wide = h.are.wide;
+        long = long ∙ h.are.long;
         states = λ k d within. elim (cases_eq k place) [
           | inl e ↦
-              let of : group_tuple (get_or new.list.items k d) ≡ t =
-              ap (λ j. group_tuple (get_or new.list.items j d)) e ∙ same d ∙ h.tuple d in
+              let of : get_or tuples k [] ≡ t = ap (λ j. get_or tuples j []) e ∙ h.tuple in
               let grown : members keys (records ++ r ∷ []) t ≡ members keys records t ++ r ∷ [] =
               members_more keys records r t
               ∙ ap (λ b. cond b (members keys records t ++ r ∷ []) (members keys records t))
               (itself tuple_cmp tuple_cmp_total tuple_tells t) in
               let before =
-              subst (λ u. AreStates statistics (get_or old.list.items place d).states.items (members keys records u))
-              (h.tuple d) (h.are.states place d h.inside) in
+              subst (λ u. AreStates statistics (get_or old.states.items place d).list.items (members keys records u))
+              h.tuple (h.are.states place d h.inside) in
               let small = members_few keys records t in
               let after = takes d (members keys records t) (omega arith) before in
-              subst (λ j. AreStates statistics (get_or new.list.items j d).states.items
-              (members keys (records ++ r ∷ []) (group_tuple (get_or new.list.items k d)))) (sym e)
-              (subst (λ u. AreStates statistics (get_or new.list.items place d).states.items
+              subst (λ j. AreStates statistics (get_or new.states.items j d).list.items
+              (members keys (records ++ r ∷ []) (get_or tuples k []))) (sym e)
+              (subst (λ u. AreStates statistics (get_or new.states.items place d).list.items
               (members keys (records ++ r ∷ []) u)) (sym of)
-              (subst (AreStates statistics (get_or new.list.items place d).states.items) (sym grown) after))
+              (subst (AreStates statistics (get_or new.states.items place d).list.items) (sym grown) after))
           | inr ne ↦
-              let there : k < length old.list.items = omega arith in
-              let u = group_tuple (get_or old.list.items k d) in
+              let u = get_or tuples k [] in
               let apart : is_eq (tuple_cmp t u) ≡ false =
               false_from_ne_true (is_eq (tuple_cmp t u)) (λ eq.
-              let two = twice old.list.items t k place d ne there h.inside (sym (tuple_tells t u eq))
-              (h.tuple d) in
+              let two = twice tuples t k place ne within h.inside (sym (tuple_tells t u eq)) h.tuple in
               let once = h.are.once.each t in
               omega arith) in
-              subst (λ g. AreStates statistics g.states.items (members keys (records ++ r ∷ []) (group_tuple g)))
-              (sym (others k d ne))
-              (subst (AreStates statistics (get_or old.list.items k d).states.items)
+              subst (λ s. AreStates statistics s.list.items (members keys (records ++ r ∷ []) u)) (sym (others k d ne))
+              (subst (AreStates statistics (get_or old.states.items k d).list.items)
               (sym (members_more keys records r u
               ∙ ap (λ b. cond b (members keys records u ++ r ∷ []) (members keys records u)) apart))
-              (h.are.states k d there))
+              (h.are.states k d within))
         ];
       }
 
@@ -408,15 +352,23 @@ taken_more keys statistics old new more before taken i r within is few takes h =
 
 -- no groups
 pub groups_none : (keys : List GroupBy) (statistics : List Statistic) (groups : Groups) → AreKnown groups.places []
-    → groups.list.items ≡ [] → AreGroups keys statistics groups [] []
-groups_none keys statistics groups known none =
-    let tuples : map group_tuple groups.list.items ≡ [] = ap (map group_tuple) none in
-    record {
-      known = subst (λ l. AreKnown groups.places (map tuple_text l)) (sym tuples) known;
-      once = subst (λ l. HasEachOnce tuple_cmp l []) (sym tuples) (record { each = λ x. refl });
-      wide = subst (HaveLength (length keys)) (sym tuples) tt;
-      states = λ k d within. let long = ap length none in absurd (omega arith);
-    }
+    → groups.states.items ≡ [] → AreGroups keys statistics groups [] []
+groups_none keys statistics groups known none = record {
+  tuples = [];
+  known = known;
+  once = record { each = λ x. refl };
+  wide = tt;
+  long = ap length none;
+  states = λ k d within. absurd (omega arith);
+}
+
+-- where there are keys
+pub groups_empty : (keys : List Key) (statistics : List Statistic) (groups : Groups) → 0 < length keys
+    → AreKnown groups.places [] → groups.states.items ≡ []
+    → AreGroups (map grouped_by keys) statistics groups (opening (map grouped_by keys)) []
+groups_empty [] statistics groups some known none = absurd (omega arith)
+groups_empty (key ∷ keys) statistics groups some known none =
+    groups_none (map grouped_by (key ∷ keys)) statistics groups known none
 
 -- the groups of no records
 pub groups_begun : (keys : List Key) (statistics : List Statistic) (new : Groups) (r : Record) (place : ℕ)

@@ -7,7 +7,7 @@ use Rattle.std.proofs.lemmas.List.Elements.{filter_map-append}
 use Rattle.std.proofs.lemmas.List.Sums.{fold_push}
 use Rattle.std.specs.Cmp.{upto}
 use Rattle.std.specs.Int.{w64}
-use Rattle.std.specs.List.{AllByRecursion, filter, filter_map, fold}
+use Rattle.std.specs.List.{AllByRecursion, filter_map, fold}
 use Rattle.std.specs.Ordering.{is_eq, is_gt, is_lt}
 use Rattle.std.specs.declared.cmp.Ordering.{Ordering}
 use Rattle.std.specs.declared.cmp.Ordering.TheVariants.{Equal, Greater, Less}
@@ -17,6 +17,7 @@ use Rattle.log_model.specs.Order.{number_of, value_cmp}
 use Rattle.lq_ast.proofs.Sorted.{Rises, all_sorted, rises_sorted, split_bool}
 use Rattle.lq_ast.specs.Statistics.{first_text, last_text}
 use Rattle.lq_ast.specs.Tuples.{insert_by, sorted_by}
+use Rattle.lq_tuple.proofs.Lists.{filter_more}
 use Rattle.lq_tuple.proofs.Once.{count_cons, count_more, filtered_same, once_alike, sorted_same}
 use Rattle.lq_tuple.proofs.Tuples.{value_tells}
 use Rattle.lq_stats.specs.Measure.{AreMeasured, are_filled, greater, lesser, sum_of, with_number, within_128}
@@ -153,23 +154,6 @@ sum_sorted (v ∷ vs) =
     ∙ ap (joined (number_of v)) (sum_sorted vs) ∙ sym (value_sum_joined v vs)
 
 -- ---- the values that are not empty
-
-pub filter_more : {A : Type 0} (keep : A → Bool) (xs : List A) (x : A)
-    → filter keep (xs ++ x ∷ []) ≡ cond (keep x) (filter keep xs ++ x ∷ []) (filter keep xs)
-filter_more keep [] x = refl
-filter_more keep (y ∷ ys) x =
-    elim (keep y) as
-    (λ t. cond t (y ∷ filter keep (ys ++ x ∷ [])) (filter keep (ys ++ x ∷ []))
-    ≡ cond (keep x) (cond t (y ∷ filter keep ys) (filter keep ys) ++ x ∷ []) (cond t (y ∷ filter keep ys)
-    (filter keep ys))) [
-      | true ↦ ap (λ l. y ∷ l) (filter_more keep ys x) ∙ moved (keep x)
-      | false ↦ filter_more keep ys x
-    ]
-  where
-    moved : (t : Bool) → y ∷ cond t (filter keep ys ++ x ∷ []) (filter keep ys)
-        ≡ cond t (y ∷ (filter keep ys ++ x ∷ [])) (y ∷ filter keep ys)
-    moved true = refl
-    moved false = refl
 
 turned_cond : {A : Type 0} (t : Bool) (x y : A) → cond (not t) x y ≡ cond t y x
 turned_cond true x y = refl

@@ -1,6 +1,6 @@
 -- What functions keep of records, as one more comes.
 use Rattle.std.proofs.Common.{◌≡◌, ℕ, ◌+◌, ◌*◌, ◌-◌, ◌^◌, ◌<◌, ◌≤◌, Bool, true, false, not, ◌||◌, cond, List, [], ◌∷◌}
-use Rattle.std.proofs.Common.{◌++◌, length, map, append_assoc, length-append, get_or, take, None, min, refl, sym, ap, ◌∙◌, arith}
+use Rattle.std.proofs.Common.{◌++◌, length, map, append_assoc, length-append, get_or, take, is_some, Option, Some, None, min, refl, sym, ap, ◌∙◌, arith}
 use Rattle.std.proofs.lemmas.List.{length-map, length-take, map_more, map_push}
 use Rattle.std.proofs.lemmas.List.Sums.{count_by-le-length, length-filter}
 use Rattle.std.specs.List.{count_by, filter, filter_map}
@@ -10,7 +10,7 @@ use Rattle.log_model.specs.Order.{number_of, value_cmp}
 use Rattle.lq_ast.specs.Records.{Record}
 use Rattle.lq_ast.specs.Statistics.{counted, first_text, has_some, last_text, values}
 use Rattle.lq_ast.specs.Tuples.{is_wholly_empty, sorted_by, tuple_of}
-use Rattle.lq_stats.proofs.Measuring.{filter_more}
+use Rattle.lq_tuple.proofs.Lists.{filter_more}
 use Rattle.lq_tuple.proofs.Once.{count_cons, count_joined, count_more}
 use Rattle.lq_stats.specs.Measure.{are_filled, sum_of}
 use Rattle.lq_tuple.specs.Once.{count}
@@ -53,6 +53,13 @@ empty_few names records =
     omega arith
 
 -- ---- tuples
+
+pub some_has : {A : Type 0} (x : A) (has : Bool) → is_some (Some x) ≡ has → has ≡ true
+some_has x has e = sym e
+
+pub none_has : {A : Type 0} (o : Option A) (has : Bool) → ((x : A) → o ≡ Some x → ⊥) → is_some o ≡ has → has ≡ false
+none_has (Some x) has out e = absurd (out x refl)
+none_has None has out e = sym e
 
 pub tuples_more : (names : List (List ℕ)) (records : List Record) (r : Record)
     → filter (λ tuple. not (is_wholly_empty tuple)) (map (tuple_of names) (records ++ r ∷ []))

@@ -1,23 +1,24 @@
 -- The records that are made of groups.
-use Rattle.std.specs.Prelude.{◌≡◌, ℕ, ◌^◌, ◌&&◌, List, [], ◌∷◌, map, zip, decimal, ℤ, pos, neg_ℤ, int_le, int_lt}
+use Rattle.std.specs.Prelude.{◌≡◌, ℕ, ◌^◌, ◌&&◌, List, [], ◌∷◌, zip, decimal, ℤ, pos, neg_ℤ, int_le, int_lt}
 use Rattle.std.specs.Prelude.{Option, Some, None, Result, Ok, Err, if◌then◌else◌}
+use Rattle.std.specs.Borrow.{Bor}
 use Rattle.std.specs.Fmt.{signed_decimal}
 use Rattle.log_model.specs.Order.{value_cmp}
 use Rattle.lq_ast.specs.Grouping.{◌>>=◌, put}
 use Rattle.lq_ast.specs.Records.{Record, put_fields}
-use Rattle.lq_ast.specs.Stage.{GroupBy, Statistic}
+use Rattle.lq_ast.specs.Stage.{Statistic}
 use Rattle.lq_ast.specs.Statistics.{array_text}
-use Rattle.lq_ast.specs.Tuples.{sorted_by}
+use Rattle.lq_ast.specs.Tuples.{Tuple, sorted_by}
+use Rattle.lq_tuple.specs.Groups.{group_tuple}
 use Rattle.lq_tuple.specs.Texts.{count_of}
+use Rattle.lq_tuple.specs.declared.group.Group.{Group}
 use Rattle.lq_stats.specs.declared.fault.StatFault.{StatFault}
 use Rattle.lq_stats.specs.declared.fault.StatFault.TheVariants.{Overflow, Memory}
-use Rattle.lq_stats.specs.declared.keyed.Keyed.{Keyed}
-use Rattle.lq_stats.specs.declared.groups.Group.{Group}
+use Rattle.lq_stats.specs.declared.groups.States.{States}
 use Rattle.lq_stats.specs.declared.measure.Measure.{Measure}
 use Rattle.lq_stats.specs.declared.measure.Measure.TheVariants.{Sum, Min, Max, UniqValues}
 use Rattle.lq_stats.specs.declared.state.State.{State}
 use Rattle.lq_stats.specs.declared.state.State.TheVariants.{Count, CountEmpty, CountUniq, OfValues}
-use Rattle.lq_stats.specs.Groups.{group_tuple}
 
 -- empty where there is no sum, and no text where it is no 64-bit integer
 abbrev pub total_text : Option ℤ → Option (List ℕ)
@@ -44,12 +45,14 @@ set_states [] states r = Ok r
 set_states (s ∷ ss) [] r = Ok r
 set_states (s ∷ ss) (state ∷ states) r = put s.name r (state_text state) >>= set_states ss states
 
-abbrev pub made_record : List GroupBy → List Statistic → Group → Result Record (List ℕ)
-made_record keys statistics group =
-    set_states statistics group.states.items (put_fields [] (zip (map (λ key. key.0) keys) (group_tuple group)))
+-- a group's tuple, and what was kept of its records
+abbrev pub group_pair : Group (Bor States) → Tuple × States
+group_pair group = (group_tuple group, group.kept.now)
 
-abbrev pub keyed_group : Keyed → Group
-keyed_group keyed = keyed.group.now
+-- its record, where the keys have these names
+abbrev pub made_record : List (List ℕ) → List Statistic → Group (Bor States) → Result Record (List ℕ)
+made_record names statistics group =
+    set_states statistics group.kept.now.list.items (put_fields [] (zip names (group_tuple group)))
 
 -- The fault is want of memory, or the first function that is named where there is no record.
 abbrev pub IsFault : {A : Type 0} → Result A (List ℕ) → StatFault → Type 0

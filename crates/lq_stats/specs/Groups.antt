@@ -9,8 +9,8 @@ use Rattle.lq_tuple.specs.Counted.{HaveLength, tuple_text}
 use Rattle.lq_tuple.specs.Once.{HasEachOnce}
 use Rattle.lq_tuple.specs.Places.{AreKnown}
 use Rattle.lq_stats.specs.State.{AreTaken, state_call}
-use Rattle.lq_stats.specs.declared.groups.Group.{Group}
 use Rattle.lq_stats.specs.declared.groups.Groups.{Groups}
+use Rattle.lq_stats.specs.declared.groups.States.{States}
 use Rattle.lq_stats.specs.declared.state.State.{State}
 
 -- The state is that of the function over these records.
@@ -34,26 +34,25 @@ TakesRecord statistics old new r =
     (records : List Record) → length records < 2 ^ 32 → AreStates statistics old records
     → AreStates statistics new (records ++ r ∷ [])
 
-abbrev pub group_tuple : Group → Tuple
-group_tuple group = group.tuple.items
-
--- The groups are those of the tuples of the records and of some more, each tuple once, and their states are those of
--- their records.
+-- The texts are those of the tuples of the records and of some more, each tuple once, and the states at its place are
+-- those of its records.
 pub record AreGroups (keys : List GroupBy) (statistics : List Statistic) (groups : Groups) (more : List Tuple)
     (records : List Record) : Type 0 where
-  pub known : AreKnown groups.places (map tuple_text (map group_tuple groups.list.items))
-  pub once : HasEachOnce tuple_cmp (map group_tuple groups.list.items) (more ++ map (key_tuple keys) records)
-  pub wide : HaveLength (length keys) (map group_tuple groups.list.items)
-  pub states : (k : ℕ) (d : Group) → k < length groups.list.items
-      → AreStates statistics (slice_index_or groups.list.items k d).states.items
-      (members keys records (group_tuple (slice_index_or groups.list.items k d)))
+  pub tuples : List Tuple
+  pub known : AreKnown groups.places (map tuple_text tuples)
+  pub once : HasEachOnce tuple_cmp tuples (more ++ map (key_tuple keys) records)
+  pub wide : HaveLength (length keys) tuples
+  pub long : length groups.states.items ≡ length tuples
+  pub states : (k : ℕ) (d : States) → k < length tuples
+      → AreStates statistics (slice_index_or groups.states.items k d).list.items
+      (members keys records (slice_index_or tuples k []))
 
--- The group of a record's tuple stands at this place among these groups.
+-- The tuple of a record stands at this place among those of these groups.
 pub record IsEnteredIn (keys : List GroupBy) (statistics : List Statistic) (groups : Groups) (more : List Tuple)
     (records : List Record) (r : Record) (place : ℕ) : Type 0 where
-  pub inside : place < length groups.list.items
-  pub tuple : (d : Group) → group_tuple (slice_index_or groups.list.items place d) ≡ key_tuple keys r
   pub are : AreGroups keys statistics groups more records
+  pub inside : place < length are.tuples
+  pub tuple : slice_index_or are.tuples place [] ≡ key_tuple keys r
 
 -- It is new where the tuple is.
 abbrev pub IsEntered : List GroupBy → List Statistic → Groups → Groups → Record → ℕ → Type 0

@@ -2,6 +2,7 @@ pub mod Finish
 pub mod Function
 pub mod Groups
 pub mod Key
+pub mod Keyed
 pub mod Measure
 pub mod Partial
 pub mod State

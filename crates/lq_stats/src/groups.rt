@@ -1,6 +1,5 @@
 //! Groups of records.
 ghost use Rattle.std.specs.Prelude.{◌≡◌, [], map, IfOk, OnOk};
-ghost use Rattle.lq_ast.specs.Groups.{key_tuple};
 ghost use Rattle.lq_stats.specs.Key.{grouped_by};
 ghost use Rattle.lq_stats.specs.Function.{scanned_statistic, statistic_of};
 ghost use Rattle.lq_stats.specs.Groups.{AreStates, IsEntered, TakeRecord, TakeRecords, TakesOne, TakesRecord};
@@ -9,35 +8,28 @@ ghost use Rattle.lq_tuple.specs.Places.{AreKnown};
 use crate::function::Function;
 use crate::function_scan::{FunctionScan, scans};
 use crate::key::Key;
-use crate::keys::key_tuple;
 use crate::scratch::Scratch;
 use crate::state::State;
 use lq_tuple::Places;
 use std::alloc::{AllocError, Global};
-use vl_row::{FieldList, Text};
+use vl_row::FieldList;
 
-/// The records of one tuple of the keys' values: what each function keeps of them.
+/// What each function keeps of the records of one tuple of the keys' values.
 #[derive(Drop)]
-pub(crate) struct Group {
-    pub(crate) tuple: Vec<Text>,
-    pub(crate) states: Vec<State>,
+pub(crate) struct States {
+    pub(crate) list: Vec<State>,
 }
 
-impl Group {
-    /// The group of the tuple of a record, without a record.
-    fn of(
-        scratch: &mut Scratch,
-        keys: &[Key],
-        scans: &[FunctionScan],
-        fields: &FieldList,
-    ) -> Result<Group, AllocError>
-        ensures tuple { IfOk result (λ group. group.tuple.items ≡ key_tuple (map grouped_by keys.now) fields.now) }
-        ensures states { IfOk result (λ group. AreStates (map scanned_statistic scans.now) group.states.items []) }
+impl States {
+    /// The states of functions over no records.
+    fn of(alloc: Global, scans: &[FunctionScan]) -> Result<States, AllocError>
+        ensures { IfOk result (λ states. AreStates (map scanned_statistic scans.now) states.list.items []) }
     {
-        Ok(Group {
-            tuple: key_tuple(scratch.alloc, &mut scratch.bucket, keys, fields)?,
-            states: states(scratch.alloc, scans)?,
-        })
+        let mut list = Vec::with_capacity(alloc, scans.len())?;
+        for scan in scans {
+            list.push(State::of(alloc, scan.function.call))?;
+        }
+        Ok(States { list })
     }
 
     /// Takes one more record.
@@ -47,14 +39,13 @@ impl Group {
         scans: &mut [FunctionScan],
         fields: &FieldList,
     ) -> Result<(), AllocError>
-        ensures tuple { self.new.tuple ≡ self.old.tuple }
         ensures same { OnOk result (map scanned_statistic scans.new ≡ map scanned_statistic scans.old) }
         ensures taken { OnOk result (TakesRecord (map scanned_statistic scans.old)
-            self.old.states.items self.new.states.items fields.now) }
+            self.old.list.items self.new.list.items fields.now) }
     {
-        let count = scans.len().min(self.states.len());
+        let count = scans.len().min(self.list.len());
         for i in 0..count {
-            add_to(&mut self.states[i], scratch, &mut scans[i], fields)?;
+            add_to(&mut self.list[i], scratch, &mut scans[i], fields)?;
         }
         Ok(())
     }
@@ -76,33 +67,22 @@ fn add_to(
     state.add(scratch, scan.function.names.as_slice(), fields)
 }
 
-/// The states of functions over no records.
-fn states(alloc: Global, scans: &[FunctionScan]) -> Result<Vec<State>, AllocError>
-    ensures { IfOk result (λ states. AreStates (map scanned_statistic scans.now) states.items []) }
-{
-    let mut states = Vec::with_capacity(alloc, scans.len())?;
-    for scan in scans {
-        states.push(State::of(alloc, scan.function.call))?;
-    }
-    Ok(states)
-}
-
-/// The groups of some records, in the order in which their tuples came.
+/// The groups of some records. Of each tuple its text is kept alone, and the states that have the number of that text.
 #[derive(Drop)]
 pub(crate) struct Groups {
     pub(crate) places: Places,
-    pub(crate) list: Vec<Group>,
+    pub(crate) states: Vec<States>,
 }
 
 impl Groups {
     /// No groups. This allocates nothing.
     pub(crate) fn new(alloc: Global) -> Groups
         ensures known { AreKnown result.places [] }
-        ensures none { result.list.items ≡ [] }
+        ensures none { result.states.items ≡ [] }
     {
         Groups {
             places: Places::new(alloc),
-            list: Vec::new(alloc),
+            states: Vec::new(alloc),
         }
     }
 
@@ -138,13 +118,13 @@ impl Groups {
             self.old self.new fields.now) }
     {
         let place = self.place(scratch, keys, scans, fields)?;
-        if place < self.list.len() {
-            self.list[place].add(scratch, scans, fields)?;
+        if place < self.states.len() {
+            self.states[place].add(scratch, scans, fields)?;
         }
         Ok(())
     }
 
-    /// Where the group of a record's tuple stands; a new group is added for a new tuple.
+    /// Where the states of a record's tuple stand; new ones are added for a new tuple.
     pub(crate) fn place(
         &mut self,
         scratch: &mut Scratch,
@@ -158,11 +138,11 @@ impl Groups {
         let alloc = scratch.alloc;
         let text = scratch.key_text(keys, fields)?;
         let place = self.places.place(alloc, text)?;
-        if place < self.list.len() {
+        if place < self.states.len() {
             return Ok(place);
         }
-        let group = Group::of(scratch, keys, scans, fields)?;
-        self.list.push(group)?;
+        let states = States::of(alloc, scans)?;
+        self.states.push(states)?;
         Ok(place)
     }
 }

@@ -1,14 +1,13 @@
-//! Groups in tuple order.
-ghost use Rattle.std.specs.Prelude.{◌≡◌, map};
+//! Texts with what they are compared by.
+ghost use Rattle.std.specs.Prelude.{◌≡◌};
 ghost use Rattle.log_model.specs.Order.{key_of};
 
-use crate::groups::Group;
 use vl_row::ValueKey;
 
-/// A group, and what its tuple is compared by.
+/// A text, and what it is compared by.
 #[derive(Drop)]
-pub(crate) struct Keyed<'a> {
-    pub(crate) keys: Vec<ValueKey<'a>>,
-    pub(crate) group: &'a Group,
-    ghost same: { keys.items ≡ map key_of group.now.tuple.items },
+pub(crate) struct KeyedText<'a> {
+    pub(crate) key: ValueKey<'a>,
+    pub(crate) text: &'a str,
+    ghost same: { key ≡ key_of text.now },
 }

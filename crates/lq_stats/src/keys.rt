@@ -1,6 +1,6 @@
 //! Keys, and their values in records.
 ghost use Rattle.std.specs.Prelude.{◌≡◌, IfOk, map};
-ghost use Rattle.lq_ast.specs.Groups.{key_tuple, key_value};
+ghost use Rattle.lq_ast.specs.Groups.{key_value};
 ghost use Rattle.lq_ast.specs.PipeView.{group_by};
 ghost use Rattle.lq_stats.specs.Key.{grouped_by};
 
@@ -8,7 +8,7 @@ use crate::bucket::Bucket;
 use crate::key::Key;
 use lq_ast::StatKey;
 use std::alloc::{AllocError, Global};
-use vl_row::{FieldList, Text};
+use vl_row::FieldList;
 
 /// The keys of a pipe.
 pub(crate) fn keys(alloc: Global, keys: &[StatKey]) -> Result<Vec<Key>, AllocError>
@@ -30,21 +30,16 @@ fn key_of(alloc: Global, key: &StatKey) -> Result<Key, AllocError>
     })
 }
 
-/// The tuple of the values of these keys.
-pub(crate) fn key_tuple(
-    alloc: Global,
-    bucket: &mut Bucket,
-    keys: &[Key],
-    fields: &FieldList,
-) -> Result<Vec<Text>, AllocError>
-    ensures { IfOk result (λ tuple. tuple.items ≡ key_tuple (map grouped_by keys.now) fields.now) }
+/// The names of these keys.
+pub(crate) fn key_names<'a>(alloc: Global, keys: &'a [Key]) -> Result<Vec<&'a str>, AllocError>
+    ensures { IfOk result (λ names. map (λ name. name.now) names.items
+        ≡ map (λ key. key.0) (map grouped_by keys.entry.now)) }
 {
-    let mut tuple = Vec::with_capacity(alloc, keys.len())?;
+    let mut names = Vec::with_capacity(alloc, keys.len())?;
     for key in keys {
-        let value = key_value(alloc, bucket, key, fields)?;
-        tuple.push(Text::try_of(alloc, value)?)?;
+        names.push(key.name.as_str())?;
     }
-    Ok(tuple)
+    Ok(names)
 }
 
 /// The value of a key.

@@ -20,7 +20,8 @@ use crate::function_scan::scans;
 use crate::functions::functions;
 use crate::groups::Groups;
 use crate::key::Key;
-use crate::keys::keys;
+use crate::keys::{key_names, keys};
+use crate::read::read_groups;
 use crate::scratch::Scratch;
 use lq_ast::StatsPipe;
 use lq_filter::PrepareFault;
@@ -93,12 +94,13 @@ impl Partial {
         ensures fault { IfErr result (λ fault. (g : Grouping) (records : List Record) → StandsFor self g records
             → IsFault (grouped g records) fault) }
     {
-        records(
-            alloc,
-            self.keys.as_slice(),
-            self.functions.as_slice(),
-            self.groups.list.as_slice(),
-        )
+        let keys = self.keys.as_slice();
+        let texts = self.groups.places.texts(alloc)?;
+        let states = self.groups.states.as_slice();
+        let groups = read_groups(alloc, texts.as_slice(), states, keys.len())?;
+        let names = key_names(alloc, keys)?;
+        let functions = self.functions.as_slice();
+        records(alloc, names.as_slice(), functions, groups.as_slice())
     }
 }
 

@@ -11,7 +11,7 @@ use crate::measure::Measure;
 use crate::scratch::Scratch;
 use crate::words::Words;
 use lq_ast::Call;
-use lq_tuple::{Texts, is_wholly_empty, tuple_text};
+use lq_tuple::{Texts, filled_text, is_wholly_empty};
 use std::alloc::{AllocError, Global};
 use vl_row::{FieldList, Text};
 
@@ -103,11 +103,10 @@ fn count_tuple(
         → AreCounted texts.new (length names.now)
         (if has_some names.now fields.now then tuples ++ tuple_of names.now fields.now ∷ [] else tuples)) }
 {
-    if !has_some(names, fields) {
-        return Ok(());
-    }
     let alloc = scratch.alloc;
-    let text = tuple_text(&mut scratch.text, names, fields)?;
+    let Some(text) = filled_text(&mut scratch.text, names, fields)? else {
+        return Ok(());
+    };
     texts.add(alloc, text)
 }
 

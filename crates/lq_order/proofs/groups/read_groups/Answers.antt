@@ -1,7 +1,8 @@
-use Rattle.std.proofs.Common.{◌≡◌, [], ◌∙◌, List, ℕ, Bor, ap, false, get_or, map, refl, subst, sym, arith}
+use Rattle.std.proofs.Common.{◌≡◌, [], ◌∙◌, List, ℕ, Bor, ap, false, get_or, refl, subst, sym, arith}
 use Rattle.std.proofs.lemmas.Bool.{false_from_ne_true, le-leb, leb-true}
 use Rattle.std.specs.Bool.{nat_le}
-use Rattle.lq_order.proofs.ReadGroups.{AreRead, read_kept, read_left, tuple_at}
+use Rattle.lq_tuple.proofs.ReadEach.{tuple_at}
+use Rattle.lq_order.proofs.ReadGroups.{AreRead, read_kept, read_left}
 use Rattle.lq_order.proofs.groups.read_groups.Goals as goal
 use Rattle.lq_order.proofs.groups.read_groups.Goals.{then-hits-least+in_ok-tuple+in_ok-push, else-hits-least}
 
@@ -13,7 +14,7 @@ loop-i-preserved c = λ tuples same wide long.
     let least = c.args.least in
     let none : Bor (List ℕ) = record { ref_ptr = (0, 0); now = [] } in
     let so_far = c.loop-i.invariant tuples same wide long in
-    let at = tuple_at texts tuples c.args.hits.now c.args.width least same wide long i none (omega arith) in
+    let at = tuple_at texts tuples c.args.width same wide i none (omega arith) in
     elim c.if-hits-least.branch [
       | then-hits-least+in_ok-tuple+in_ok-push w ↦
           read_kept texts tuples c.args.hits.now c.args.width least same wide long i number c.loop-i.groups.items

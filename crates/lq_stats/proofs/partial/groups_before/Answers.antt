@@ -1,11 +1,17 @@
-use Rattle.std.proofs.Common.{◌≡◌, ◌∙◌, [], ap, length, map, subst, arith}
+use Rattle.std.proofs.Common.{◌≡◌, ◌<◌, ◌∙◌, [], ap, length, map, subst, arith}
 use Rattle.std.proofs.lemmas.Grind.{common_steps}
-use Rattle.lq_stats.proofs.Gathering.{groups_begun, groups_none}
-use Rattle.lq_stats.specs.Function.{scanned_statistic}
+use Rattle.lq_stats.proofs.Gathering.{groups_begun, groups_empty, groups_none}
+use Rattle.lq_stats.specs.Function.{scanned_statistic, statistic_of}
 use Rattle.lq_stats.specs.Groups.{AreGroups}
 use Rattle.lq_stats.specs.Key.{grouped_by}
 use Rattle.lq_stats.specs.Partial.{opening}
 use Rattle.lq_stats.proofs.partial.groups_before.Goals as goal
+
+pub returns-then-not-is_empty : goal.returns-then-not-is_empty
+returns-then-not-is_empty c =
+    let some : 0 < length c.args.keys.now = grind (arith, common_steps, c.is_empty.ensures, c.if-not-is_empty.true) in
+    groups_empty c.args.keys.now (map statistic_of c.args.functions.now) c.new-groups.result some
+    c.new-groups.ensures.known c.new-groups.ensures.none
 
 pub returns : goal.returns
 returns c =

@@ -3,7 +3,8 @@ use Rattle.std.proofs.lemmas.Result.{IfOk-weaker}
 use Rattle.std.specs.Ordering.{on}
 use Rattle.lq_ast.specs.Sorting.{at_most}
 use Rattle.lq_ast.specs.Tuples.{sorted_by, tuple_cmp}
-use Rattle.lq_order.specs.Groups.{group_tuple, keyed_group, counted_group}
+use Rattle.lq_tuple.specs.Groups.{group_tuple, keyed_group}
+use Rattle.lq_order.specs.Groups.{counted_group}
 use Rattle.lq_order.proofs.Answering.{uniq_made}
 use Rattle.lq_order.proofs.tally.Tally.uniq.Goals as goal
 

@@ -9,12 +9,12 @@ returns-then-place-len c = λ more records h.
     entered_old (map grouped_by c.args.keys.now) (map scanned_statistic c.args.scans.now) more records c.args.fields.now
     c.args.self.now h c.in_ok-text.ensures.short c.in_ok-text.text.now c.in_ok-text.ensures.text c.place.new.self
     c.in_ok-place.place c.in_ok-place.ensures
-    (omega (arith, c.if-place-len.true, c.len.ensures, c.args.self.now.list.ok.0))
+    (omega (arith, c.if-place-len.true, c.len.ensures, c.args.self.now.states.ok.0))
 
 pub returns : goal.returns
 returns c = λ more records h.
     entered_new (map grouped_by c.args.keys.now) (map scanned_statistic c.args.scans.now) more records c.args.fields.now
     c.args.self.now h c.in_ok-text.ensures.short c.in_ok-text.text.now c.in_ok-text.ensures.text c.place.new.self
-    c.in_ok-place.place c.in_ok-place.ensures (record { places = c.place.new.self; list = c.push.new.self })
-    c.in_ok-group.group (omega (arith, c.if-place-len.false, c.len.ensures, c.args.self.now.list.ok.0)) refl
-    c.in_ok-push.ensures.items c.in_ok-group.ensures.tuple c.in_ok-group.ensures.states
+    c.in_ok-place.place c.in_ok-place.ensures (record { places = c.place.new.self; states = c.push.new.self })
+    c.in_ok-states.states (omega (arith, c.if-place-len.false, c.len.ensures, c.args.self.now.states.ok.0)) refl
+    c.in_ok-push.ensures.items c.in_ok-states.ensures

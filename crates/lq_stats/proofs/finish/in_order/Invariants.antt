@@ -1,6 +1,0 @@
-use Rattle.std.proofs.Common.{◌≡◌, map, take}
-use Rattle.lq_stats.specs.Finish.{keyed_group}
-use Rattle.lq_stats.proofs.finish.in_order.Given as goal
-
-abbrev pub invariant-loop-group : goal.invariant-loop-group
-invariant-loop-group l = map keyed_group l.keyed.items ≡ take l.group-index l.groups
