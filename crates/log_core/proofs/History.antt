@@ -1,10 +1,12 @@
 -- Laws on the history of parts that have their rows in order.
-use Rattle.std.proofs.Common.{◌≡◌, ℕ, suc, ◌+◌, ◌<◌, List, [], ◌∷◌, ◌++◌, length, flat_map, drop, All, refl, ap, subst, ◌∙◌, arith}
+use Rattle.std.proofs.Common.{◌≡◌, ℕ, suc, ◌<◌, List, [], ◌∷◌, ◌++◌, length, flat_map, drop, All, refl, sym, ap}
+use Rattle.std.proofs.Common.{subst, ◌∙◌, arith}
 use Rattle.std.proofs.lemmas.Grind.{flat_map-append}
 use Rattle.std.proofs.lemmas.List.{length-append}
 use Rattle.std.proofs.lemmas.List.Sorted.{length_permutation}
-use Rattle.log_model.specs.Core.{Contents, HoldsEach, Stands, count_of, with_part}
-use Rattle.log_model.specs.History.{AreInOrder, Entry, History, Numbered, batches_in, entry_rows, numbered_in, rows_in, rows_of, with_batch}
+use Rattle.log_model.specs.Core.{Contents, HoldsEach, Stands, count_of, parts_of, with_part}
+use Rattle.log_model.specs.History.{AreInOrder, Entry, History, Numbered, batches_in, entry_rows, numbered_in, rows_in}
+use Rattle.log_model.specs.History.{rows_of, with_batch}
 use Rattle.log_model.specs.Row.{Row}
 use Rattle.log_model.proofs.Numbering.{length_numbered, rows_in_numbered, same_in_order, with_batch_numbered}
 use Rattle.log_core.specs.History.{entries_of, history_in, history_of}
@@ -94,3 +96,28 @@ pub same_history : (held : Contents (List Numbered)) (history : History) → hel
     → batches_in (history_of held) ≡ batches_in history
 same_history held history plain ordered stands =
     same-each 0 held.unsettled history (each_of held history plain stands) ordered
+
+-- It is so where nothing is settled and the rows of all parts are in order.
+pub history-law : (held : Contents (List Numbered)) (parts : List (List Numbered)) → contents_of parts ≡ held
+    → All AreInOrder (parts_of held) → (history : History) → Stands (λ rows. rows) held history
+    → batches_in (history_of held) ≡ batches_in history
+history-law held parts view ordered history stands =
+    let plain : held ≡ contents_of held.unsettled =
+    sym view ∙ ap (λ (h : Contents (List Numbered)). contents_of h.unsettled) view in
+    let none : parts_of held ≡ held.unsettled = ap (λ (h : Contents (List Numbered)). h.days ++ held.unsettled) plain in
+    same_history held history plain (subst (All AreInOrder) none ordered) stands
+
+-- Histories of the same batches have the same rows.
+pub rows_of-batches : (a b : History) → batches_in a ≡ batches_in b → rows_of a ≡ rows_of b
+rows_of-batches a b same = joined a ∙ ap (flat_map (λ rows. rows)) same ∙ sym (joined b)
+  where
+    joined : (h : History) → rows_of h ≡ flat_map (λ rows. rows) (batches_in h)
+    joined [] = refl
+    joined (entry ∷ entries) = ap (λ rows. entry_rows entry ++ rows) (joined entries)
+
+-- So the rows of what is held are those of each history of the same batches.
+pub rows_of-held : (held : Contents (List Numbered)) (history : History) → held ≡ contents_of held.unsettled
+    → batches_in (history_of held) ≡ batches_in history → rows_of history ≡ flat_map rows_in (parts_of held)
+rows_of-held held history plain same =
+    sym (rows_of-batches (history_of held) history same) ∙ rows_of-history held.unsettled
+    ∙ sym (ap (λ (h : Contents (List Numbered)). flat_map rows_in (h.days ++ held.unsettled)) plain)

@@ -1,2 +1,4 @@
 pub mod Standing
+pub mod EntryLaws
 pub mod History
+pub mod Order

@@ -2,10 +2,12 @@
 //! end, and lends looks at them that stay as they were.
 #![tactic(auto)]
 
+mod entries;
 mod fault;
 mod shelf;
 mod snapshot;
 
+pub use entries::EntryRows;
 pub use fault::CommitFault;
 pub use shelf::{Shelf, stands_after_all};
-pub use snapshot::Snapshot;
+pub use snapshot::{Snapshot, history_law};
