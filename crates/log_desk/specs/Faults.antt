@@ -1,0 +1,37 @@
+-- When a batch is not inserted.
+use Rattle.std.specs.Prelude.{◌≡◌, ℕ, ◌+◌, ◌-◌, ◌^◌, ◌<◌, List, codes, decimal, ◌++◌}
+use Rattle.log_model.specs.Core.{held_limit}
+use Rattle.log_core.specs.declared.fault.CommitFault.{CommitFault}
+use Rattle.log_core.specs.declared.fault.CommitFault.TheVariants as commits
+use Rattle.log_desk.specs.declared.fault.InsertFault.{InsertFault}
+use Rattle.log_desk.specs.declared.fault.InsertFault.TheVariants.{Full, Spent, Memory}
+
+-- what a fault of the shelf is to a caller of the desk
+abbrev pub fault_of : CommitFault → InsertFault
+fault_of (commits.Full held) = Full held
+fault_of commits.Spent = Spent
+fault_of commits.Memory = Memory
+
+-- Of so many batches, of which so many are settled, as many wait to be settled as may.
+abbrev pub IsFull : ℕ → ℕ → Type 0
+IsFull count settled = count ≡ settled + held_limit
+
+-- the last number that a batch may have
+abbrev pub last_number : ℕ
+last_number = 2 ^ 63 - 1
+
+-- one more may be inserted
+abbrev pub HasRoom : ℕ → ℕ → Type 0
+HasRoom count settled = (count < settled + held_limit) × (count < last_number)
+
+-- Why one more batch is not inserted: the first of these that applies. Want of memory is free.
+abbrev pub Refuses : ℕ → ℕ → InsertFault → Type 0
+Refuses count settled (Full held) = IsFull count settled × (held ≡ held_limit)
+Refuses count settled Spent = (IsFull count settled → ⊥) × (count ≡ last_number)
+Refuses count settled Memory = Unit {0}
+
+-- how a fault prints
+abbrev pub fault_text : InsertFault → List ℕ
+fault_text (Full held) = codes "full " ++ decimal held
+fault_text Spent = codes "spent"
+fault_text Memory = codes "no memory"

@@ -1,0 +1,106 @@
+//! That each call does what it says.
+ghost use Rattle.turn_lock.specs.Passes.{IsPassOf};
+
+use crate::batches::{batch_of, rows_of};
+use crate::callers::{fault_of_one, insert_by_two};
+use log_desk::{Desk, InsertFault, Pass};
+use std::alloc::{AllocError, Global};
+use std::sync::Wait;
+use std::test::Fail;
+use turn_lock::SplitFault;
+
+#[test]
+fn spent_split(rt: HostRuntime) -> Result<(), Fail> {
+    let fault = fault_of_one(&rt, rt.alloc())?;
+    assert!(rt; matches!(fault, SplitFault::Spent { made: 1 }));
+    Ok(())
+}
+
+/// What two passes of one desk answer: the numbers of their batches and the front between them, and what one look at
+/// the end has of each batch.
+fn by_two<R: Wait>(
+    rt: &R,
+    alloc: Global,
+) -> Result<Option<((u64, u64, u64), u64, u64)>, AllocError> {
+    let (desk, mut pass) = Desk::fresh(rt, alloc, 2)?;
+    let (Some(first), Some(second)) = (batch_of(alloc, "a")?, batch_of(alloc, "b")?) else {
+        return Ok(None);
+    };
+    let Some(numbers) = insert_by_two(rt, alloc, &desk, &mut pass, (first, second)) else {
+        return Ok(None);
+    };
+    let look = desk.look(rt, &mut pass)?;
+    Ok(Some((numbers, rows_of(&look, "a"), rows_of(&look, "b"))))
+}
+
+#[test]
+fn two_passes_of_one_desk(rt: HostRuntime) -> Result<(), Fail> {
+    assert!(rt; by_two(&rt, rt.alloc())? == Some(((1, 1, 2), 1, 1)));
+    Ok(())
+}
+
+/// Inserts so many batches of one row, and says whether they got their numbers in turn.
+fn inserts_in_turn<R: Wait>(
+    rt: &R,
+    alloc: Global,
+    desk: &Desk,
+    pass: &mut Pass,
+    count: u64,
+) -> Result<bool, AllocError>
+    requires { IsPassOf desk.now pass.old }
+    ensures { IsPassOf desk.now pass.new }
+{
+    for number in 1..=count {
+        let Some(batch) = batch_of(alloc, "a")? else {
+            return Ok(false);
+        };
+        let Ok(found) = desk.insert(rt, alloc, pass, batch) else {
+            return Ok(false);
+        };
+        if found != number {
+            return Ok(false);
+        }
+    }
+    Ok(true)
+}
+
+/// Whether one more batch is refused as the 4,097th, and comes back.
+fn is_full<R: Wait>(rt: &R, alloc: Global, desk: &Desk, pass: &mut Pass) -> Result<bool, AllocError>
+    requires { IsPassOf desk.now pass.old }
+    ensures { IsPassOf desk.now pass.new }
+{
+    let Some(batch) = batch_of(alloc, "last")? else {
+        return Ok(false);
+    };
+    let Err((fault, batch)) = desk.insert(rt, alloc, pass, batch) else {
+        return Ok(false);
+    };
+    let rows = batch.rows();
+    Ok(
+        fault == InsertFault::Full { held: 4_096 }
+            && rows.len() == 1
+            && rows.iter().all(|row| row.value("_msg") == "last"),
+    )
+}
+
+#[test]
+fn full_desk(rt: HostRuntime) -> Result<(), Fail> {
+    let alloc = rt.alloc();
+    let (desk, mut pass) = Desk::fresh(&rt, alloc, 1)?;
+    assert!(rt; desk.status(&rt, &mut pass) == (0, 0));
+    assert!(rt; inserts_in_turn(&rt, alloc, &desk, &mut pass, 4_096)?);
+    assert!(rt; is_full(&rt, alloc, &desk, &mut pass)?);
+    assert!(rt; desk.status(&rt, &mut pass) == (4_096, 0));
+    assert!(rt; desk.look(&rt, &mut pass)?.front() == 4_096);
+    Ok(())
+}
+
+#[test]
+fn a_fault_prints(rt: HostRuntime) -> Result<(), Fail> {
+    let alloc = rt.alloc();
+    let full = InsertFault::Full { held: 4_096 };
+    assert!(rt; full.to_string(alloc)?.as_str() == "full 4096");
+    assert!(rt; InsertFault::Spent.to_string(alloc)?.as_str() == "spent");
+    assert!(rt; InsertFault::Memory.to_string(alloc)?.as_str() == "no memory");
+    Ok(())
+}
