@@ -1,5 +1,5 @@
 //! The head of a reply.
-ghost use Rattle.std.specs.Prelude.{◌≡◌, ◌++◌, IfOk, OnOk, flat_map, string_bytes};
+ghost use Rattle.std.specs.Prelude.{◌≡◌, ◌++◌, ℕ, IfOk, OnOk, decimal, false, flat_map, string_bytes};
 ghost use Rattle.http_reply.specs.Reply.{allow_fields, close_fields, field_line, head_bytes, length_fields};
 
 use crate::status::{Delivery, Status};
@@ -25,6 +25,30 @@ pub fn reply_head(
     push_close(&mut text, delivery.closes)?;
     text.push_str("\r\n")?;
     Ok(text)
+}
+
+/// The head of a reply in two parts, between which the length of its content belongs, in decimal digits. So the head is
+/// made where that length is not known yet. A reply to HEAD has no length.
+#[tactic(auto, unfolding(crate::specs::Reply::head_bytes))]
+pub fn head_around_length(
+    alloc: Global,
+    status: Status,
+    delivery: Delivery,
+) -> Result<(String, String), AllocError>
+    requires has_length { delivery.bare ≡ false }
+    ensures { IfOk result (λ parts. (length : ℕ) → string_bytes parts.0 ++ (decimal length ++ string_bytes parts.1)
+        ≡ head_bytes status length delivery) }
+{
+    let mut before = String::from_str(alloc, "HTTP/1.1 ")?;
+    before.push_str(status.text())?;
+    before.push_str("\r\n")?;
+    push_allow(&mut before, status)?;
+    push_field(&mut before, "Content-Type", status.kind().text())?;
+    before.push_str("Content-Length: ")?;
+    let mut behind = String::from_str(alloc, "\r\n")?;
+    push_close(&mut behind, delivery.closes)?;
+    behind.push_str("\r\n")?;
+    Ok((before, behind))
 }
 
 /// Appends the methods of the path, where another was asked for.

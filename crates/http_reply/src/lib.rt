@@ -6,7 +6,7 @@ mod send;
 mod status;
 mod whole;
 
-pub use head::reply_head;
+pub use head::{head_around_length, reply_head};
 pub use send::put_parts;
 pub use status::{Delivery, Kind, Methods, Status};
 pub use whole::{no_memory, reply};
