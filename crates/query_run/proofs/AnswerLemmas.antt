@@ -1,7 +1,7 @@
 -- The rows that hold, over one part after another.
 use Rattle.std.proofs.Common.{◌≡◌, ℕ, ℤ, zero, suc, ◌+◌, ◌<◌, List, [], ◌∷◌, ◌++◌, map, flat_map, take, drop, length}
 use Rattle.std.specs.Prelude.{Result, Ok, Err, IfOk, IfErr, IsErrAnd}
-use Rattle.std.proofs.Common.{get_or, Some, true, ◌≤◌, arith, sym, ap, subst, ◌∙◌, add-one, below_more, refl}
+use Rattle.std.proofs.Common.{get_or, Some, true, ◌≤◌, arith, sym, ap, subst, ◌∙◌, add-one, refl}
 use Rattle.std.proofs.lemmas.Grind.{flat_map-append}
 use denote.Ref.{Bor}
 use Rattle.std.proofs.lemmas.Bool.{le-ltb, lt-ltb}
@@ -9,7 +9,7 @@ use Rattle.std.proofs.lemmas.List.{length-append, length-map, take-append-drop}
 use Rattle.std.proofs.lemmas.List.Elements.{filter-append}
 use Rattle.std.proofs.lemmas.Option.{none-some}
 use Rattle.std.specs.List.{slice_get}
-use Rattle.log_model.specs.History.{AreInOrder, Numbered, rows_in}
+use Rattle.log_model.specs.History.{Numbered, rows_in}
 use Rattle.log_model.specs.Row.{Row, record_of}
 use Rattle.lq_ast.specs.Condition.{Condition}
 use Rattle.lq_ast.specs.Evaluation.{evaluate, piped_outcome, row_limit, rows_that_hold}
@@ -186,19 +186,3 @@ module _ (search : Search) (now : ℤ) (seen : List Row) where
     fails ManyRows h = absurd h
     fails (Overflow name) h = all_piped_of ∙ ap piped_outcome h
     fails Memory h = tt
-
--- the first parts are in order
-abbrev pub OrderedBelow : ℕ → List (List Numbered) → Type 0
-OrderedBelow i parts = (k : ℕ) → k < i → (d : List Numbered) → AreInOrder (get_or parts k d)
-
-part-at : {X : Type 0} (parts : List X) (i : ℕ) (part d : X) → slice_get parts i ≡ Some part → get_or parts i d ≡ part
-part-at [] i part d is = absurd (none-some part is)
-part-at (p ∷ ps) zero part d is = let same : Some p ≡ Some part = is in cc
-part-at (p ∷ ps) (suc i) part d is = part-at ps i part d is
-
-pub order-more : (parts : List (List Numbered)) (i : ℕ) (part rows : List Numbered) → slice_get parts i ≡ Some part
-    → rows ≡ part → AreInOrder rows
-    → OrderedBelow i parts → OrderedBelow (i + 1) parts
-order-more parts i part rows is same ordered before =
-    below_more (λ k. (d : List Numbered) → AreInOrder (get_or parts k d)) i before
-    (λ d. subst AreInOrder (same ∙ sym (part-at parts i part d is)) ordered)

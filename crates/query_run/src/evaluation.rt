@@ -1,8 +1,8 @@
 //! The answer to a query over what the shelf held.
 ghost use Rattle.std.specs.Prelude.{◌≡◌, ◌<◌, ◌++◌, OnOk, IfErr, IfOk, Ok, flat_map, length, map};
-ghost use Rattle.std.specs.List.{All, AllByRecursion};
+ghost use Rattle.std.specs.List.{AllByRecursion};
 ghost use Rattle.log_model.specs.Core.{parts_of};
-ghost use Rattle.log_model.specs.History.{AreInOrder, rows_in};
+ghost use Rattle.log_model.specs.History.{rows_in};
 ghost use Rattle.log_model.specs.Print.{lines_text};
 ghost use Rattle.log_model.specs.Row.{record_of};
 ghost use Rattle.lq_ast.specs.Evaluation.{row_limit, rows_that_hold};
@@ -70,16 +70,6 @@ pub fn answer(
 {
     let rows = held_rows(alloc, &search.filter, now, snapshot)?;
     piped_lines(alloc, search.pipes.as_slice(), rows)
-}
-
-/// That the rows of each part stand in their order, so that the rows of a part are those of its batch, in order too. It
-/// does nothing that matters: its contract is the law.
-pub fn order_law(snapshot: &Snapshot<RowList>)
-    ensures { All AreInOrder (parts_of snapshot.now) }
-{
-    for i in 0..snapshot.len() {
-        let _rows = snapshot.part(i).as_slice();
-    }
 }
 
 /// The rows that hold at the moment `now`, over all parts in their order.

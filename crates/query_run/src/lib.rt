@@ -5,6 +5,6 @@ mod evaluation;
 mod query;
 mod search;
 
-pub use evaluation::{RunFault, answer, order_law};
+pub use evaluation::{RunFault, answer};
 pub use query::{QueryRefusal, read_query};
 pub use search::Search;
