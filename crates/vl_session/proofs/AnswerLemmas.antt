@@ -1,9 +1,8 @@
 -- What is said to requests of the one caller, and what has been seen then.
 use Rattle.std.proofs.Common.{◌≡◌, ◌≢◌, inl, inr, ℕ, ◌+◌, ◌-◌, ◌^◌, ◌<◌, ◌≤◌, List, [], ◌∷◌, length, codes, decimal, pos, true, Option, Some, None, Ok, refl, sym, ap, subst, ◌∙◌, arith}
-use Rattle.std.proofs.lemmas.Fmt.{decimal_nonempty}
 use Rattle.std.proofs.lemmas.List.{append-nil, length-append}
-use Rattle.std.specs.Prelude.{is_some}
-use Rattle.log_model.specs.Core.{Contents, count_of, held_limit}
+use Rattle.std.specs.Prelude.{IfSome, is_some}
+use Rattle.log_model.specs.Core.{Contents, held_limit}
 use Rattle.log_model.specs.History.{History, Numbered}
 use Rattle.log_model.specs.Print.{line_text}
 use Rattle.log_model.specs.Row.{Row, batch_limit, batch_weight}
@@ -15,26 +14,20 @@ use Rattle.http_reply.specs.declared.status.Status.TheVariants as statuses
 use Rattle.http_route.specs.Route.{insert, query, status}
 use Rattle.ingest_row.specs.Ingest.{Options}
 use Rattle.ingest_row.specs.Intake.{Outcome, rows_read}
-use Rattle.vl_session.specs.Answering.{Answered, IsTaken, SaysOutcome, TakesIn}
-use Rattle.vl_session.specs.Incoming.{HoldsRows, IsIncoming, IsUncommitted, IsUnread, batch_text, fields_said, filled, outcome_of}
+use Rattle.vl_session.specs.Answering.{Answered, IsAccepted, SaysOutcome, TakesIn}
+use Rattle.vl_session.specs.Incoming.{HoldsRows, IsIncoming, IsUncommitted, IsUnread, batch_text, fields_said}
+use Rattle.vl_session.specs.Incoming.{filled, outcome_of}
 use Rattle.vl_session.specs.Insert.{CanBeBatch, HasInsertOutcome, InsertOutcome, insert_fields, insert_status, refusal_text}
 use Rattle.vl_session.specs.Insert as inserts
 use Rattle.vl_session.specs.Insertion.{seen_of}
 use Rattle.vl_session.specs.Query.{QueryOutcome, found, many_rows, overflows, query_effect, unreadable, unspelled}
 use Rattle.vl_session.specs.Reply.{status_text}
-use Rattle.vl_session.specs.Seen.{Follows, Has, Seen, adds, looks, nothing}
+use Rattle.vl_session.specs.Seen.{Follows, Gains, Has, adds, looks, nothing}
+use Rattle.vl_session.proofs.InsertLemmas.{filled_number}
+use Rattle.vl_session.proofs.InsertionLemmas.{follows, had_room, nothing_added, one_added}
 use Rattle.vl_session.specs.declared.insert.Incoming.{Incoming}
 use Rattle.vl_session.specs.declared.insert.InsertionFault.{InsertionFault}
 use Rattle.vl_session.specs.declared.insert.InsertionFault.TheVariants.{Large, Full, Spent, Memory}
-
--- the same is seen
-pub follows : (seen : Seen) → Follows (λ entry. true) seen seen
-follows seen = record {
-  others = [];
-  longer = sym (append-nil seen.history);
-  not_mine = refl;
-  settled = omega arith;
-}
 
 said_of : (incoming : Incoming) (outcomes : List Outcome) (options : Options) (now : ℕ) (body : List ℕ) (number : ℕ)
     → IsIncoming options (pos now) body outcomes incoming
@@ -42,30 +35,19 @@ said_of : (incoming : Incoming) (outcomes : List Outcome) (options : Options) (n
     ≡ insert_fields outcomes (filled (codes "batch") (batch_text (is_some incoming.batch) number))
 said_of incoming outcomes options now body number is = rw is.accepted (rw is.refused refl)
 
-filled_text : (name text : List ℕ) → 0 < length text → filled name text ≡ (name, text) ∷ []
-filled_text name [] some = absurd (omega (arith, some))
-filled_text name (byte ∷ bytes) some = refl
-
-filled_number : (number : ℕ) → number < 2 ^ 64
-    → filled (codes "batch") (decimal number) ≡ (codes "batch", decimal number) ∷ []
-filled_number number small = filled_text (codes "batch") (decimal number) (decimal_nonempty number small)
-
 module _ (options : Options) (now : ℕ) (body : List ℕ) (incoming : Incoming) (old new : Contents (List Numbered))
     (delivery : Delivery) (reply : List ℕ) (outcomes : List Outcome)
     (is : IsIncoming options (pos now) body outcomes incoming) where
   taken_none : (rows : List Row) (batch : Option (List Numbered)) → rows_read outcomes ≡ rows → incoming.batch ≡ batch
-      → HoldsRows batch rows → IsTaken incoming old new delivery reply
+      → HoldsRows batch rows → IsAccepted incoming old new delivery reply
       → Answered (Ok (insert options)) body now (seen_of old) (seen_of new) delivery reply
   taken_none [] None none is_none holds taken =
       let rows = taken.commits.rows [] (subst (λ batch. HoldsRows batch []) (sym is_none) refl) in
-      let same : seen_of new ≡ seen_of old =
-      ap (λ (history : History). record { history = history; settled = new.settled })
-      (rows.grows ∙ append-nil (history_of old))
-      ∙ ap (λ n. record { history = history_of old; settled = n }) rows.settled in
-      let fields : fields_said incoming (count_of old + 1) ≡ insert_fields outcomes [] =
-      said_of incoming outcomes options now body (count_of old + 1) is
+      let same : seen_of new ≡ seen_of old = nothing_added old new rows in
+      let fields : fields_said incoming taken.number ≡ insert_fields outcomes [] =
+      said_of incoming outcomes options now body taken.number is
       ∙ ap (λ (batch : Option (List Numbered)).
-      insert_fields outcomes (filled (codes "batch") (batch_text (is_some batch) (count_of old + 1)))) is_none in
+      insert_fields outcomes (filled (codes "batch") (batch_text (is_some batch) taken.number))) is_none in
       record {
         effect = nothing;
         has = same;
@@ -81,38 +63,31 @@ module _ (options : Options) (now : ℕ) (body : List ℕ) (incoming : Incoming)
   taken_none (row ∷ rows) None some is_none holds taken = absurd cc
   taken_none (row ∷ rows) (Some part) some is_there holds taken =
       let made = taken.commits.rows (row ∷ rows) (subst (λ batch. HoldsRows batch (row ∷ rows)) (sym is_there) holds) in
-      let small : count_of old + 1 < 2 ^ 64 = omega (arith, taken.small) in
-      let last : count_of old + 1 ≡ length (history_of new) = omega (
-        arith,
-        taken.counted,
-        ap length made.grows,
-        length-append (history_of old) (entries_of (row ∷ rows)),
-      ) in
-      let fields : fields_said incoming (count_of old + 1)
+      let room = had_room old new row rows made in
+      let last : taken.number ≡ length (history_of new) =
+      subst (λ (batch : Option ℕ). IfSome batch (λ batch. taken.number ≡ batch)) made.batch_is taken.numbered in
+      let small : taken.number < 2 ^ 64 = omega (arith, last, room.numbered) in
+      let fields : fields_said incoming taken.number
       ≡ insert_fields outcomes ((codes "batch", decimal (length (history_of new))) ∷ []) =
-      said_of incoming outcomes options now body (count_of old + 1) is
+      said_of incoming outcomes options now body taken.number is
       ∙ ap (λ (batch : Option (List Numbered)).
-      insert_fields outcomes (filled (codes "batch") (batch_text (is_some batch) (count_of old + 1)))) is_there
-      ∙ ap (insert_fields outcomes) (filled_number (count_of old + 1) small)
+      insert_fields outcomes (filled (codes "batch") (batch_text (is_some batch) taken.number))) is_there
+      ∙ ap (insert_fields outcomes) (filled_number taken.number small)
       ∙ ap (λ n. insert_fields outcomes ((codes "batch", decimal n) ∷ [])) last in
       record {
         effect = adds (rows_read outcomes);
-        has = record {
-          others = [];
-          entry = record { first = row; others = rows; maker = None };
-          longer = made.grows;
-          not_mine = refl;
-          is_mine = refl;
-          rows = sym some;
-          settled = omega (arith, made.settled);
-        };
+        has = subst (Gains (λ entry. true) (seen_of old) (seen_of new)) (sym some)
+            (one_added old new row rows made);
         answers = record {
           outcome = inserts.taken outcomes;
-          has_outcome = record {
-            given = is.given;
-            some = subst (λ (rows : List Row). 0 < length rows) (sym some) holds.0;
-            light = subst (λ (rows : List Row). batch_weight rows ≤ batch_limit) (sym some) holds.1;
-          };
+          has_outcome = (
+            record {
+              given = is.given;
+              some = subst (λ (rows : List Row). 0 < length rows) (sym some) holds.0;
+              light = subst (λ (rows : List Row). batch_weight rows ≤ batch_limit) (sym some) holds.1;
+            },
+            room,
+          );
           effect_is = refl;
           said = taken.said
               ∙ ap (λ fields. reply_bytes (statuses.Served kinds.Json) (line_text fields) delivery) fields;
@@ -151,7 +126,8 @@ module _ (options : Options) (now : ℕ) (body : List ℕ) (incoming : Incoming)
       has_outcome = (
         outcomes,
         can_be incoming.batch refl why.0 is.holds,
-        subst (λ held. length (history_of held) ≡ 2 ^ 63 - 1) (sym same) why.1,
+        subst (λ held. length (history_of held) < held.settled + held_limit) (sym same) why.1,
+        subst (λ held. length (history_of held) ≡ 2 ^ 63 - 1) (sym same) why.2,
       );
       effect_is = refl;
       said = said;

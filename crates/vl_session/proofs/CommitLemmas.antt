@@ -26,9 +26,9 @@ is_full true spent n is = (refl, cc)
 is_full false true n is = absurd cc
 is_full false false n is = absurd cc
 
-is_spent : (full spent : Bool) → fault_where full spent ≡ Some Spent → spent ≡ true
+is_spent : (full spent : Bool) → fault_where full spent ≡ Some Spent → (full ≡ false) × (spent ≡ true)
 is_spent true spent is = absurd cc
-is_spent false true is = refl
+is_spent false true is = (refl, refl)
 is_spent false false is = absurd cc
 
 is_none : (full spent : Bool) → fault_where full spent ≡ None → (full ≡ false) × (spent ≡ false)
@@ -52,23 +52,26 @@ full held n stood is =
     let limit : length held.unsettled ≡ held_limit = eqb-true (length held.unsettled) held_limit facts.0 in
     (facts.1, omega (arith, as_many held stood, limit))
 
+-- fewer wait to be settled than may
+under_limit : (held : Contents (List Numbered)) → Stood held → (length held.unsettled == held_limit) ≡ false
+    → length (history_of held) < held.settled + held_limit
+under_limit held stood not_full =
+    let under : length held.unsettled ≡ held_limit → ⊥ = eqb-false (length held.unsettled) held_limit not_full in
+    omega (arith, as_many held stood, under, stood.stands.few)
+
 pub spent : (held : Contents (List Numbered)) → Stood held → commit_fault held ≡ Some Spent
-    → length (history_of held) ≡ 2 ^ 63 - 1
+    → (length (history_of held) < held.settled + held_limit) × (length (history_of held) ≡ 2 ^ 63 - 1)
 spent held stood is =
-    let last : count_of held ≡ 2 ^ 63 - 1 =
-    eqb-true (count_of held) (2 ^ 63 - 1) (is_spent (length held.unsettled == held_limit) (count_of held == 2 ^ 63 - 1) is) in
-    as_many held stood ∙ last
+    let facts = is_spent (length held.unsettled == held_limit) (count_of held == 2 ^ 63 - 1) is in
+    let last : count_of held ≡ 2 ^ 63 - 1 = eqb-true (count_of held) (2 ^ 63 - 1) facts.1 in
+    (under_limit held stood facts.0, as_many held stood ∙ last)
 
 has_room : (held : Contents (List Numbered)) → Stood held → commit_fault held ≡ None → HasRoom (seen_of held)
 has_room held stood is =
     let facts = is_none (length held.unsettled == held_limit) (count_of held == 2 ^ 63 - 1) is in
-    let under : length held.unsettled ≡ held_limit → ⊥ = eqb-false (length held.unsettled) held_limit facts.0 in
-    let few : length held.unsettled < held_limit = omega (arith, under, stood.stands.few) in
+    let few = under_limit held stood facts.0 in
     let settled : held.settled ≡ 0 = ap (λ (held : Contents (List Numbered)). held.settled) stood.plain in
-    record {
-      few = omega (arith, as_many held stood, few);
-      numbered = omega (arith, as_many held stood, few, settled);
-    }
+    record { few = few; numbered = omega (arith, few, settled) }
 
 -- The rows were committed under this number.
 pub committed : (old new : Contents (List Numbered)) (kept : List Numbered) (number : ℕ) (rows : List Row)
@@ -113,6 +116,7 @@ uncommitted incoming held part None refusal stood some is refused =
 uncommitted incoming held part (Some (Full n)) refusal stood some is refused =
     subst (λ fault. IsUncommitted incoming held (fault_of fault)) (sym refused.0) (let facts = full held n stood is in (some, facts.0, facts.1))
 uncommitted incoming held part (Some Spent) refusal stood some is refused =
-    subst (λ fault. IsUncommitted incoming held (fault_of fault)) (sym refused.0) (some, spent held stood is)
+    subst (λ fault. IsUncommitted incoming held (fault_of fault)) (sym refused.0)
+    (let facts = spent held stood is in (some, facts.0, facts.1))
 uncommitted incoming held part (Some Memory) refusal stood some is refused =
     subst (λ fault. IsUncommitted incoming held (fault_of fault)) (sym refused.0) tt

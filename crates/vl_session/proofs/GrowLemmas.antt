@@ -6,15 +6,9 @@ use Rattle.std.proofs.lemmas.List.{map-append}
 use Rattle.std.proofs.lemmas.List.Elements.{filter-append}
 use Rattle.log_model.specs.History.{Entry, History, batches_in, entry_rows}
 use Rattle.log_model.specs.Row.{Batch}
+use Rattle.vl_session.specs.Laws.{Grows}
 use Rattle.vl_session.specs.Seen.{Effect, Has, Seen, added, adds, looks, nothing}
 use Rattle.vl_session.specs.Turns.{AreTurns, Turn, accepted_in}
-
--- The history goes on, and these are the caller's own batches in it.
-pub record Grows (mine : Entry → Bool) (old new : Seen) (batches : List Batch) : Type 0 where
-  pub later : History
-  pub longer : new.history ≡ old.history ++ later
-  pub made : batches_in (filter mine later) ≡ batches
-  pub settled : old.settled ≤ new.settled
 
 grows_none : (mine : Entry → Bool) (old new : Seen) → new ≡ old → Grows mine old new []
 grows_none mine old new same = record {

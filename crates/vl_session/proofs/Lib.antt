@@ -4,6 +4,16 @@ pub mod RequestLemmas
 pub mod Going
 pub mod StatusLemmas
 mod InsertLemmas
+mod PreparedLemmas
+mod InsertionLemmas
 mod CommitLemmas
 mod AnswerLemmas
 mod QueryLemmas
+mod ResultLemmas
+mod SelectLemmas
+mod SyslogLists
+mod SyslogCommit
+mod SyslogFrames
+mod SyslogStory
+mod SyslogIntake
+mod SyslogInflow

@@ -19,7 +19,7 @@ use Rattle.query_run.specs.declared.evaluation.RunFault.{RunFault}
 use Rattle.query_run.specs.declared.evaluation.RunFault.TheVariants.{ManyRows, Overflow, Memory}
 use Rattle.query_run.specs.declared.query.QueryRefusal.{QueryRefusal}
 use Rattle.query_run.specs.declared.query.QueryRefusal.TheVariants as refusals
-use Rattle.vl_session.specs.Answer.{FailsQuery, IsAnswer, fault_of_refusal, fault_of_run, outcome_of}
+use Rattle.vl_session.specs.Answer.{FailsQuery, IsQueryAnswer, fault_of_refusal, fault_of_run, outcome_of}
 use Rattle.vl_session.specs.Query.{Evaluates, HasQueryOutcome, QueryOutcome, many_rows, overflows, unreadable, unspelled}
 use Rattle.vl_session.specs.declared.answer.Answer.{Answer}
 use Rattle.vl_session.specs.declared.answer.AnswerFault.{AnswerFault}
@@ -77,7 +77,7 @@ pub answered_run : (text : List ℕ) (now : ℤ) (query : Question) (held : Cont
     → pos 0 ≤ℤ now → held ≡ contents_of held.unsettled → IsQueryText text query
     → AllByRecursion CanBeRead (all_patterns query) → answer.front ≡ length (history_of held)
     → IsAnswerOver query now (flat_map rows_in (parts_of held)) answer.lines
-    → IsAnswer text (unsigned_abs now) (history_of held) answer
+    → IsQueryAnswer text (unsigned_abs now) (history_of held) answer
 answered_run text now query held answer from plain spelled readable front over = record {
   records = over.found;
   evaluated = evaluates text now query held (evaluation.records over.found) from plain spelled readable over.evaluated;

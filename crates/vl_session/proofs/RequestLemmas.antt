@@ -8,6 +8,7 @@ use Rattle.http_in.specs.Requests.{asked_to_close, ended_whole, has_fault, may_g
 use Rattle.http_in.specs.declared.fault.RequestFault.{RequestFault}
 use Rattle.http_in.specs.declared.fault.RequestFault.TheVariants as faults
 use Rattle.http_in.proofs.RequestsLemmas.{all_requests_first}
+use Rattle.vl_session.specs.Laws.{IsByInput}
 use Rattle.vl_session.specs.Session.{Ends, StopsReading}
 use Rattle.vl_session.specs.Turns.{Turn, asked_in}
 use Rattle.vl_session.specs.declared.report.End.{End}
@@ -43,16 +44,6 @@ stops_list list start rest ended (faults.BadChunk at) stays s =
 stops_list list start rest ended faults.Coding stays s =
     record { ended = true; end = has_fault faults.Coding; ends = (stays, s.explained) }
 stops_list list start rest ended faults.Memory stays s = absurd (no_such faults.Memory refl s.lasts)
-
--- the session ended by its input, and not by its own limits or those of its sink
-abbrev pub IsByInput : End → Type 0
-IsByInput ends.Closed = Unit {0}
-IsByInput ends.AskedClose = Unit {0}
-IsByInput ends.Limit = ⊥
-IsByInput ends.SourceFault = Unit {0}
-IsByInput ends.SinkFault = ⊥
-IsByInput (ends.BadInput fault) = Unit {0}
-IsByInput ends.Memory = ⊥
 
 ends_list : (source sink : Change) (turns : List Turn) (start : ℕ) (rest : List ℕ) (end : End) → IsByInput end
     → Ends source sink turns start rest end → EndsList (asked_in turns) start rest

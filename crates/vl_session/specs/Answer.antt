@@ -9,13 +9,14 @@ use Rattle.query_run.specs.declared.evaluation.RunFault.{RunFault}
 use Rattle.query_run.specs.declared.evaluation.RunFault.TheVariants as running
 use Rattle.query_run.specs.declared.query.QueryRefusal.{QueryRefusal}
 use Rattle.query_run.specs.declared.query.QueryRefusal.TheVariants as refusals
-use Rattle.vl_session.specs.Query.{Evaluates, HasQueryOutcome, QueryOutcome, many_rows, overflows, unreadable, unspelled}
+use Rattle.vl_session.specs.Query.{Evaluates, HasQueryOutcome, QueryOutcome, found, many_rows, overflows, unreadable}
+use Rattle.vl_session.specs.Query.{unspelled}
 use Rattle.vl_session.specs.declared.answer.Answer.{Answer}
 use Rattle.vl_session.specs.declared.answer.AnswerFault.{AnswerFault}
 use Rattle.vl_session.specs.declared.answer.AnswerFault.TheVariants.{Query, RegexRefused, ManyRows, Overflow, Memory}
 
 -- The answer is the lines of the records that the query of this text has over the history.
-pub record IsAnswer (text : List ℕ) (now : ℕ) (history : History) (answer : Answer) : Type 0 where
+pub record IsQueryAnswer (text : List ℕ) (now : ℕ) (history : History) (answer : Answer) : Type 0 where
   pub records : List Record
   pub evaluated : Evaluates text now history (evaluation.records records)
   pub lines : answer.lines ≡ lines_text records
@@ -29,6 +30,18 @@ FailsQuery text now history (RegexRefused nth) = HasQueryOutcome text now histor
 FailsQuery text now history ManyRows = HasQueryOutcome text now history many_rows
 FailsQuery text now history (Overflow name) = HasQueryOutcome text now history (overflows name)
 FailsQuery text now history Memory = Unit {0}
+
+-- The text spells a query that can be asked, and its evaluation over the history has records.
+abbrev pub HasRecords : List ℕ → ℕ → History → Type 0
+HasRecords text now history = (records : List Record) × HasQueryOutcome text now history (found records)
+
+-- the query was asked: its evaluation overflows, or memory ran out
+abbrev pub IsOfEvaluation : AnswerFault → Type 0
+IsOfEvaluation (Query fault) = ⊥
+IsOfEvaluation (RegexRefused nth) = ⊥
+IsOfEvaluation ManyRows = Unit {0}
+IsOfEvaluation (Overflow name) = Unit {0}
+IsOfEvaluation Memory = Unit {0}
 
 -- ---- what other faults are to the caller
 

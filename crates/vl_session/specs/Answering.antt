@@ -1,6 +1,6 @@
 -- How the one caller of the shared state is answered, where memory does not run out.
-use Rattle.std.specs.Prelude.{◌≡◌, ◌⊎◌, ℕ, ◌+◌, ◌^◌, ◌<◌, List, length, Some, Result, true}
-use Rattle.log_model.specs.Core.{Contents, count_of}
+use Rattle.std.specs.Prelude.{◌≡◌, ◌⊎◌, ℕ, IfSome, List, Some, Result, true}
+use Rattle.log_model.specs.Core.{Contents}
 use Rattle.log_model.specs.History.{History, Numbered}
 use Rattle.log_model.specs.Print.{line_text}
 use Rattle.log_core.specs.History.{history_of}
@@ -26,18 +26,17 @@ pub record Answered (wanted : Result Wanted Refusal) (body : List ℕ) (now : �
   pub has : Has (λ entry. true) old new effect
   pub answers : Answers wanted body now new delivery effect reply
 
--- Lines were taken in, and that is what is said.
-pub record IsTaken (incoming : Incoming) (old new : Contents (List Numbered)) (delivery : Delivery)
+-- Lines were taken in, and that is what is said, with the number of their batch, if there is one.
+pub record IsAccepted (incoming : Incoming) (old new : Contents (List Numbered)) (delivery : Delivery)
     (reply : List ℕ) : Type 0 where
-  pub counted : length (history_of old) ≡ count_of old
-  pub small : count_of old < 2 ^ 63
   pub insertion : Insertion
   pub commits : Commits incoming old new insertion
-  pub said : reply ≡ reply_bytes (statuses.Served kinds.Json)
-      (line_text (fields_said incoming (count_of old + 1))) delivery
+  pub number : ℕ
+  pub numbered : IfSome insertion.batch (λ batch. number ≡ batch)
+  pub said : reply ≡ reply_bytes (statuses.Served kinds.Json) (line_text (fields_said incoming number)) delivery
 
 -- They were not, and the reply says why.
-pub record IsRefused (incoming : Incoming) (old new : Contents (List Numbered)) (delivery : Delivery)
+pub record IsTurnedAway (incoming : Incoming) (old new : Contents (List Numbered)) (delivery : Delivery)
     (reply : List ℕ) : Type 0 where
   pub fault : InsertionFault
   pub why : IsUncommitted incoming old fault
@@ -48,7 +47,7 @@ pub record IsRefused (incoming : Incoming) (old new : Contents (List Numbered)) 
 
 abbrev pub TakesIn : Incoming → Contents (List Numbered) → Contents (List Numbered) → Delivery → List ℕ → Type 0
 TakesIn incoming old new delivery reply =
-    IsTaken incoming old new delivery reply ⊎ IsRefused incoming old new delivery reply
+    IsAccepted incoming old new delivery reply ⊎ IsTurnedAway incoming old new delivery reply
 
 -- A query has this outcome over the history, and that is what is said.
 pub record SaysOutcome (text : List ℕ) (now : ℕ) (history : History) (delivery : Delivery)

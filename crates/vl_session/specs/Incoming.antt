@@ -65,7 +65,8 @@ IsUncommitted incoming held (Large weight) = ⊥
 IsUncommitted incoming held (Full limit) =
     (incoming.batch ≢ None) × (limit ≡ held_limit) × (length (history_of held) ≡ held.settled + held_limit)
 IsUncommitted incoming held Spent =
-    (incoming.batch ≢ None) × (length (history_of held) ≡ 2 ^ 63 - 1)
+    (incoming.batch ≢ None) × (length (history_of held) < held.settled + held_limit)
+    × (length (history_of held) ≡ 2 ^ 63 - 1)
 IsUncommitted incoming held Memory = Unit {0}
 
 -- a field with this value, if it is not empty

@@ -38,11 +38,16 @@ pub record HasRoom (seen : Seen) : Type 0 where
   pub few : length seen.history < seen.settled + held_limit
   pub numbered : length seen.history < 2 ^ 63 - 1
 
--- a body that came in at that moment, and what had been seen once it was served
+-- The last batch was added where another might be.
+pub record HadRoom (seen : Seen) : Type 0 where
+  pub few : length seen.history ≤ seen.settled + held_limit
+  pub numbered : length seen.history ≤ 2 ^ 63 - 1
+
+-- A body that came in at that moment, and what had been seen once it was served. Of two causes the first counts.
 abbrev pub HasInsertOutcome : Options → ℕ → List ℕ → Seen → InsertOutcome → Type 0
 HasInsertOutcome options now body seen (no_row outcomes) =
     IsIntake options (pos now) body outcomes × (rows_read outcomes ≡ [])
-HasInsertOutcome options now body seen (taken outcomes) = CanBeBatch options now body outcomes
+HasInsertOutcome options now body seen (taken outcomes) = CanBeBatch options now body outcomes × HadRoom seen
 HasInsertOutcome options now body seen (large weight) =
     (outcomes : List Outcome) × IsIntake options (pos now) body outcomes
     × (weight ≡ min (batch_weight (rows_read outcomes)) (2 ^ 64 - 1))
@@ -51,7 +56,8 @@ HasInsertOutcome options now body seen full =
     (outcomes : List Outcome) × CanBeBatch options now body outcomes
     × (length seen.history ≡ seen.settled + held_limit)
 HasInsertOutcome options now body seen spent =
-    (outcomes : List Outcome) × CanBeBatch options now body outcomes × (length seen.history ≡ 2 ^ 63 - 1)
+    (outcomes : List Outcome) × CanBeBatch options now body outcomes
+    × (length seen.history < seen.settled + held_limit) × (length seen.history ≡ 2 ^ 63 - 1)
 
 abbrev pub insert_effect : InsertOutcome → Effect
 insert_effect (no_row outcomes) = nothing

@@ -1,13 +1,13 @@
--- What becomes of lines that are taken into the shared state, which has one caller.
-use Rattle.std.specs.Prelude.{◌≡◌, ℕ, ℤ, ◌<◌, ◌≤◌, List, [], ◌∷◌, ◌++◌, length, Option, None, Some}
+-- What becomes of lines that are taken in.
+use Rattle.std.specs.Prelude.{◌≡◌, ℕ, pos, Bool, List, [], ◌∷◌, length, Option, None, Some}
 use Rattle.log_model.specs.Core.{Contents, held_limit}
-use Rattle.log_model.specs.History.{History, Numbered}
-use Rattle.log_model.specs.Row.{Row, batch_limit, batch_weight}
-use Rattle.log_core.specs.History.{entries_of, history_of}
+use Rattle.log_model.specs.History.{Entry, History, Numbered}
+use Rattle.log_model.specs.Row.{Row}
+use Rattle.log_core.specs.History.{history_of}
 use Rattle.ingest_row.specs.Ingest.{Options}
 use Rattle.ingest_row.specs.Intake.{IsIntake, Outcome, refused_from, rows_read}
-use Rattle.vl_session.specs.Insert.{HasInsertOutcome, HasRoom, large, full, spent}
-use Rattle.vl_session.specs.Seen.{Seen}
+use Rattle.vl_session.specs.Insert.{HasInsertOutcome, InsertOutcome, full, insert_effect, large, no_row, spent, taken}
+use Rattle.vl_session.specs.Seen.{Follows, Has, Seen}
 use Rattle.vl_session.specs.declared.insert.Insertion.{Insertion}
 use Rattle.vl_session.specs.declared.insert.InsertionFault.{InsertionFault}
 use Rattle.vl_session.specs.declared.insert.InsertionFault.TheVariants as faults
@@ -21,24 +21,33 @@ abbrev pub batch_number : List Row → History → Option ℕ
 batch_number [] history = None
 batch_number (row ∷ rows) history = Some (length history)
 
--- The lines of the body have these outcomes. Their rows are one entry more, if there are any.
-pub record IsInserted (options : Options) (now : ℤ) (body : List ℕ) (outcomes : List Outcome)
-    (old new : Contents (List Numbered)) (insertion : Insertion) : Type 0 where
-  pub given : IsIntake options now body outcomes
-  pub light : batch_weight (rows_read outcomes) ≤ batch_limit
-  pub grows : history_of new ≡ history_of old ++ entries_of (rows_read outcomes)
-  pub settled : new.settled ≡ old.settled
-  pub accepted : insertion.accepted ≡ length (rows_read outcomes)
-  pub batch : insertion.batch ≡ batch_number (rows_read outcomes) (history_of new)
+-- what lines with these rows come to, if they are taken in
+abbrev pub accepted : List Row → List Outcome → InsertOutcome
+accepted [] outcomes = no_row outcomes
+accepted (row ∷ rows) outcomes = taken outcomes
+
+-- The lines of the body have these outcomes. Their rows are one entry more, which is the caller's own and the last, if
+-- there are any.
+pub record Inserts (mine : Entry → Bool) (options : Options) (now : ℕ) (body : List ℕ) (old new : Seen)
+    (insertion : Insertion) : Type 0 where
+  pub outcomes : List Outcome
+  pub given : IsIntake options (pos now) body outcomes
+  pub has_outcome : HasInsertOutcome options now body new (accepted (rows_read outcomes) outcomes)
+  pub has : Has mine old new (insert_effect (accepted (rows_read outcomes) outcomes))
+  pub accepted_are : insertion.accepted ≡ length (rows_read outcomes)
+  pub batch : insertion.batch ≡ batch_number (rows_read outcomes) new.history
   pub refused : insertion.refused ≡ refused_from 1 outcomes
-  -- where there are any, there was room for their batch
-  pub room : 0 < length (rows_read outcomes) → HasRoom (seen_of old)
+
+-- the body comes to that, and nothing was added
+abbrev pub IsRefusal : (Entry → Bool) → Options → ℕ → List ℕ → Seen → Seen → InsertOutcome → Type 0
+IsRefusal mine options now body old new outcome =
+    Has mine old new (insert_effect outcome) × HasInsertOutcome options now body new outcome
 
 -- Why nothing is taken in. Want of memory is free.
-abbrev pub RefusesLines : Options → ℕ → List ℕ → Contents (List Numbered) → InsertionFault → Type 0
-RefusesLines options now body held (faults.Large weight) =
-    HasInsertOutcome options now body (seen_of held) (large weight)
-RefusesLines options now body held (faults.Full limit) =
-    (limit ≡ held_limit) × HasInsertOutcome options now body (seen_of held) full
-RefusesLines options now body held faults.Spent = HasInsertOutcome options now body (seen_of held) spent
-RefusesLines options now body held faults.Memory = Unit {0}
+abbrev pub RefusesLines : (Entry → Bool) → Options → ℕ → List ℕ → Seen → Seen → InsertionFault → Type 0
+RefusesLines mine options now body old new (faults.Large weight) =
+    IsRefusal mine options now body old new (large weight)
+RefusesLines mine options now body old new (faults.Full limit) =
+    (limit ≡ held_limit) × IsRefusal mine options now body old new full
+RefusesLines mine options now body old new faults.Spent = IsRefusal mine options now body old new spent
+RefusesLines mine options now body old new faults.Memory = Follows mine old new

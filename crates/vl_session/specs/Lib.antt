@@ -7,5 +7,11 @@ pub mod Session
 pub mod Sent
 pub mod Insertion
 pub mod Answer
+pub mod Select
+pub mod Laws
+pub mod Said
 pub mod Incoming
+pub mod Prepared
 pub mod Answering
+pub mod SyslogSession
+pub mod SyslogTaking

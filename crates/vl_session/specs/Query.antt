@@ -1,5 +1,5 @@
 -- The answer to a query over the history that was seen (VictoriaLogs, "Querying").
-use Rattle.std.specs.Prelude.{◌≡◌, ℕ, pos, List, ◌++◌, codes, decimal, Err, slice_get, IsSomeAnd}
+use Rattle.std.specs.Prelude.{◌≡◌, ℕ, pos, List, ◌++◌, codes, decimal}
 use Rattle.std.specs.List.{AllByRecursion}
 use Rattle.log_model.specs.History.{History, rows_of}
 use Rattle.log_model.specs.Print.{lines_text}
@@ -12,8 +12,9 @@ use Rattle.lq_ast.specs.Patterns.{CanBeRead, all_patterns}
 use Rattle.lq_ast.specs.Question.{Question}
 use Rattle.lq_ast.specs.Records.{Record}
 use Rattle.lq_grammar.specs.Faults.{fault_text}
-use Rattle.lq_grammar.specs.Query.{IsQueryText, QueryOf}
+use Rattle.lq_grammar.specs.Query.{IsQueryText}
 use Rattle.lq_grammar.specs.declared.fault.QueryFault.{QueryFault}
+use Rattle.query_run.specs.Asked.{HasUnreadablePattern, IsUnspelled}
 use Rattle.vl_session.specs.Seen.{Effect, looks, nothing}
 
 -- what a query comes to
@@ -38,10 +39,8 @@ pub record Evaluates (text : List ℕ) (now : ℕ) (history : History) (outcome 
 
 -- the text of a query, over the history that was seen
 abbrev pub HasQueryOutcome : List ℕ → ℕ → History → QueryOutcome → Type 0
-HasQueryOutcome text now history (unspelled fault) = QueryOf text (Err fault)
-HasQueryOutcome text now history (unreadable nth) =
-    (query : Question) × IsQueryText text query
-    × IsSomeAnd (slice_get (all_patterns query) nth) (λ pattern. CanBeRead pattern → ⊥)
+HasQueryOutcome text now history (unspelled fault) = IsUnspelled text fault
+HasQueryOutcome text now history (unreadable nth) = HasUnreadablePattern text nth
 HasQueryOutcome text now history (found records) = Evaluates text now history (evaluation.records records)
 HasQueryOutcome text now history many_rows = Evaluates text now history evaluation.many_rows
 HasQueryOutcome text now history (overflows name) = Evaluates text now history (evaluation.overflow name)

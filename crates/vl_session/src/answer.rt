@@ -1,8 +1,10 @@
 //! Queries over the shared state.
 ghost use Rattle.std.specs.Prelude.{◌≡◌, ◌≤ℤ◌, IfErr, IfOk, pos, unsigned_abs};
 ghost use Rattle.log_core.specs.History.{history_of};
-ghost use Rattle.vl_session.specs.Answer.{FailsQuery, IsAnswer};
+ghost use Rattle.query_run.specs.Asked.{IsReadableQuery};
+ghost use Rattle.vl_session.specs.Answer.{FailsQuery, HasRecords, IsOfEvaluation, IsQueryAnswer};
 
+use crate::law::select_law;
 use log_core::Shelf;
 use lq_grammar::QueryFault;
 use query_run::{QueryRefusal, RunFault, answer, read_query};
@@ -70,7 +72,28 @@ pub fn answer_query(
     now: i64,
 ) -> Result<Answer, AnswerFault>
     requires moment { pos 0 ≤ℤ now }
-    ensures answered { IfOk result (IsAnswer text.now (unsigned_abs now) (history_of shelf.now)) }
+    ensures answered { IfOk result (IsQueryAnswer text.now (unsigned_abs now) (history_of shelf.now)) }
+    ensures refused { IfErr result (FailsQuery text.now (unsigned_abs now) (history_of shelf.now)) }
+
+    // A query that can be asked fails in its evaluation alone, and not there where that has records, unless memory runs
+    // out.
+    ensures asked { IsReadableQuery text.now → IfErr result IsOfEvaluation }
+    ensures complete { HasRecords text.now (unsigned_abs now) (history_of shelf.now)
+        → IfErr result (λ fault. fault ≡ AnswerFault.Memory) }
+{
+    select_law();
+    answer_text(alloc, shelf, text, now)
+}
+
+/// The answer to a query, or why there is none.
+fn answer_text(
+    alloc: Global,
+    shelf: &Shelf<RowList>,
+    text: &str,
+    now: i64,
+) -> Result<Answer, AnswerFault>
+    requires moment { pos 0 ≤ℤ now }
+    ensures answered { IfOk result (IsQueryAnswer text.now (unsigned_abs now) (history_of shelf.now)) }
     ensures refused { IfErr result (FailsQuery text.now (unsigned_abs now) (history_of shelf.now)) }
 {
     let front = shelf.count();

@@ -1,9 +1,9 @@
 //! Lines of JSON taken into the shared state.
-ghost use Rattle.std.specs.Prelude.{◌≡◌, ◌≤ℤ◌, IfErr, IfOk, List, OnErr, pos, unsigned_abs};
+ghost use Rattle.std.specs.Prelude.{◌≡◌, ◌≤ℤ◌, IfErr, IfOk, List, OnErr, pos, true, unsigned_abs};
 ghost use Rattle.ingest_row.specs.Intake.{Outcome};
 ghost use Rattle.log_model.specs.Row.{Row};
 ghost use Rattle.vl_session.specs.Incoming.{Commits, HoldsRows, IsIncoming, IsUncommitted, IsUnread};
-ghost use Rattle.vl_session.specs.Insertion.{IsInserted, RefusesLines};
+ghost use Rattle.vl_session.specs.Insertion.{Inserts, RefusesLines, seen_of};
 
 use ingest_row::{LineFault, Options, batch_of_body};
 use log_core::{CommitFault, Shelf};
@@ -68,10 +68,12 @@ pub fn insert_lines(
     body: &[u8],
 ) -> Result<Insertion, InsertionFault>
     requires moment { pos 0 ≤ℤ now }
-    ensures inserted { IfOk result (λ insertion. (outcomes : List Outcome)
-        × IsInserted options.now now body.now outcomes shelf.old shelf.new insertion) }
-    ensures refused { IfErr result (RefusesLines options.now (unsigned_abs now) body.now shelf.old) }
+    ensures inserted { IfOk result (Inserts (λ _. true) options.now (unsigned_abs now) body.now
+        (seen_of shelf.old) (seen_of shelf.new)) }
+    ensures refused { IfErr result (RefusesLines (λ _. true) options.now (unsigned_abs now) body.now
+        (seen_of shelf.old) (seen_of shelf.new)) }
     ensures same { OnErr result (shelf.new ≡ shelf.old) }
+    ensures settled { shelf.new.settled ≡ shelf.old.settled }
 {
     let incoming = Incoming::read(alloc, options, now, body)?;
     incoming.commit(alloc, shelf)
@@ -127,6 +129,7 @@ impl Incoming {
         ensures committed { IfOk result (Commits self shelf.old shelf.new) }
         ensures refused { IfErr result (IsUncommitted self shelf.old) }
         ensures same { OnErr result (shelf.new ≡ shelf.old) }
+        ensures settled { shelf.new.settled ≡ shelf.old.settled }
     {
         let Incoming {
             accepted,

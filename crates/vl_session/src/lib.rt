@@ -1,11 +1,13 @@
-//! Sessions of HTTP over a log: what their replies say, and what one connection comes to.
+//! Sessions of HTTP and of syslog over a log: what is replied, what is taken in, and what one connection comes to.
 #![tactic(auto)]
 
 mod answer;
 mod insert;
 mod insert_reply;
+mod law;
 mod log;
 mod pages;
+mod prepared_reply;
 mod query_reply;
 mod report;
 mod request;
@@ -13,12 +15,19 @@ mod send;
 mod serve;
 mod session;
 mod shelf_log;
+mod syslog_inflow;
+mod syslog_intake;
+mod syslog_report;
+mod syslog_stream;
 mod turn;
 
 pub use answer::{Answer, AnswerFault, answer_query};
 pub use insert::{Insertion, InsertionFault, insert_lines};
+pub use law::{select_law, session_law};
 pub use log::{Log, Reply};
 pub use pages::{health_reply, status_reply};
 pub use report::{Done, End, Report};
 pub use serve::serve_session;
 pub use session::serve_requests;
+pub use syslog_report::{SyslogEnd, SyslogReport};
+pub use syslog_stream::syslog_session;

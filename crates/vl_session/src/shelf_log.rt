@@ -11,9 +11,10 @@ ghost use Rattle.vl_session.specs.Sent.{bytes_of};
 
 use crate::answer::answer_query;
 use crate::insert::Incoming;
-use crate::insert_reply::{insert_reply, refusal_reply};
+use crate::insert_reply::refusal_reply;
 use crate::log::{Log, Reply};
 use crate::pages::{health_reply, status_reply};
+use crate::prepared_reply::PreparedReply;
 use crate::query_reply::{lines_reply, unanswered_reply};
 use http_in::Request;
 use http_reply::{Delivery, no_memory};
@@ -94,7 +95,7 @@ fn reply_to(
     }
 }
 
-/// Commits the rows of lines, if there are any. The reply is made before, so that there is memory for it.
+/// Commits the rows of lines, if there are any. The reply is prepared before, so that there is memory for it.
 fn take_in(
     alloc: Global,
     shelf: &mut Shelf<RowList>,
@@ -105,9 +106,13 @@ fn take_in(
     ensures taken { IfOk result (λ reply. TakesIn incoming shelf.old shelf.new delivery (bytes_of reply)) }
     ensures untaken { OnErr result (shelf.new ≡ shelf.old) }
 {
-    let text = insert_reply(alloc, &incoming, shelf.count() + 1, delivery)?;
+    let prepared = PreparedReply::of(alloc, &incoming, delivery)?;
     match incoming.commit(alloc, shelf) {
-        Ok(_) => Ok(Reply::Whole(text)),
+        // Where there is no batch the reply names none.
+        Ok(insertion) => {
+            let number = insertion.batch.unwrap_or(0);
+            Ok(Reply::Whole(prepared.with_number(number)))
+        }
         Err(fault) => whole(refusal_reply(alloc, fault, delivery)),
     }
 }

@@ -1,8 +1,8 @@
-//! Reads a case on each line: what it shows, how often the connection has the bytes that follow, those, and the bytes
-//! behind them. Serves it over an empty shelf, and writes what was written, the moments of the first turns with how
-//! many batches had been seen then, and how the session ended. A short connection is also read a byte at a time, and so
-//! that each of its reads fails in turn, and each is served so that each write does; where that is not what it is to
-//! be, it is written too.
+//! Reads a case on each line: what it shows, how often the connection has the bytes that follow, those, and the
+//! bytes behind them. Serves it over an empty shelf, and writes what was written, the moments of the first turns
+//! with how many batches had been seen and were settled then, and how the session ended. A short connection is also
+//! read a byte at a time, and so that each of its reads fails in turn, and each is served so that each write does;
+//! where that is not what it is to be, it is written too.
 //!
 //! A byte that is no visible ASCII stands as `\0a;`, and so many of one as `\61x65536;`.
 //!
@@ -10,6 +10,7 @@
 #![tactic(auto)]
 
 mod answers_tests;
+mod limits_tests;
 mod sessions_tests;
 mod spelling_tests;
 

@@ -9,6 +9,9 @@ use vl_io::{MemClock, MemSink, MemSource};
 use vl_row::RowList;
 use vl_session::{End, Report, serve_session};
 
+/// How many turns are shown.
+const TURNS: usize = 12;
+
 /// How the outside behaves.
 #[derive(Clone, Copy, Default)]
 pub struct Setting {
@@ -47,10 +50,15 @@ fn shown(alloc: Global, written: &[u8], report: &Report) -> Result<String, Alloc
     let mut text = String::new(alloc);
     push_spelled(written, &mut text)?;
     let turns = report.turns.as_slice();
-    for done in turns.iter().take(4) {
-        write!(text, " at {} with {}", done.now, done.front)?;
+    for done in turns.iter().take(TURNS) {
+        let settled = done.settled;
+        write!(
+            text,
+            " at {} with {}, {settled} settled;",
+            done.now, done.front
+        )?;
     }
-    write!(text, ", {} turns, {:?}", turns.len(), report.end)?;
+    write!(text, " {} turns, {:?}", turns.len(), report.end)?;
     Ok(text)
 }
 

@@ -4,7 +4,7 @@ use Rattle.log_core.specs.History.{history_of}
 use Rattle.http_reply.specs.Reply.{reply_bytes}
 use Rattle.http_reply.specs.declared.status.Kind.TheVariants as kinds
 use Rattle.http_reply.specs.declared.status.Status.TheVariants as statuses
-use Rattle.vl_session.specs.Answer.{FailsQuery, IsAnswer}
+use Rattle.vl_session.specs.Answer.{FailsQuery, IsQueryAnswer}
 use Rattle.vl_session.specs.Query.{found}
 use Rattle.vl_session.proofs.QueryLemmas.{outcome_has}
 use Rattle.vl_session.proofs.shelf_log.query_reply.Goals as goal
@@ -13,7 +13,7 @@ pub returns-in_ok-reply-in-Ok : goal.returns-in_ok-reply-in-Ok
 returns-in_ok-reply-in-Ok c =
     let fits : FitsSigned w64 c.args.now = c.ranges.now in
     let moment : to_z w64 (of_z w64 c.args.now) ≡ c.args.now = to_z-of_z w64 c.args.now fits in
-    let answered = subst (λ now. IsAnswer c.args.text.now (unsigned_abs now) (history_of c.args.shelf.now) c.in-Ok.answer)
+    let answered = subst (λ now. IsQueryAnswer c.args.text.now (unsigned_abs now) (history_of c.args.shelf.now) c.in-Ok.answer)
     moment c.in-Ok.ensures.answered in
     record {
       outcome = found answered.records;

@@ -1,21 +1,17 @@
-use Rattle.std.proofs.Common.{◌^◌, ◌<◌, inl, ap, subst, ◌∙◌, ◌+◌}
-use Rattle.log_model.specs.Print.{line_text}
-use Rattle.log_core.proofs.History.{length-history}
-use Rattle.http_reply.specs.Reply.{reply_bytes}
-use Rattle.http_reply.specs.declared.status.Kind.TheVariants as kinds
-use Rattle.http_reply.specs.declared.status.Status.TheVariants as statuses
-use Rattle.vl_session.specs.Incoming.{fields_said}
+use Rattle.std.proofs.Common.{◌≡◌, ℕ, Option, Some, None, IfSome, inl, ◌∙◌}
+use Rattle.std.specs.Option.{unwrap_or}
 use Rattle.vl_session.proofs.shelf_log.take_in.Goals as goal
+
+unwrapped : (batch : Option ℕ) (number : ℕ) → number ≡ unwrap_or batch 0 → IfSome batch (λ batch. number ≡ batch)
+unwrapped None number is = tt
+unwrapped (Some batch) number is = is
 
 pub returns-in-Ok-clause-taken : goal.returns-in-Ok-clause-taken
 returns-in-Ok-clause-taken c =
-    let e = c.count.ensures in
     inl (record {
-      counted = length-history c.args.shelf.now e.stands.0 e.unsettled e.stands.1;
-      small = subst (λ n. n < 2 ^ 63) e.value e.small;
-      insertion = c.in-Ok.field-0;
+      insertion = c.in-Ok.insertion;
       commits = c.in-Ok.ensures.committed;
-      said = c.in_ok-text.ensures
-          ∙ ap (λ n. reply_bytes (statuses.Served kinds.Json) (line_text (fields_said c.args.incoming (n + 1)))
-          c.args.delivery) e.value;
+      number = c.unwrap_or-number.result;
+      numbered = unwrapped c.in-Ok.insertion.batch c.unwrap_or-number.result c.unwrap_or-number.ensures;
+      said = c.with_number.ensures ∙ c.in_ok-prepared.ensures c.unwrap_or-number.result c.unwrap_or-number.type_inv;
     })

@@ -1,0 +1,133 @@
+-- Messages that are taken up one after another, and a batch after another.
+use Rattle.std.proofs.Common.{◌≡◌, ℕ, ◌<◌, ◌+◌, ◌-◌, ◌*◌, ◌≤◌, true, List, [], ◌∷◌, ◌++◌, length, drop}
+use Rattle.std.proofs.Common.{Option, None, Some}
+use Rattle.std.proofs.Common.{refl, sym, ap, subst, ◌∙◌, arith, append-nil}
+use Rattle.std.proofs.lemmas.List.{length-append}
+use Rattle.log_model.specs.Row.{Batch, Row}
+use Rattle.vl_row.specs.declared.row.RowFault.{RowFault}
+use Rattle.syslog_in.specs.declared.fault.MessageFault.{MessageFault}
+use Rattle.ingest_row.specs.declared.syslog.SyslogKind.TheVariants as kinds
+use Rattle.vl_session.specs.Seen.{Seen}
+use Rattle.vl_session.specs.SyslogSession.{AreBatches, IsOutcome, TakesAll, moment_of, rows_read}
+use Rattle.vl_session.specs.SyslogTaking.{BeginWith, TakesUp, batch_of}
+use Rattle.vl_session.specs.Turns.{GaveMoments}
+use Rattle.vl_session.specs.declared.syslog_intake.Counts.{Counts}
+use Rattle.vl_session.proofs.SyslogLists.{batches_append, none_append, one_batch, one_full, rows_append, rows_or_none}
+use Rattle.vl_session.proofs.SyslogLists.{takes_append, zip_append}
+
+-- ---- one message
+
+pub message_is_no_memory : (fault : MessageFault) → kinds.Message fault ≡ kinds.Memory → ⊥
+message_is_no_memory fault same = absurd cc
+
+pub row_is_no_memory : (fault : RowFault) → kinds.Row fault ≡ kinds.Memory → ⊥
+row_is_no_memory fault same = absurd cc
+
+-- it has a row
+pub rows_more : (rows new : List Row) (outcomes : List (Option Row)) (outcome : Option Row) (row : Row)
+    → rows ≡ rows_read outcomes → outcome ≡ Some row → new ≡ rows ++ row ∷ []
+    → new ≡ rows_read (outcomes ++ outcome ∷ [])
+rows_more rows new outcomes outcome row are is grown =
+    grown ∙ ap (λ l. l ++ row ∷ []) are ∙ sym (rows_append outcomes (Some row ∷ []))
+    ∙ ap (λ o. rows_read (outcomes ++ o ∷ [])) (sym is)
+
+-- it has none
+pub rows_same : (rows : List Row) (outcomes : List (Option Row)) (outcome : Option Row) → rows ≡ rows_read outcomes
+    → outcome ≡ None → rows ≡ rows_read (outcomes ++ outcome ∷ [])
+rows_same rows outcomes outcome are is =
+    are ∙ sym (rows_append outcomes (None ∷ []) ∙ append-nil (rows_read outcomes))
+    ∙ ap (λ o. rows_read (outcomes ++ o ∷ [])) (sym is)
+
+-- ---- one batch
+
+pub takes_first : (now : ℕ) (messages : List (List ℕ)) (seen : Seen) (counts : Counts)
+    → TakesUp now messages seen seen counts counts [] []
+takes_first now messages seen counts = record {
+  given = tt;
+  cut = refl;
+  full = λ less. omega arith;
+  taken = refl;
+  accepted = omega arith;
+  refused = omega arith;
+}
+
+full_more : (outcomes more : List (Option Row)) (batches : List Batch) (rows : List Row) → rows ≡ rows_read more
+    → length rows ≡ 256 → length (rows_read outcomes) ≡ 256 * length batches
+    → length (rows_read (outcomes ++ more)) ≡ 256 * length (batches ++ batch_of rows)
+full_more outcomes more batches rows are one full = omega (
+  arith,
+  full,
+  one,
+  ap length are,
+  one_full rows one,
+  ap length (rows_append outcomes more),
+  length-append (rows_read outcomes) (rows_read more),
+  length-append batches (batch_of rows),
+)
+
+pub takes_more : (now at : ℕ) (messages : List (List ℕ)) (old mid new : Seen) (before counts after : Counts)
+    (outcomes more : List (Option Row)) (batches : List Batch) (rows : List Row)
+    → TakesUp now messages old mid before counts outcomes batches → at ≡ length outcomes
+    → BeginWith now (drop at messages) more → rows ≡ rows_read more → length rows ≤ 256
+    → at < length messages → (at + length more < length messages → length rows ≡ 256)
+    → TakesAll (λ entry. true) mid (batch_of rows) new → after.accepted ≡ counts.accepted + length rows
+    → after.refused ≡ counts.refused + (length more - length rows)
+    → TakesUp now messages old new before after (outcomes ++ more) (batches ++ batch_of rows)
+takes_more now at messages old mid new before counts after outcomes more batches rows t at_is given are few below last
+    taken accepted refused =
+    let full : length (rows_read outcomes) ≡ 256 * length batches = t.full (omega (arith, at_is, below)) in
+    let behind : BeginWith now (drop (length outcomes) messages) more =
+    subst (λ n. BeginWith now (drop n messages) more) at_is given in
+    record {
+      given = zip_append (IsOutcome now) messages outcomes more t.given behind;
+      cut = subst (λ l. AreBatches l (batches ++ batch_of rows))
+          (ap (λ l. rows_read outcomes ++ l) are ∙ sym (rows_append outcomes more))
+          (batches_append (rows_read outcomes) rows batches (batch_of rows) t.cut full (one_batch rows few));
+      full = λ less. full_more outcomes more batches rows are
+          (last (omega (arith, at_is, less, length-append outcomes more))) full;
+      taken = takes_append (λ entry. true) old mid new batches (batch_of rows) t.taken taken;
+      accepted = omega (
+        arith,
+        t.accepted,
+        accepted,
+        ap length are,
+        ap length (rows_append outcomes more),
+        length-append (rows_read outcomes) (rows_read more),
+      );
+      refused = omega (
+        arith,
+        t.refused,
+        refused,
+        ap length are,
+        rows_or_none more,
+        none_append outcomes more,
+      );
+    }
+
+-- there are no more rows than messages
+pub few_rows : (more : List (Option Row)) (rows : List Row) → rows ≡ rows_read more → length rows ≤ length more
+few_rows more rows are = omega (arith, ap length are, rows_or_none more)
+
+-- so the counts go no further than the messages
+pub few_counted : (now : ℕ) (messages : List (List ℕ)) (old new : Seen) (before after : Counts)
+    (outcomes : List (Option Row)) (batches : List Batch) → TakesUp now messages old new before after outcomes batches
+    → after.accepted + after.refused ≡ before.accepted + before.refused + length outcomes
+few_counted now messages old new before after outcomes batches t =
+    omega (arith, t.accepted, t.refused, rows_or_none outcomes)
+
+-- no message came
+pub takes_none : (messages : List (List ℕ)) (seen : Seen) (counts : Counts) (t : Option (List ℕ)) → messages ≡ []
+    → (now : ℕ) × (outcomes : List (Option Row)) × (batches : List Batch) × GaveMoments t t (moment_of messages now)
+    × TakesUp now messages seen seen counts counts outcomes batches × (length outcomes ≡ length messages)
+takes_none messages seen counts t none = (
+  0,
+  [],
+  [],
+  subst (λ l. GaveMoments t t (moment_of l 0)) (sym none) (silent t),
+  takes_first 0 messages seen counts,
+  sym (ap length none),
+)
+  where
+    silent : (t : Option (List ℕ)) → GaveMoments t t []
+    silent None = tt
+    silent (Some moments) = sym (append-nil moments)

@@ -1,0 +1,51 @@
+-- What follows from the definition of a session.
+use Rattle.std.specs.Prelude.{◌≡◌, ℕ, ◌≤◌, Bool, List, ◌++◌, Option, filter}
+use Rattle.vl_io.specs.Change.{Change}
+use Rattle.log_model.specs.History.{Entry, History, batches_in}
+use Rattle.log_model.specs.Row.{Batch}
+use Rattle.http_in.specs.Message.{Asked}
+use Rattle.http_in.specs.Requests.{AreRequests}
+use Rattle.vl_session.specs.Seen.{Seen}
+use Rattle.vl_session.specs.Session.{IsSession}
+use Rattle.vl_session.specs.Turns.{Turn, asked_in}
+use Rattle.vl_session.specs.declared.report.Done.{Done}
+use Rattle.vl_session.specs.declared.report.End.{End}
+use Rattle.vl_session.specs.declared.report.End.TheVariants as ends
+
+-- what a session is of: a caller, what it had seen before and then, the objects of the outside, and the report
+pub record Connection : Type 0 where
+  pub mine : Entry → Bool
+  pub first : Seen
+  pub last : Seen
+  pub source : Change
+  pub sink : Change
+  pub moments_old : Option (List ℕ)
+  pub moments_new : Option (List ℕ)
+  pub dones : List Done
+  pub end : End
+
+abbrev pub IsServedWhole : Connection → Type 0
+IsServedWhole c = IsSession c.mine c.first c.last c.source c.sink c.moments_old c.moments_new c.dones c.end
+
+-- the session ended by its input, and not by its own limits or those of its sink
+abbrev pub IsByInput : End → Type 0
+IsByInput ends.Closed = Unit {0}
+IsByInput ends.AskedClose = Unit {0}
+IsByInput ends.Limit = ⊥
+IsByInput ends.SourceFault = Unit {0}
+IsByInput ends.SinkFault = ⊥
+IsByInput (ends.BadInput fault) = Unit {0}
+IsByInput ends.Memory = ⊥
+
+-- Any requests that the bytes begin with are the first of those that had their turns.
+abbrev pub HaveTurns : List ℕ → List Turn → Type 0
+HaveTurns bytes turns =
+    (requests : List Asked) (behind : List ℕ) → AreRequests bytes requests behind
+    → (more : List Asked) × (asked_in turns ≡ requests ++ more)
+
+-- The history goes on, and these are the caller's own batches in it.
+pub record Grows (mine : Entry → Bool) (old new : Seen) (batches : List Batch) : Type 0 where
+  pub later : History
+  pub longer : new.history ≡ old.history ++ later
+  pub made : batches_in (filter mine later) ≡ batches
+  pub settled : old.settled ≤ new.settled

@@ -1,0 +1,122 @@
+-- How a session of syslog takes its input, a read at a time.
+use Rattle.std.specs.Prelude.{◌≡◌, ℕ, ◌*◌, ◌+◌, ◌-◌, ◌^◌, ◌<◌, ◌≤◌, true, List, [], ◌∷◌, ◌++◌, length, take, drop}
+use Rattle.std.specs.Prelude.{count_by, Option, None, Some, is_none}
+use Rattle.std.specs.List.{AllZip}
+use Rattle.vl_io.specs.Change.{Change, Gave, HasFailed, IsSpent}
+use Rattle.log_core.specs.declared.fault.CommitFault.{CommitFault}
+use Rattle.log_core.specs.declared.fault.CommitFault.TheVariants as commits
+use Rattle.log_model.specs.Core.{held_limit}
+use Rattle.log_model.specs.Row.{Batch, Row}
+use Rattle.syslog_in.specs.Framer.{Completes, Ends, Framing, HasTaken}
+use Rattle.syslog_in.specs.declared.fault.FrameFault.{FrameFault}
+use Rattle.syslog_in.specs.declared.fault.FrameFault.TheVariants as faults
+use Rattle.vl_session.specs.Seen.{Seen}
+use Rattle.vl_session.specs.SyslogSession.{AreBatches, IsBadFrame, IsOutcome, TakesAll, batch_rows}
+use Rattle.vl_session.specs.SyslogSession.{read_limit, rows_read}
+use Rattle.vl_session.specs.SyslogSession.{session_limit}
+use Rattle.vl_session.specs.declared.syslog_intake.Chunk.{Chunk}
+use Rattle.vl_session.specs.declared.syslog_intake.Counts.{Counts}
+use Rattle.vl_session.specs.declared.syslog_report.SyslogEnd.{SyslogEnd}
+use Rattle.vl_session.specs.declared.syslog_report.SyslogEnd.TheVariants as ends
+use Rattle.vl_session.specs.declared.syslog_report.SyslogReport.{SyslogReport}
+
+-- what a fault of the shared state is to the session
+abbrev pub end_of_commit : CommitFault → SyslogEnd
+end_of_commit (commits.Full held) = ends.Full held
+end_of_commit commits.Spent = ends.Spent
+end_of_commit commits.Memory = ends.Memory
+
+-- what a fault of the frames is to it
+abbrev pub end_of_frame : FrameFault → SyslogEnd
+end_of_frame (faults.BadLength at) = ends.BadFrame (faults.BadLength at)
+end_of_frame (faults.TooLong at) = ends.BadFrame (faults.TooLong at)
+end_of_frame (faults.Cut at) = ends.BadFrame (faults.Cut at)
+end_of_frame (faults.Ended first at) = ends.BadFrame (faults.Ended first at)
+end_of_frame faults.Memory = ends.Memory
+
+-- ---- messages
+
+-- These messages, which came in at that moment, begin with some that have these outcomes.
+abbrev pub BeginWith : ℕ → List (List ℕ) → List (Option Row) → Type 0
+BeginWith now messages outcomes = AllZip (IsOutcome now) (take (length outcomes) messages) outcomes
+
+-- The rows of the messages from one place to another.
+pub record IsChunk (now : ℕ) (messages : List (List ℕ)) (start : ℕ) (chunk : Chunk) : Type 0 where
+  pub outcomes : List (Option Row)
+  pub given : BeginWith now (drop start messages) outcomes
+  pub end_is : chunk.end ≡ start + length outcomes
+  pub rows : chunk.rows.items ≡ rows_read outcomes
+
+-- rows that are one batch, if there are any
+abbrev pub batch_of : List Row → List Batch
+batch_of [] = []
+batch_of (row ∷ rows) = (row ∷ rows) ∷ []
+
+-- what stands against rows that are one batch
+abbrev pub HoldsUp : List Row → Seen → SyslogEnd → Type 0
+HoldsUp rows seen ends.Closed = ⊥
+HoldsUp rows seen ends.Limit = ⊥
+HoldsUp rows seen ends.SourceFault = ⊥
+HoldsUp rows seen (ends.BadFrame fault) = ⊥
+HoldsUp rows seen (ends.Full held) =
+    (0 < length rows) × (held ≡ held_limit) × (length seen.history ≡ seen.settled + held_limit)
+HoldsUp rows seen ends.Spent = (0 < length rows) × (length seen.history ≡ 2 ^ 63 - 1)
+HoldsUp rows seen ends.Memory = Unit {0}
+
+-- The first of these messages were taken up, and have these outcomes. The caller is the only one.
+pub record TakesUp (now : ℕ) (messages : List (List ℕ)) (old new : Seen) (before after : Counts)
+    (outcomes : List (Option Row)) (batches : List Batch) : Type 0 where
+  pub given : BeginWith now messages outcomes
+  pub cut : AreBatches (rows_read outcomes) batches
+  pub full : length outcomes < length messages → length (rows_read outcomes) ≡ batch_rows * length batches
+  pub taken : TakesAll (λ entry. true) old batches new
+  pub accepted : after.accepted ≡ before.accepted + length (rows_read outcomes)
+  pub refused : after.refused ≡ before.refused + count_by is_none outcomes
+
+-- Why no more of them were.
+abbrev pub StopsAt : ℕ → List (List ℕ) → List (Option Row) → Seen → SyslogEnd → Type 0
+StopsAt now messages outcomes seen end =
+    (later : List (Option Row)) × BeginWith now (drop (length outcomes) messages) later
+    × HoldsUp (rows_read later) seen end
+
+-- ---- reads
+
+-- The source gave a piece, with these messages and this rest.
+pub record Feeds (fed piece : List ℕ) (source : Change) (messages : List (List ℕ)) (rest : List ℕ) : Type 0 where
+  pub gave : Gave source piece
+  pub some : 0 < length piece
+  pub few : length piece ≤ read_limit
+  pub within : length (fed ++ piece) ≤ session_limit
+  pub completes : Completes fed piece [] messages rest
+
+-- what a read comes to behind these bytes, and why the session ends behind its messages, if it does
+abbrev pub Comes : List ℕ → Change → Framing → Framing → List (List ℕ) → ℕ → Option SyslogEnd → Type 0
+Comes fed source old new messages taken None =
+    (piece : List ℕ) × Feeds fed piece source messages new.rest × HasTaken new (fed ++ piece)
+    × (length (fed ++ piece) ≡ taken) × (taken < session_limit)
+Comes fed source old new messages taken (Some ends.Closed) =
+    Gave source [] × IsSpent source × Ends old [] messages
+Comes fed source old new messages taken (Some ends.Limit) =
+    (piece : List ℕ) × Feeds fed piece source messages new.rest × HasTaken new (fed ++ piece)
+    × (length (fed ++ piece) ≡ session_limit)
+Comes fed source old new messages taken (Some ends.SourceFault) =
+    Gave source [] × HasFailed source × (messages ≡ [])
+Comes fed source old new messages taken (Some (ends.BadFrame (faults.BadLength at))) =
+    (piece : List ℕ) × (rest : List ℕ) × Feeds fed piece source messages rest
+    × IsBadFrame source (fed ++ piece) rest (faults.BadLength at)
+Comes fed source old new messages taken (Some (ends.BadFrame (faults.TooLong at))) =
+    (piece : List ℕ) × (rest : List ℕ) × Feeds fed piece source messages rest
+    × IsBadFrame source (fed ++ piece) rest (faults.TooLong at)
+Comes fed source old new messages taken (Some (ends.BadFrame (faults.Cut at))) =
+    Gave source [] × IsBadFrame source fed old.rest (faults.Cut at) × (messages ≡ [])
+Comes fed source old new messages taken (Some (ends.BadFrame (faults.Ended first at))) = ⊥
+Comes fed source old new messages taken (Some (ends.BadFrame faults.Memory)) = ⊥
+Comes fed source old new messages taken (Some (ends.Full held)) = ⊥
+Comes fed source old new messages taken (Some ends.Spent) = ⊥
+Comes fed source old new messages taken (Some ends.Memory) =
+    (piece : List ℕ) × Gave source piece × (length piece ≤ read_limit)
+    × (length (fed ++ piece) ≤ session_limit) × (messages ≡ [])
+
+-- what is reported
+abbrev pub report_of : Counts → SyslogEnd → SyslogReport
+report_of counts end = record { accepted = counts.accepted; refused = counts.refused; end = end }

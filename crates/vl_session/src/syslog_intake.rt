@@ -1,0 +1,155 @@
+//! Messages of syslog taken into the shared state.
+ghost use Rattle.std.specs.Prelude.{◌≡◌, ℕ, ◌+◌, ◌*◌, ◌^◌, ◌<◌, ◌≤◌, IfErr, IfOk, IfSome, List, OnErr, OnOk, Option};
+ghost use Rattle.std.specs.Prelude.{length, true, vec_len};
+ghost use Rattle.log_model.specs.Row.{Batch as Rows, IsRow, Row as Event, batch_weight};
+ghost use Rattle.vl_session.specs.Insertion.{seen_of};
+ghost use Rattle.vl_session.specs.SyslogSession.{IsOutcome, TakesAll, batch_rows, moment_of};
+ghost use Rattle.vl_session.specs.SyslogTaking.{HoldsUp, IsChunk, StopsAt, TakesUp, batch_of};
+ghost use Rattle.vl_session.specs.Turns.{GaveMoments};
+
+use crate::syslog_report::SyslogEnd;
+use ingest_row::{SyslogKind, row_of_syslog};
+use log_core::Shelf;
+use std::alloc::{AllocError, Global};
+use syslog_in::Frames;
+use vl_io::Clock;
+use vl_row::{Batch, BatchFault, Row, RowList};
+
+/// The most rows of a batch. So many rows are never too much for one.
+const BATCH_ROWS: usize = 256;
+
+/// How many messages have a row that was taken in, and how many have none.
+#[derive(Clone, Copy)]
+pub(crate) struct Counts {
+    pub(crate) accepted: u64,
+    pub(crate) refused: u64,
+}
+
+/// Rows that are one batch, if there are any.
+#[derive(Drop)]
+struct Chunk {
+    rows: Vec<Row>,
+    /// The place behind the messages that have them.
+    end: usize,
+}
+
+/// Takes in the messages that a read completed. The clock is asked once, if there are any. Messages that an end keeps
+/// back are not counted.
+pub(crate) fn take_in<C: Clock>(
+    alloc: Global,
+    shelf: &mut Shelf<RowList>,
+    messages: &Frames,
+    clock: &mut C,
+    counts: &mut Counts,
+) -> Result<(), SyslogEnd>
+    requires room { counts.old.accepted + counts.old.refused + length messages.now < 2 ^ 64 }
+    ensures all { OnOk result ((now : ℕ) × (outcomes : List (Option Event)) × (batches : List Rows)
+        × GaveMoments (C.moments clock.old) (C.moments clock.new) (moment_of messages.now now)
+        × TakesUp now messages.now (seen_of shelf.old) (seen_of shelf.new) counts.old counts.new outcomes batches
+        × (length outcomes ≡ length messages.now)) }
+    ensures some { IfErr result (λ end. (now : ℕ) × (outcomes : List (Option Event)) × (batches : List Rows)
+        × GaveMoments (C.moments clock.old) (C.moments clock.new) (moment_of messages.now now)
+        × TakesUp now messages.now (seen_of shelf.old) (seen_of shelf.new) counts.old counts.new outcomes batches
+        × StopsAt now messages.now outcomes (seen_of shelf.new) end
+        × (length outcomes < length messages.now)) }
+{
+    if messages.is_empty() {
+        return Ok(());
+    }
+    let now = clock.now().unsigned_abs();
+    take_batches(alloc, shelf, messages, now, counts)
+}
+
+/// Takes in messages that came in at this moment, a batch at a time.
+fn take_batches(
+    alloc: Global,
+    shelf: &mut Shelf<RowList>,
+    messages: &Frames,
+    now: u64,
+    counts: &mut Counts,
+) -> Result<(), SyslogEnd>
+    requires moment { now < 2 ^ 63 }
+    requires room { counts.old.accepted + counts.old.refused + length messages.now < 2 ^ 64 }
+    ensures all { OnOk result ((outcomes : List (Option Event)) × (batches : List Rows)
+        × TakesUp now messages.now (seen_of shelf.old) (seen_of shelf.new) counts.old counts.new outcomes batches
+        × (length outcomes ≡ length messages.now)) }
+    ensures some { IfErr result (λ end. (outcomes : List (Option Event)) × (batches : List Rows)
+        × TakesUp now messages.now (seen_of shelf.old) (seen_of shelf.new) counts.old counts.new outcomes batches
+        × StopsAt now messages.now outcomes (seen_of shelf.new) end
+        × (length outcomes < length messages.now)) }
+{
+    let mut at = 0;
+    'batches: while at < messages.len() {
+        let Chunk { rows, end } = match read_chunk(alloc, now, messages, at) {
+            Ok(chunk) => chunk,
+            Err(AllocError) => return Err(SyslogEnd::Memory),
+        };
+        let accepted = rows.len();
+        match commit_rows(alloc, shelf, rows) {
+            Ok(()) => {}
+            Err(end) => return Err(end),
+        }
+        counts.accepted += accepted as u64;
+        counts.refused += (end - at - accepted) as u64;
+        at = end;
+    }
+    Ok(())
+}
+
+/// Reads messages that came in at this moment, from a place on, up to the last row of a batch.
+fn read_chunk(alloc: Global, now: u64, messages: &Frames, start: usize) -> Result<Chunk, AllocError>
+    requires moment { now < 2 ^ 63 }
+    requires within { start < length messages.now }
+    ensures chunk { IfOk result (IsChunk now messages.now start) }
+    ensures further { IfOk result (λ chunk. start < chunk.end) }
+    ensures within { IfOk result (λ chunk. chunk.end ≤ length messages.now) }
+    ensures few { IfOk result (λ chunk. vec_len chunk.rows ≤ batch_rows) }
+    ensures full { IfOk result (λ chunk. chunk.end < length messages.now → vec_len chunk.rows ≡ batch_rows) }
+    ensures light { IfOk result (λ chunk. batch_weight chunk.rows.items ≤ 262_144 * vec_len chunk.rows) }
+{
+    let mut rows = Vec::with_capacity(alloc, BATCH_ROWS.min(messages.len() - start))?;
+    let mut end = start;
+    'messages: while end < messages.len() && rows.len() < BATCH_ROWS {
+        if let Some(row) = read_row(alloc, now, messages.at(end))? {
+            rows.push(row)?;
+        }
+        end += 1;
+    }
+    Ok(Chunk { rows, end })
+}
+
+/// The row of a message that came in at this moment, if it has one.
+fn read_row(alloc: Global, now: u64, message: &[u8]) -> Result<Option<Row>, AllocError>
+    requires { now < 2 ^ 63 }
+    ensures outcome { IfOk result (IsOutcome now message.now) }
+    ensures rules { IfOk result (λ row. IfSome row IsRow) }
+{
+    match row_of_syslog(alloc, now as i64, message) {
+        Ok(row) => {
+            let _ = row.fields();
+            Ok(Some(row))
+        }
+        Err(SyslogKind::Memory) => Err(AllocError),
+        Err(SyslogKind::Message(_)) => Ok(None),
+        Err(SyslogKind::Row(_)) => Ok(None),
+    }
+}
+
+/// Commits rows as one batch, if there are any.
+fn commit_rows(alloc: Global, shelf: &mut Shelf<RowList>, rows: Vec<Row>) -> Result<(), SyslogEnd>
+    requires few { vec_len rows ≤ batch_rows }
+    requires light { batch_weight rows.items ≤ 262_144 * vec_len rows }
+    ensures ok { OnOk result (TakesAll (λ entry. true) (seen_of shelf.old) (batch_of rows.items) (seen_of shelf.new)) }
+    ensures refused { IfErr result (HoldsUp rows.items (seen_of shelf.old)) }
+    ensures same { OnErr result (shelf.new ≡ shelf.old) }
+{
+    let batch = match Batch::try_of(rows) {
+        Ok(batch) => batch,
+        Err((BatchFault::NoRows, _)) => return Ok(()),
+        Err((BatchFault::Large { .. }, _)) => unreachable!(),
+    };
+    if let Err((fault, _)) = shelf.commit(alloc, RowList::from(batch)) {
+        return Err(SyslogEnd::from(fault));
+    }
+    Ok(())
+}

@@ -1,0 +1,76 @@
+//! What a session of syslog reports.
+ghost use Rattle.std.specs.Prelude.{◌≡◌};
+
+use log_core::CommitFault;
+use std::alloc::AllocError;
+use syslog_in::FrameFault;
+
+/// What a session of syslog did.
+#[derive(Clone, Copy, Debug, PartialEq, Eq)]
+pub struct SyslogReport {
+    /// How many messages have a row that was taken in.
+    pub accepted: u64,
+    /// How many messages have none.
+    pub refused: u64,
+    pub end: SyslogEnd,
+}
+
+/// Why a session of syslog ended. With one of the last three, messages that came were not taken in, and are not
+/// counted.
+#[derive(Clone, Copy, Debug, PartialEq, Eq)]
+pub enum SyslogEnd {
+    /// The input ended, and not inside a counted frame.
+    Closed,
+    /// 268,435,456 bytes came, and the input had not ended.
+    Limit,
+    /// The source failed.
+    SourceFault,
+    /// What came next is no frame.
+    BadFrame(FrameFault),
+    /// So many batches wait to be settled, and no more may.
+    Full {
+        /// How many wait: 4,096.
+        held: u64,
+    },
+    /// There is no number for one more batch.
+    Spent,
+    /// Memory ran out.
+    Memory,
+}
+
+impl From<AllocError> for SyslogEnd {
+    ghost use Rattle.vl_session.specs.declared.syslog_report.SyslogEnd.TheVariants.{Memory};
+
+    ghost from_gives = { λ _ end. end ≡ Memory };
+
+    fn from(_: AllocError) -> SyslogEnd {
+        SyslogEnd::Memory
+    }
+}
+
+impl From<CommitFault> for SyslogEnd {
+    ghost use Rattle.vl_session.specs.SyslogTaking.{end_of_commit};
+
+    ghost from_gives = { λ fault end. end ≡ end_of_commit fault };
+
+    fn from(fault: CommitFault) -> SyslogEnd {
+        match fault {
+            CommitFault::Full { held } => SyslogEnd::Full { held },
+            CommitFault::Spent => SyslogEnd::Spent,
+            CommitFault::Memory => SyslogEnd::Memory,
+        }
+    }
+}
+
+impl From<FrameFault> for SyslogEnd {
+    ghost use Rattle.vl_session.specs.SyslogTaking.{end_of_frame};
+
+    ghost from_gives = { λ fault end. end ≡ end_of_frame fault };
+
+    fn from(fault: FrameFault) -> SyslogEnd {
+        match fault {
+            FrameFault::Memory => SyslogEnd::Memory,
+            _ => SyslogEnd::BadFrame(fault),
+        }
+    }
+}

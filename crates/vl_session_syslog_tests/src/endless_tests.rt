@@ -1,0 +1,44 @@
+//! An input without an end.
+ghost use Rattle.std.specs.Prelude.{◌≤◌, IfOk, None, length};
+ghost use Rattle.vl_io.specs.Bytes.{ReadConsumes};
+ghost use Rattle.vl_io.specs.Faults.{HasCause};
+
+use log_core::Shelf;
+use std::alloc::{AllocError, Global};
+use vl_io::{Failed, MemClock, Source};
+use vl_row::RowList;
+use vl_session::syslog_session;
+
+/// Each read fills the buffer with one line.
+#[derive(Drop)]
+struct SameLine;
+
+impl Source for SameLine {
+    ghost left = { λ _. None };
+
+    ghost faults = { λ _. 0 };
+
+    fn read(&mut self, buf: &mut [u8]) -> Result<usize, Failed>
+        ensures bound { IfOk result (λ n. n ≤ length buf.new) }
+        ensures bytes { ReadConsumes None None result buf.new }
+        ensures cause { HasCause 0 0 result }
+    {
+        buf.fill(b'a');
+        let count = buf.len();
+        if count > 0 {
+            buf[count - 1] = b'\n';
+        }
+        Ok(count)
+    }
+}
+
+/// A session over it.
+pub fn endless_input(alloc: Global) -> Result<String, AllocError> {
+    let mut clock = MemClock::of(alloc, &[5])?;
+    let mut shelf: Shelf<RowList> = Shelf::fresh(alloc)?;
+    let report = syslog_session(alloc, &mut shelf, &mut SameLine, &mut clock);
+    format!(in alloc;
+        "no end: accepted {}, refused {}, {:?}",
+        report.accepted, report.refused, report.end
+    )
+}

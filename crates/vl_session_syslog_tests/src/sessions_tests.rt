@@ -1,0 +1,80 @@
+//! One session over a shelf that is empty before.
+ghost use Rattle.std.specs.Prelude.{◌<◌, All, IfOk};
+
+use log_core::Shelf;
+use std::alloc::{AllocError, Global};
+use std::fmt::Write;
+use vl_io::{MemClock, MemSource};
+use vl_row::RowList;
+use vl_session::{SyslogReport, answer_query, syslog_session};
+
+/// How the input comes.
+#[derive(Clone, Copy)]
+pub struct Setting {
+    /// How many bytes a read gives at most, or 0 for as many as there is room for.
+    pub piece: usize,
+    pub failing_read: Option<u64>,
+}
+
+/// What a session came to.
+#[derive(Drop)]
+pub struct Told {
+    pub report: SyslogReport,
+    pub batches: u64,
+    pub lines: String,
+}
+
+pub fn tell(
+    alloc: Global,
+    bytes: &[u8],
+    query: &str,
+    setting: Setting,
+) -> Result<Told, AllocError> {
+    let pieces = pieces(alloc, bytes.len(), setting.piece)?;
+    let reads = listed(alloc, setting.failing_read)?;
+    let mut source = MemSource::of(alloc, bytes, &pieces, &reads)?;
+    let mut clock = MemClock::of(alloc, &[5, 6, 7])?;
+    let mut shelf: Shelf<RowList> = Shelf::fresh(alloc)?;
+    let report = syslog_session(alloc, &mut shelf, &mut source, &mut clock);
+    let mut lines = String::new(alloc);
+    push_lines(alloc, &shelf, query, &mut lines)?;
+    Ok(Told {
+        report,
+        batches: shelf.count(),
+        lines,
+    })
+}
+
+/// The lines that answer the query, each behind a blank.
+fn push_lines(
+    alloc: Global,
+    shelf: &Shelf<RowList>,
+    query: &str,
+    out: &mut String,
+) -> Result<(), AllocError> {
+    let Ok(answer) = answer_query(alloc, shelf, query, 9) else {
+        return out.push_str(" no answer");
+    };
+    for line in answer.lines.as_str().lines() {
+        write!(out, " {line}")?;
+    }
+    Ok(())
+}
+
+/// Pieces of this length for all bytes, or no pieces.
+fn pieces(alloc: Global, count: usize, len: usize) -> Result<Vec<usize>, AllocError>
+    ensures { IfOk result (λ pieces. All (λ piece. 0 < piece) pieces.items) }
+{
+    if len == 0 {
+        return Ok(Vec::new(alloc));
+    }
+    vec![in alloc; len; count]
+}
+
+fn listed(alloc: Global, call: Option<u64>) -> Result<Vec<u64>, AllocError> {
+    let mut calls = Vec::new(alloc);
+    if let Some(call) = call {
+        calls.push(call)?;
+    }
+    Ok(calls)
+}
