@@ -1,62 +1,82 @@
--- What the shelf holds, as a history of batches.
-use Rattle.std.proofs.Common.{◌≡◌, ℕ, suc, ◌<◌, ◌≤◌, List, [], ◌∷◌, ◌++◌, length, drop, flat_map, All, None, refl, sym, ap, subst, ◌∙◌, arith}
+-- What has been seen, as a history of batches.
+use Rattle.std.proofs.Common.{◌≡◌, ℕ, ◌+◌, ◌<◌, ◌≤◌, pos, Bool, true, List, [], ◌∷◌, ◌++◌, length, refl, sym, ap, subst, ◌∙◌, arith}
+use Rattle.std.specs.Prelude.{filter}
 use Rattle.std.proofs.lemmas.List.{length-map, map-append}
-use Rattle.log_model.specs.Core.{Contents, Goes, HoldsEach, commit, held_limit, parts_of}
-use Rattle.log_model.specs.History.{AreInOrder, AreRowsOf, Entry, History, Numbered, entry_rows, rows_in, rows_of}
-use Rattle.log_model.specs.Row.{Batch, Row}
-use Rattle.log_model.proofs.Numbering.{same_in_order}
-use Rattle.log_model.proofs.Standing.{stands_after}
+use Rattle.log_model.specs.Core.{held_limit}
+use Rattle.log_model.specs.History.{Entry, History, batches_in, entry_rows}
+use Rattle.log_model.specs.Row.{Batch, Row, batch_limit, batch_weight}
+use Rattle.ingest_row.specs.Ingest.{Options, plain}
+use Rattle.ingest_row.specs.Intake.{Outcome, rows_read}
+use Rattle.vl_session.specs.Insert.{HasInsertOutcome, insert_effect}
+use Rattle.vl_session.specs.Insertion.{Inserts, accepted}
+use Rattle.vl_session.specs.Seen.{Gains, Has, Seen}
+use Rattle.vl_session.specs.declared.insert.Insertion.{Insertion}
 use Rattle.vl_top.specs.Groups.{batch_of}
-use Rattle.vl_top.specs.Load.{IsHeld}
+use Rattle.vl_top.specs.Load.{AddsRows, IsHeld, TakesGroup}
+use Rattle.vl_top.proofs.GroupLemmas.{append_nil}
 
--- one batch more
-pub held_more : (old new : Contents (List Numbered)) (part : List Numbered) (rows : List Row) (batches : List Batch)
-    → 0 < length rows → AreRowsOf part rows →
-    ((entry : Entry) → AreRowsOf part (entry_rows entry) → Goes (λ r. r) old (commit entry) new)
-    → IsHeld old batches → IsHeld new (batches ++ batch_of rows)
-held_more old new part [] batches some are goes held = absurd (omega arith)
-held_more old new part (row ∷ rows) batches some are goes held =
-    let entry : Entry = record { first = row; others = rows; maker = None } in
-    let step = goes entry are in
-    record {
-      history = held.history ++ entry ∷ [];
-      entered = map-append entry_rows held.history (entry ∷ []) ∙ ap (λ bs. bs ++ (row ∷ rows) ∷ []) held.entered;
-      stands = stands_after (λ r. r) old new held.history (commit entry) step held.stands;
-      settled = ap (λ (held : Contents (List Numbered)). held.settled) step.3 ∙ held.settled;
-      days = ap (λ (held : Contents (List Numbered)). held.days) step.3 ∙ held.days;
-    }
+-- All entries are the one caller's own.
+all_own : (history : History) → filter (λ (entry : Entry). true) history ≡ [] → history ≡ []
+all_own [] none = refl
+all_own (entry ∷ history) none = absurd cc
 
-as_many : (shelf : Contents (List Numbered)) (batches : List Batch) (held : IsHeld shelf batches) → length batches
-    ≡ length held.history
-as_many shelf batches held = sym (ap length held.entered) ∙ length-map held.history entry_rows
+as_many : (seen : Seen) (batches : List Batch) → IsHeld seen batches → length batches ≡ length seen.history
+as_many seen batches held = sym (ap length held.entered) ∙ length-map seen.history entry_rows
 
-pub held_few : (shelf : Contents (List Numbered)) (batches : List Batch) → IsHeld shelf batches
-    → length batches ≤ held_limit
-held_few shelf batches held = omega
-    (arith, held.settled, held.stands.counted, held.stands.few, as_many shelf batches held)
+pub held_few : (seen : Seen) (batches : List Batch) → IsHeld seen batches → length seen.history ≤ held_limit
+held_few seen batches held = omega (arith, held.few, as_many seen batches held)
 
-pub held_all : (shelf : Contents (List Numbered)) (batches : List Batch) → IsHeld shelf batches
-    → length shelf.unsettled ≡ held_limit → length batches ≡ held_limit
-held_all shelf batches held full = omega (arith, held.settled, held.stands.counted, full, as_many shelf batches held)
+pub held_all : (seen : Seen) (batches : List Batch) → IsHeld seen batches
+    → length seen.history ≡ seen.settled + held_limit → length batches ≡ held_limit
+held_all seen batches held full = omega (arith, held.settled, full, as_many seen batches held)
 
-each_rows : (n : ℕ) (parts : List (List Numbered)) (history : History) → HoldsEach (λ r. r) n parts history
-    → All AreInOrder parts → flat_map rows_in parts ≡ rows_of history
-each_rows n [] [] each ordered = refl
-each_rows n (part ∷ parts) (entry ∷ history) each ordered =
-    ap (λ rows. rows ++ flat_map rows_in parts)
-    (same_in_order part (suc n) (entry_rows entry) (ordered 0 [] (omega arith)) each.0)
-    ∙ ap (λ rows. entry_rows entry ++ rows)
-    (each_rows (suc n) parts history each.1 (λ k d below. ordered (suc k) d (omega arith)))
-each_rows n [] (entry ∷ history) each ordered = absurd each
-each_rows n (part ∷ parts) [] each ordered = absurd each
+-- the batches with one entry more, which comes right behind them
+batches-gained : (old new : Seen) (rows : List Row) → Gains (λ entry. true) old new rows
+    → batches_in new.history ≡ batches_in old.history ++ rows ∷ []
+batches-gained old new rows gains =
+    let last : gains.others ++ gains.entry ∷ [] ≡ gains.entry ∷ [] =
+    ap (λ (others : History). others ++ gains.entry ∷ []) (all_own gains.others gains.not_mine) in
+    ap batches_in gains.longer
+    ∙ ap (λ (later : History). batches_in (old.history ++ later)) last
+    ∙ map-append entry_rows old.history (gains.entry ∷ [])
+    ∙ ap (λ rows. batches_in old.history ++ rows ∷ []) gains.rows
 
--- the rows on the shelf are those of its history, in order
-pub held_rows : (shelf : Contents (List Numbered)) (batches : List Batch) (held : IsHeld shelf batches)
-    → All AreInOrder (parts_of shelf)
-    → flat_map rows_in (parts_of shelf) ≡ rows_of held.history
-held_rows shelf batches held ordered =
-    let same : parts_of shelf ≡ shelf.unsettled = ap (λ days. days ++ shelf.unsettled) held.days in
-    ap (flat_map rows_in) same
-    ∙ each_rows 0 shelf.unsettled held.history
-    (subst (λ n. HoldsEach (λ r. r) n shelf.unsettled (drop n held.history)) held.settled held.stands.unsettled)
-    (subst (All AreInOrder) same ordered)
+module _ (options : Options) (now : ℕ) (body : List ℕ) (outcomes : List Outcome) (old new : Seen)
+    (same : new.settled ≡ old.settled) where
+  adds : (rows : List Row) → rows_read outcomes ≡ rows
+      → HasInsertOutcome options now body new (accepted rows outcomes)
+      → Has (λ entry. true) old new (insert_effect (accepted rows outcomes)) → AddsRows old new rows
+  adds [] none comes stays = (
+    omega arith,
+    λ batches held. subst (λ seen. IsHeld seen (batches ++ [])) (sym stays)
+        (subst (IsHeld old) (sym (append_nil batches)) held),
+  )
+  adds (row ∷ rows) are comes gains = (
+    subst (λ rows. batch_weight rows ≤ batch_limit) are comes.0.light,
+    λ batches held.
+        let gained : Gains (λ entry. true) old new (row ∷ rows) = subst (Gains (λ entry. true) old new) are gains in
+        let entered : batches_in new.history ≡ batches ++ (row ∷ rows) ∷ [] =
+        batches-gained old new (row ∷ rows) gained ∙ ap (λ bs. bs ++ (row ∷ rows) ∷ []) held.entered in
+        let settled : new.settled ≡ 0 = same ∙ held.settled in
+        record {
+          entered = entered;
+          few = omega (
+            arith,
+            comes.1.few,
+            settled,
+            ap length entered,
+            length-map new.history entry_rows,
+          );
+          settled = settled;
+        },
+  )
+
+-- A group was taken in.
+pub takes : (now : ℕ) (body : List ℕ) (old new : Seen) (insertion : Insertion) → new.settled ≡ old.settled
+    → (inserts : Inserts (λ entry. true) plain now body old new insertion)
+    → TakesGroup now body inserts.outcomes old new
+takes now body old new insertion same inserts = record {
+  intake = inserts.given;
+  adds = adds plain now body inserts.outcomes old new same (rows_read inserts.outcomes) refl inserts.has_outcome
+      inserts.has;
+}

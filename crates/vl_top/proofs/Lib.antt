@@ -1,5 +1,6 @@
 pub mod GroupLemmas
 pub mod HeldLemmas
+pub mod InsertLemmas
 pub mod LineLemmas
 pub mod LoadLemmas
 pub mod PipeLemmas

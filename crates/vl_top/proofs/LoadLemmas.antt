@@ -8,12 +8,11 @@ use Rattle.vl_io.specs.Change.{Change, Gave, IsCut, IsSpent, Took}
 use Rattle.vl_io.specs.Faults.{Rose}
 use Rattle.vl_io.specs.Lines.{Advances, AreFewer, AreLines, FallsShort, IsGroup, IsOver, IsTooLong, Reading, bytes_read, is_feed, piece_len}
 use Rattle.vl_io.proofs.Laws.{Appends-nil, Appends-trans, Consumes-nil, Consumes-trans, Rose-earlier}
-use Rattle.log_model.specs.Core.{Contents}
-use Rattle.log_model.specs.History.{Numbered}
 use Rattle.log_model.specs.Line.{lines_of}
 use Rattle.log_model.specs.Row.{batch_limit, batch_weight}
 use Rattle.log_model.proofs.Lines.{lines_le, lines_of-none}
 use Rattle.ingest_row.specs.Intake.{Outcome, rows_read}
+use Rattle.vl_session.specs.Seen.{Seen}
 use Rattle.vl_top.specs.Groups.{AreGroups, BeginsWith, CanBeHeld, EndsLine, HasOutcome, HaveOutcomes, batches_of, outcomes_in, refusals_from, refusals_of}
 use Rattle.vl_top.specs.Program as model
 use Rattle.vl_top.specs.Program.{AreFew, HaveNoGroup, IsBeyond, IsCause, StopsBehind}
@@ -27,7 +26,7 @@ use Rattle.vl_top.specs.declared.interrupt.Limit.TheVariants.{Long, Large, Full}
 use Rattle.vl_top.specs.declared.interrupt.Interrupt.{Interrupt}
 use Rattle.vl_top.specs.declared.interrupt.Interrupt.TheVariants.{Unreadable, Unwritable, Beyond, NoAnswer, NoMemory}
 use Rattle.vl_top.proofs.GroupLemmas.{append_nil, AllByRecursion-more, AllZip-length, AreGroups-more, AreGroups-weaken, AreGroups-whole, AreWhole, batches-more, intake-more, outcomes-more, refusals-more}
-use Rattle.vl_top.proofs.HeldLemmas.{held_all, held_few}
+use Rattle.vl_top.proofs.HeldLemmas.{held_all}
 use Rattle.vl_top.proofs.LineLemmas.{length-lines_of, lines_few, lines_some}
 
 abbrev pub change : Option (List ℕ) → Option (List ℕ) → ℕ → ℕ → Change
@@ -35,7 +34,7 @@ change before after faults_before faults_after =
     record { bytes_before = before; bytes_after = after; faults_before = faults_before; faults_after = faults_after }
 
 -- what is so at the start of each turn
-pub record Loading (now : ℕ) (source errors : Change) (reader : Reading) (shelf : Contents (List Numbered))
+pub record Loading (now : ℕ) (source errors : Change) (reader : Reading) (shelf : Seen)
     (lines : ℕ) : Type 0 where
   pub taken : List ℕ
   pub groups : List (List Outcome)
@@ -59,7 +58,7 @@ pub record Loading (now : ℕ) (source errors : Change) (reader : Reading) (shel
   pub errors_stay : errors.faults_before ≤ errors.faults_after
 
 pub loading_starts : (now : ℕ) (left : Option (List ℕ)) (s : ℕ) (err : Option (List ℕ)) (f : ℕ) (reader : Reading)
-    (shelf : Contents (List Numbered))
+    (shelf : Seen)
     → reader ≡ record { lines = 1000; limit = input_limit; passed = 0; group = []; ahead = []; ended = false }
     → IsHeld shelf []
     → Loading now (change left left s s) (change err err f f) reader shelf 0
@@ -167,11 +166,11 @@ pub lines_at_most : (next : Reading) → next.lines ≡ 1000 → IsGroup next �
 lines_at_most next lines (inl whole) = omega (arith, length-lines_of next.lines next.group whole, lines)
 lines_at_most next lines (inr short) = omega (arith, lines_few next.group, short.1, lines)
 
-fits_more : (shelf : Contents (List Numbered)) (groups : List (List Outcome)) (group : List Outcome)
+fits_more : (shelf : Seen) (groups : List (List Outcome)) (group : List Outcome)
     → CanBeHeld groups → batch_weight (rows_read group) ≤ batch_limit
     → IsHeld shelf (batches_of (groups ++ group ∷ [])) → CanBeHeld (groups ++ group ∷ [])
 fits_more shelf groups group fits light held = record {
-  few = held_few shelf (batches_of (groups ++ group ∷ [])) held;
+  few = held.few;
   light = AllByRecursion-more (λ g. batch_weight (rows_read g) ≤ batch_limit) groups group fits.light light;
 }
 
@@ -196,7 +195,7 @@ behind taken group ahead before piece e = append_assoc taken before piece ∙ ap
 
 module _ (now : ℕ) (left0 left1 left2 : Option (List ℕ)) (s0 s1 s2 : ℕ) (err0 err1 err2 : Option (List ℕ))
     (f0 f1 f2 : ℕ) (reader next : Reading)
-    (old new : Contents (List Numbered)) (lines : ℕ) where
+    (old new : Seen) (lines : ℕ) where
   abbrev Before : Type 0
   Before = Loading now (change left0 left1 s0 s1) (change err0 err1 f0 f1) reader old lines
 
@@ -214,7 +213,7 @@ module _ (now : ℕ) (left0 left1 left2 : Option (List ℕ)) (s0 s1 s2 : ℕ) (e
   held_group : (groups : List (List Outcome)) (group : List Outcome) → IsHeld old (batches_of groups)
       → TakesGroup now next.group group old new → IsHeld new (batches_of (groups ++ group ∷ []))
   held_group groups group held takes = subst (IsHeld new) (sym (batches-more groups group))
-      (takes.commits.1 (batches_of groups) held)
+      (takes.adds.1 (batches_of groups) held)
 
   ahead_more : (l : Before) → length next.ahead ≤ max (length reader.ahead) piece_len → length next.ahead ≤ piece_len
   ahead_more l few = omega (arith, l.ahead)
@@ -256,7 +255,7 @@ module _ (now : ℕ) (left0 left1 left2 : Option (List ℕ)) (s0 s1 s2 : ℕ) (e
         );
         over = at_end;
         few = omega (arith, before, taken_lines, lines_le l.taken, length-append l.taken next.group);
-        fits = fits_more new l.groups group l.fits takes.commits.0 held;
+        fits = fits_more new l.groups group l.fits takes.adds.0 held;
         held = held;
         named = subst (Appends err0 err2) (sym (refusals-more l.groups group lines before))
             (Appends-trans err0 err1 err2 _ _ l.named named);
@@ -337,7 +336,7 @@ module _ (now : ℕ) (left0 left1 left2 : Option (List ℕ)) (s0 s1 s2 : ℕ) (e
         groups = l.groups;
         group = group;
         begins = begins_with l goes_on advanced is_group at_end group takes.intake;
-        fits = fits_more new l.groups group l.fits takes.commits.0 held;
+        fits = fits_more new l.groups group l.fits takes.adds.0 held;
         short = ahead_more l few;
         named = subst (λ n. IsCut (change err0 err2 f0 f2) (refusals_of l.groups)
             (refusals_from (n + 1) group)) before (record {
@@ -377,7 +376,7 @@ module _ (now : ℕ) (left0 left1 left2 : Option (List ℕ)) (s0 s1 s2 : ℕ) (e
 
 module _ (now : ℕ) (left0 left1 left2 : Option (List ℕ)) (s0 s1 s2 : ℕ) (err0 err1 : Option (List ℕ)) (f0 f1 : ℕ)
     (reader : Reading)
-    (shelf : Contents (List Numbered)) (lines : ℕ) where
+    (shelf : Seen) (lines : ℕ) where
   abbrev Until : Type 0
   Until = Loading now (change left0 left1 s0 s1) (change err0 err1 f0 f1) reader shelf lines
 

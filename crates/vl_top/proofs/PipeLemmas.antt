@@ -1,37 +1,33 @@
 -- From the input to the answer.
-use Rattle.std.proofs.Common.{◌<◌, ◌≡◌, inl, inr, ℕ, pos, ◌≤◌, List, [], ◌++◌, flat_map, take, Option, All, refl, sym, ap, subst, ◌∙◌, arith}
+use Rattle.std.proofs.Common.{◌<◌, ◌≡◌, inl, inr, ℕ, pos, ◌≤◌, List, [], ◌++◌, take, Option, refl, sym, ap, subst, ◌∙◌, arith}
 use Rattle.vl_io.specs.Bytes.{Appends}
 use Rattle.vl_io.specs.Change.{Change, Gave, IsCut, IsTold, Took}
 use Rattle.vl_io.specs.Lines.{is_feed}
 use Rattle.std.specs.Prelude.{count_by}
 use Rattle.vl_io.proofs.Laws.{Appends-trans, Rose-earlier}
-use Rattle.log_model.specs.Core.{Contents, parts_of}
-use Rattle.log_model.specs.History.{AreInOrder, Numbered, rows_in, rows_of}
-use Rattle.log_model.specs.Row.{Row}
+use Rattle.log_model.specs.History.{rows_of}
 use Rattle.lq_ast.specs.Question.{Question}
 use Rattle.lq_ast.specs.Evaluation.{evaluate}
-use Rattle.query_run.specs.Answer.{FailsOver, IsAnswerOver}
-use Rattle.query_run.specs.declared.evaluation.RunFault.{RunFault}
-use Rattle.query_run.specs.declared.evaluation.RunFault.TheVariants as answers
-use Rattle.vl_top.specs.Groups.{batches_of, refusals_of}
+use Rattle.query_run.specs.Asked.{IsReadableQuery}
+use Rattle.vl_session.specs.Seen.{Seen}
+use Rattle.vl_top.specs.Groups.{refusals_of}
 use Rattle.vl_top.specs.Program as model
 use Rattle.vl_top.specs.Program.{AreFew, IsAnswer, IsTakenIn, overflow_text, overflowing, said_of_query, stop_text}
-use Rattle.vl_top.specs.Load.{IsLoaded, StopsUntold}
-use Rattle.vl_top.specs.Interrupt.{interrupt_of, limit_of, overflow_of}
-use Rattle.vl_top.specs.Pipe.{EndsPipe, OverflowsUntold, ReportsInterrupt, StopsPipe}
-use Rattle.vl_top.specs.Run.{IsAnswerCut, IsAnswered, IsStopped}
+use Rattle.vl_top.specs.Load.{IsLoaded, StopsLoad, StopsUntold}
+use Rattle.vl_top.specs.Interrupt.{limit_of, overflow_of}
+use Rattle.vl_top.specs.Pipe.{EndsPipe, ForText, HasLines, HasNoLines, OverflowsUntold, ReportsInterrupt, StopsPipe}
+use Rattle.vl_top.specs.Run.{IsAnswered, IsStopped}
 use Rattle.vl_top.specs.declared.status.Status.{Status}
 use Rattle.vl_top.specs.declared.status.Status.TheVariants as statuses
 use Rattle.vl_top.specs.declared.interrupt.Interrupt.{Interrupt}
 use Rattle.vl_top.specs.declared.interrupt.Interrupt.TheVariants.{Unreadable, Unwritable, Beyond, NoAnswer, NoMemory}
 use Rattle.vl_top.proofs.GroupLemmas.{append_nil, AreGroups-weaken}
-use Rattle.vl_top.proofs.HeldLemmas.{held_rows}
 use Rattle.vl_top.proofs.LoadLemmas.{change}
 
 -- memory ran out after the input was loaded
-pub stops_loaded : (now : ℕ) (source errors : Change) (shelf : Contents (List Numbered))
-    → IsLoaded now source errors shelf → StopsUntold now source errors model.no_memory
-stops_loaded now source errors shelf l = record {
+pub stops_loaded : (now : ℕ) (source errors : Change) (seen : Seen) → IsLoaded now source errors seen
+    → StopsUntold now source errors model.no_memory
+stops_loaded now source errors seen l = record {
   groups = l.groups;
   behind = record {
     begins = l.begins;
@@ -43,14 +39,20 @@ stops_loaded now source errors shelf l = record {
   named = l.named;
 }
 
-module _ (query : Question) (now : ℕ) (source output errors : Change) (shelf snapshot : Contents (List Numbered)) where
-  -- the rows that were looked at
-  abbrev seen : List Row
-  seen = flat_map rows_in (parts_of snapshot)
+-- the run stopped while it loaded, and nothing was written
+pub stops_load : (query : Question) (now : ℕ) (source errors : Change) (written : Option (List ℕ)) (f0 f1 : ℕ)
+    (interrupt : Interrupt) → StopsLoad now source errors interrupt
+    → StopsPipe query now source (change written written f0 f1) errors interrupt
+stops_load query now source errors written f0 f1 Unwritable stops = inr (record { fault = stops; unwritten = refl })
+stops_load query now source errors written f0 f1 Unreadable stops = stops
+stops_load query now source errors written f0 f1 (Beyond limit) stops = stops
+stops_load query now source errors written f0 f1 (NoAnswer overflow) stops = absurd stops
+stops_load query now source errors written f0 f1 NoMemory stops = stops
 
+module _ (text : List ℕ) (now : ℕ) (source output errors : Change) (seen : Seen) where
   -- what the input becomes
-  taken : (l : IsLoaded now source errors shelf)
-      → IsTakenIn now l.begins.taken (refusals_of l.groups) l.holding.history
+  taken : (l : IsLoaded now source errors seen)
+      → IsTakenIn now l.begins.taken (refusals_of l.groups) seen.history
   taken l = record {
     within = l.begins.within;
     groups = l.groups;
@@ -61,76 +63,78 @@ module _ (query : Question) (now : ℕ) (source output errors : Change) (shelf s
     named = refl;
   }
 
-  gave_all : (l : IsLoaded now source errors shelf) → Gave source l.begins.taken
+  gave_all : (l : IsLoaded now source errors seen) → Gave source l.begins.taken
   gave_all l =
       subst (Gave source) (append_nil l.begins.taken)
       (subst (λ rest. Gave source (l.begins.taken ++ rest)) l.all l.begins.gave)
 
-  module _ (l : IsLoaded now source errors shelf) (same : snapshot ≡ shelf)
-      (ordered : All AreInOrder (parts_of snapshot)) where
-    -- they are those of the history
-    all_rows : seen ≡ rows_of l.holding.history
-    all_rows =
-        ap (λ (s : Contents (List Numbered)). flat_map rows_in (parts_of s)) same
-        ∙ held_rows shelf (batches_of l.groups) l.holding
-        (subst (λ (s : Contents (List Numbered)). All AreInOrder (parts_of s)) same ordered)
+  module _ (l : IsLoaded now source errors seen) where
+    module _ (lines : List ℕ) (has : HasLines text now seen.history lines) where
+      answer : IsAnswer has.1.query now l.begins.taken lines (refusals_of l.groups)
+      answer = record {
+        history = seen.history;
+        taken = taken l;
+        found = has.0;
+        evaluated = has.1.evaluated;
+        answered = has.2;
+      }
 
-    evaluated : evaluate query (pos now) seen ≡ evaluate query (pos now) (rows_of l.holding.history)
-    evaluated = ap (evaluate query (pos now)) all_rows
+      pub answered : Took output lines → ForText text (λ query. IsAnswered query now source output errors)
+      answered written = (
+        has.1.query,
+        has.1.spelled,
+        record {
+          input = l.begins.taken;
+          answer = lines;
+          refusals = refusals_of l.groups;
+          gave = gave_all l;
+          spent = l.spent;
+          answered = answer;
+          written = written;
+          named = l.named;
+        },
+      )
 
-    answer : (text : List ℕ) → IsAnswerOver query (pos now) seen text
-        → IsAnswer query now l.begins.taken text (refusals_of l.groups)
-    answer text is = record {
-      history = l.holding.history;
-      taken = taken l;
-      found = is.found;
-      evaluated = sym evaluated ∙ is.evaluated;
-      answered = is.printed;
-    }
+      pub answer_cut : IsCut output [] lines
+          → ForText text (λ query. StopsPipe query now source output errors Unwritable)
+      answer_cut cut = (
+        has.1.query,
+        has.1.spelled,
+        inl (record {
+          input = l.begins.taken;
+          answer = lines;
+          refusals = refusals_of l.groups;
+          gave = gave_all l;
+          spent = l.spent;
+          answered = answer;
+          written = cut;
+          named = l.named;
+        }),
+      )
 
-    pub answered : (text : List ℕ) → IsAnswerOver query (pos now) seen text → Took output text
-        → IsAnswered query now source output errors
-    answered text is written = record {
-      input = l.begins.taken;
-      answer = text;
-      refusals = refusals_of l.groups;
-      gave = gave_all l;
-      spent = l.spent;
-      answered = answer text is;
-      written = written;
-      named = l.named;
-    }
-
-    pub answer_cut : (text : List ℕ) → IsAnswerOver query (pos now) seen text → IsCut output [] text
-        → IsAnswerCut query now source output errors
-    answer_cut text is cut = record {
-      input = l.begins.taken;
-      answer = text;
-      refusals = refusals_of l.groups;
-      gave = gave_all l;
-      spent = l.spent;
-      answered = answer text is;
-      written = cut;
-      named = l.named;
-    }
-
-    untold : (cause : model.Overflow) → evaluate query (pos now) seen ≡ overflowing cause
+    untold : (query : Question) (cause : model.Overflow) → evaluate query (pos now) (rows_of seen.history) ≡ overflowing cause
         → OverflowsUntold query now source errors cause
-    untold cause is = record {
+    untold query cause is = record {
       input = l.begins.taken;
       refusals = refusals_of l.groups;
       gave = gave_all l;
       spent = l.spent;
-      overflows = record { history = l.holding.history; taken = taken l; evaluated = sym evaluated ∙ is };
+      overflows = record { history = seen.history; taken = taken l; evaluated = is };
       named = l.named;
     }
 
     -- why there is no answer
-    pub unanswered : (fault : RunFault) → FailsOver query (pos now) seen fault
-        → StopsPipe query now source output errors (interrupt_of fault)
-    unanswered answers.ManyRows h = (untold model.many_rows h, stops_loaded now source errors shelf l)
-    unanswered (answers.Overflow name) h = (untold (model.total name) h, stops_loaded now source errors shelf l)
-    unanswered answers.Memory h = stops_loaded now source errors shelf l
+    pub unanswered : IsReadableQuery text → (interrupt : Interrupt) → HasNoLines text now seen.history interrupt
+        → ForText text (λ query. StopsPipe query now source output errors interrupt)
+    unanswered readable Unreadable h = absurd h
+    unanswered readable Unwritable h = absurd h
+    unanswered readable (Beyond limit) h = absurd h
+    unanswered readable (NoAnswer overflow) h = (
+      h.query,
+      h.spelled,
+      (untold h.query (overflow_of overflow) h.evaluated, stops_loaded now source errors seen l),
+    )
+    unanswered readable NoMemory h = (readable.0, readable.1, stops_loaded now source errors seen l)
 
 module _ (now : ℕ) (source : Change) (err0 err1 err2 : Option (List ℕ)) (f0 f1 f2 : ℕ) where
   -- what is said after the names

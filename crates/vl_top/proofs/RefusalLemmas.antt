@@ -1,16 +1,16 @@
 -- The names of refused lines, as a body has them and as the program writes them.
-use Rattle.std.proofs.Common.{◌≡◌, ℕ, ℤ, suc, pos, negsuc, ◌+◌, ◌<◌, ◌≤◌, ◌≤ℤ◌, ◌^◌, List, [], ◌∷◌, ◌++◌, length, refl, sym, ap, subst, ◌∙◌, arith, unsigned_abs, string_bytes}
+use Rattle.std.proofs.Common.{◌≡◌, ℕ, ℤ, suc, pos, negsuc, ◌+◌, ◌<◌, ◌≤◌, ◌≤ℤ◌, ◌^◌, List, [], ◌∷◌, ◌++◌, length, Option, refl, sym, ap, subst, ◌∙◌, arith, unsigned_abs, string_bytes}
 use Rattle.std.specs.List.{AllByRecursion, AllZip}
 use Rattle.std.proofs.lemmas.Int.{ints}
 use Rattle.log_model.specs.Line.{lines_of}
 use Rattle.log_model.proofs.Lines.{lines_le}
-use Rattle.ingest_row.specs.Ingest.{Options, plain}
-use Rattle.ingest_row.specs.Intake as body
-use Rattle.ingest_row.specs.Intake.{Outcome, passed_over, read, refused, refused_from, rows_read}
+use Rattle.ingest_row.specs.Intake.{Outcome, passed_over, read, refused, refused_from}
 use Rattle.ingest_row.specs.declared.body.LineFault.{LineFault}
-use Rattle.ingest_row.specs.declared.body.Intake.{Intake}
-use Rattle.vl_top.specs.declared.intake.Group.{Group}
-use Rattle.vl_top.specs.Groups.{HasOutcome, IsGroupTaken, names_after, refusal_text, refusals_from}
+use Rattle.vl_session.specs.Seen.{Seen}
+use Rattle.vl_top.specs.Groups.{HasOutcome, names_after, refusal_text, refusals_from}
+use Rattle.vl_top.specs.Load.{RefusesGroup, StopsGroup}
+use Rattle.vl_top.specs.declared.interrupt.Interrupt.{Interrupt}
+use Rattle.vl_top.specs.declared.interrupt.Interrupt.TheVariants.{Unreadable, Unwritable, Beyond, NoAnswer, NoMemory}
 
 -- no number of a line is beyond the lines
 numbers_fit : (before number : ℕ) (outcomes : List Outcome) → before + number + length outcomes ≤ 2 ^ 64
@@ -42,39 +42,32 @@ pub same_moment : (now : ℤ) → pos 0 ≤ℤ now → now ≡ pos (unsigned_abs
 same_moment (pos n) low = refl
 same_moment (negsuc n) low = absurd (omega (arith, ints))
 
--- a body that came in at the moment `now`, and what it gave
-pub record IsGiven (now : ℤ) (lines : List ℕ) (intake : Intake) (outcomes : List Outcome) : Type 0 where
-  pub given : AllZip (HasOutcome (unsigned_abs now)) (lines_of lines) outcomes
-  pub rows : intake.rows ≡ rows_read outcomes
-  pub refused : intake.refused ≡ refused_from 1 outcomes
-
-pub is_given : (options : Options) (now : ℤ) (lines : List ℕ) (intake : Intake) (outcomes : List Outcome)
-    → options ≡ plain → pos 0 ≤ℤ now → body.IsTaken options now lines outcomes intake
-    → IsGiven now lines intake outcomes
-is_given options now lines intake outcomes is_plain low taken = record {
-  given = subst (λ n. AllZip (body.IsOutcome plain n) (lines_of lines) outcomes) (same_moment now low)
-      (subst (λ o. AllZip (body.IsOutcome o now) (lines_of lines) outcomes) is_plain taken.given);
-  rows = taken.rows;
-  refused = taken.refused;
-}
-
-pub numbers : (now : ℤ) (lines : List ℕ) (before : ℕ) (intake : Intake) (outcomes : List Outcome)
-    → IsGiven now lines intake outcomes → before + length lines < 2 ^ 64
-    → AllByRecursion (λ (fault : LineFault). before + fault.line < 2 ^ 64) intake.refused
-numbers now lines before intake outcomes given few =
-    subst (AllByRecursion (λ (fault : LineFault). before + fault.line < 2 ^ 64)) (sym given.refused)
+-- the numbers of the refused lines of a body
+pub numbers : (now : ℕ) (body : List ℕ) (before : ℕ) (outcomes : List Outcome) (told : List LineFault)
+    → AllZip (HasOutcome now) (lines_of body) outcomes → told ≡ refused_from 1 outcomes
+    → before + length body < 2 ^ 64
+    → AllByRecursion (λ (fault : LineFault). before + fault.line < 2 ^ 64) told
+numbers now body before outcomes told given are few =
+    subst (AllByRecursion (λ (fault : LineFault). before + fault.line < 2 ^ 64)) (sym are)
     (numbers_fit before 1 outcomes
-    (omega (arith, same_length (unsigned_abs now) (lines_of lines) outcomes given.given, lines_le lines)))
+    (omega (arith, same_length now (lines_of body) outcomes given, lines_le body)))
 
-pub is_taken : (now : ℤ) (lines : List ℕ) (before : ℕ) (intake : Intake) (outcomes : List Outcome) (group : Group)
-    → IsGiven now lines intake outcomes → group.rows.items ≡ intake.rows
-    → string_bytes group.refusals ≡ names_after before intake.refused
-    → (all : List Outcome) × IsGroupTaken (unsigned_abs now) lines before all group
-is_taken now lines before intake outcomes group given rows named = (
-  outcomes,
-  record {
-    given = given.given;
-    rows = rows ∙ given.rows;
-    refusals = named ∙ ap (names_after before) given.refused ∙ names_from before 1 outcomes;
-  },
-)
+-- their names
+pub names : (before : ℕ) (outcomes : List Outcome) (told : List LineFault) → told ≡ refused_from 1 outcomes
+    → names_after before told ≡ refusals_from (before + 1) outcomes
+names before outcomes told are = ap (names_after before) are ∙ names_from before 1 outcomes
+
+-- A group is not taken in, and nothing was named.
+pub stops_refused : (now : ℕ) (body : List ℕ) (before : ℕ) (old new : Seen) (written : Option (List ℕ))
+    (faults_before faults_after : ℕ) (interrupt : Interrupt) → RefusesGroup now body old interrupt
+    → StopsGroup now body before old new (record {
+      bytes_before = written;
+      bytes_after = written;
+      faults_before = faults_before;
+      faults_after = faults_after;
+    }) interrupt
+stops_refused now body before old new written b a Unreadable told = absurd told
+stops_refused now body before old new written b a Unwritable told = absurd told
+stops_refused now body before old new written b a (Beyond limit) told = (refl, told)
+stops_refused now body before old new written b a (NoAnswer overflow) told = absurd told
+stops_refused now body before old new written b a NoMemory told = refl

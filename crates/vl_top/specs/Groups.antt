@@ -1,6 +1,5 @@
 -- What an input of the program gives: rows, in batches, and the names of its refused lines.
 use Rattle.std.specs.Prelude.{◌≡◌, ◌⊎◌, ℕ, ◌+◌, pos, ◌<◌, ◌≤◌, List, [], ◌∷◌, ◌++◌, length, flat_map, codes, decimal}
-use Rattle.std.specs.Prelude.{string_bytes}
 use Rattle.std.specs.List.{AllByRecursion, AllZip}
 use Rattle.vl_io.specs.Change.{Change, Gave, IsSpent}
 use Rattle.log_model.specs.Core.{held_limit}
@@ -11,7 +10,6 @@ use Rattle.ingest_row.specs.Intake.{Outcome, IsOutcome, refused_from, rows_read}
 use Rattle.ingest_row.specs.Refusal.{kind_text}
 use Rattle.ingest_row.specs.declared.body.LineFault.{LineFault}
 use Rattle.ingest_row.specs.declared.kind.LineKind.{LineKind}
-use Rattle.vl_top.specs.declared.intake.Group.{Group}
 
 -- what becomes of a line that comes in at the moment `now`, with nothing else asked for
 abbrev pub HasOutcome : ℕ → List ℕ → Outcome → Type 0
@@ -79,10 +77,3 @@ pub record BeginsWith (now : ℕ) (source : Change) (groups : List (List Outcome
 -- the names of these lines, where so many came before
 abbrev pub names_after : ℕ → List LineFault → List ℕ
 names_after before faults = flat_map (λ fault. refusal_text (before + fault.line) fault.kind) faults
-
--- The lines of a group have these outcomes. These are its rows, and the text that names its refused lines, where so
--- many lines came before.
-pub record IsGroupTaken (now : ℕ) (body : List ℕ) (before : ℕ) (outcomes : List Outcome) (group : Group) : Type 0 where
-  pub given : HaveOutcomes now body outcomes
-  pub rows : group.rows.items ≡ rows_read outcomes
-  pub refusals : string_bytes group.refusals ≡ refusals_from (before + 1) outcomes

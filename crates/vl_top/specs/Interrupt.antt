@@ -2,8 +2,6 @@
 use Rattle.vl_top.specs.Program as model
 use Rattle.vl_io.specs.declared.transfer.ReadFault.{ReadFault}
 use Rattle.vl_io.specs.declared.transfer.ReadFault.TheVariants as faults
-use Rattle.query_run.specs.declared.evaluation.RunFault.{RunFault}
-use Rattle.query_run.specs.declared.evaluation.RunFault.TheVariants as answers
 use Rattle.vl_top.specs.declared.interrupt.Overflow.{Overflow}
 use Rattle.vl_top.specs.declared.interrupt.Overflow.TheVariants.{ManyRows, Total}
 use Rattle.vl_top.specs.declared.interrupt.Limit.{Limit}
@@ -25,9 +23,3 @@ abbrev pub interrupt_at : ReadFault → Interrupt
 interrupt_at faults.Failed = Unreadable
 interrupt_at faults.Long = Beyond Long
 interrupt_at faults.Memory = NoMemory
-
--- why there is no answer
-abbrev pub interrupt_of : RunFault → Interrupt
-interrupt_of answers.ManyRows = NoAnswer ManyRows
-interrupt_of (answers.Overflow name) = NoAnswer (Total name)
-interrupt_of answers.Memory = NoMemory

@@ -1,10 +1,11 @@
 -- What becomes of an input on its way into the shelf.
 use Rattle.std.specs.Prelude.{◌≡◌, ℕ, ◌+◌, ◌<◌, ◌≤◌, List, [], ◌++◌, length}
 use Rattle.vl_io.specs.Change.{Change, IsCut, IsSpent, IsUntold, Took}
-use Rattle.log_model.specs.Core.{Contents, Stands, held_limit}
-use Rattle.log_model.specs.History.{History, Numbered, batches_in}
+use Rattle.log_model.specs.Core.{held_limit}
+use Rattle.log_model.specs.History.{batches_in}
 use Rattle.log_model.specs.Row.{Batch, Row, batch_limit, batch_weight}
 use Rattle.ingest_row.specs.Intake.{Outcome, rows_read}
+use Rattle.vl_session.specs.Seen.{Seen}
 use Rattle.vl_top.specs.Groups.{BeginsWith, CanBeHeld, HaveOutcomes, batch_of, batches_of, refusals_from, refusals_of}
 use Rattle.vl_top.specs.Program as model
 use Rattle.vl_top.specs.Program.{StopsBehind}
@@ -15,58 +16,58 @@ use Rattle.vl_top.specs.declared.interrupt.Limit.TheVariants.{Long, Large, Full}
 use Rattle.vl_top.specs.declared.interrupt.Interrupt.{Interrupt}
 use Rattle.vl_top.specs.declared.interrupt.Interrupt.TheVariants.{Unreadable, Unwritable, Beyond, NoAnswer, NoMemory}
 
--- The shelf stands for a history of these batches. None is settled.
-pub record IsHeld (held : Contents (List Numbered)) (batches : List Batch) : Type 0 where
-  pub history : History
-  pub entered : batches_in history ≡ batches
-  pub stands : Stands (λ rows. rows) held history
-  pub settled : held.settled ≡ 0
-  pub days : held.days ≡ []
+-- What has been seen is a history of these batches, as many as may wait to be settled, and none is settled.
+pub record IsHeld (seen : Seen) (batches : List Batch) : Type 0 where
+  pub entered : batches_in seen.history ≡ batches
+  pub few : length batches ≤ held_limit
+  pub settled : seen.settled ≡ 0
 
--- why these rows are not committed
-abbrev pub IsTooMuch : Contents (List Numbered) → List Row → Limit → Type 0
-IsTooMuch held rows Long = ⊥
-IsTooMuch held rows (Large weight) = (weight ≡ batch_weight rows) × (batch_limit < weight)
-IsTooMuch held rows Full = (length held.unsettled ≡ held_limit) × (0 < length rows) × (batch_weight rows ≤ batch_limit)
+-- why these rows are not taken in, by what has been seen then
+abbrev pub IsTooMuch : Seen → List Row → Limit → Type 0
+IsTooMuch seen rows Long = ⊥
+IsTooMuch seen rows (Large weight) = (weight ≡ batch_weight rows) × (batch_limit < weight)
+IsTooMuch seen rows Full =
+    (length seen.history ≡ seen.settled + held_limit) × (0 < length rows) × (batch_weight rows ≤ batch_limit)
 
-abbrev pub RefusesRows : Contents (List Numbered) → List Row → Interrupt → Type 0
-RefusesRows held rows Unreadable = ⊥
-RefusesRows held rows Unwritable = ⊥
-RefusesRows held rows (Beyond limit) = IsTooMuch held rows limit
-RefusesRows held rows (NoAnswer overflow) = ⊥
-RefusesRows held rows NoMemory = Unit {0}
+-- why a group is not taken in
+abbrev pub RefusesGroup : ℕ → List ℕ → Seen → Interrupt → Type 0
+RefusesGroup now body seen Unreadable = ⊥
+RefusesGroup now body seen Unwritable = ⊥
+RefusesGroup now body seen (Beyond limit) =
+    (group : List Outcome) × HaveOutcomes now body group × IsTooMuch seen (rows_read group) limit
+RefusesGroup now body seen (NoAnswer overflow) = ⊥
+RefusesGroup now body seen NoMemory = Unit {0}
 
 -- the rows became one batch more, if there were any
-abbrev pub CommitsRows : Contents (List Numbered) → Contents (List Numbered) → List Row → Type 0
-CommitsRows old new rows =
+abbrev pub AddsRows : Seen → Seen → List Row → Type 0
+AddsRows old new rows =
     (batch_weight rows ≤ batch_limit)
     × ((batches : List Batch) → IsHeld old batches → IsHeld new (batches ++ batch_of rows))
 
--- a group whose lines have these outcomes was committed
+-- a group whose lines have these outcomes was taken in
 pub record TakesGroup (now : ℕ) (body : List ℕ) (group : List Outcome)
-    (old new : Contents (List Numbered)) : Type 0 where
+    (old new : Seen) : Type 0 where
   pub intake : HaveOutcomes now body group
-  pub commits : CommitsRows old new (rows_read group)
+  pub adds : AddsRows old new (rows_read group)
 
 -- why the run stops at a group, where so many lines came before
-abbrev pub StopsGroup : ℕ → List ℕ → ℕ → Contents (List Numbered) → Contents (List Numbered) → Change → Interrupt
-    → Type 0
+abbrev pub StopsGroup : ℕ → List ℕ → ℕ → Seen → Seen → Change → Interrupt → Type 0
 StopsGroup now body before old new errors Unreadable = ⊥
 StopsGroup now body before old new errors Unwritable =
     (group : List Outcome) × TakesGroup now body group old new × IsCut errors [] (refusals_from (before + 1) group)
 StopsGroup now body before old new errors (Beyond limit) =
-    IsUntold errors × ((group : List Outcome) × HaveOutcomes now body group × IsTooMuch old (rows_read group) limit)
+    IsUntold errors × RefusesGroup now body old (Beyond limit)
 StopsGroup now body before old new errors (NoAnswer overflow) = ⊥
 StopsGroup now body before old new errors NoMemory = IsUntold errors
 
 -- The source gave all its input, the batches of its groups are held, and its refused lines are named.
-pub record IsLoaded (now : ℕ) (source errors : Change) (held : Contents (List Numbered)) : Type 0 where
+pub record IsLoaded (now : ℕ) (source errors : Change) (seen : Seen) : Type 0 where
   pub groups : List (List Outcome)
   pub begins : BeginsWith now source groups
   pub all : begins.rest ≡ []
   pub spent : IsSpent source
   pub fits : CanBeHeld groups
-  pub holding : IsHeld held (batches_of groups)
+  pub holding : IsHeld seen (batches_of groups)
   pub named : Took errors (refusals_of groups)
 
 -- Groups were taken in and their refused lines named. Then the run stopped, and did not say yet why.

@@ -1,9 +1,14 @@
 -- How a query ends.
 use Rattle.std.specs.Prelude.{◌≡◌, ◌⊎◌, ℕ, List, []}
 use Rattle.vl_io.specs.Change.{Change, Gave, IsSpent, IsTold, IsUntold, Took}
+use Rattle.log_model.specs.History.{History}
+use Rattle.log_model.specs.Print.{lines_text}
 use Rattle.lq_ast.specs.Question.{Question}
+use Rattle.lq_ast.specs.Records.{Record}
+use Rattle.lq_grammar.specs.Query.{IsQueryText}
+use Rattle.vl_session.specs.Query.{Evaluates, HasQueryOutcome, found}
 use Rattle.vl_top.specs.Program as model
-use Rattle.vl_top.specs.Program.{Overflows, overflow_text, said_of_query, stop_text}
+use Rattle.vl_top.specs.Program.{Overflows, overflow_text, overflowing, said_of_query, stop_text}
 use Rattle.vl_top.specs.Load.{StopsLoad}
 use Rattle.vl_top.specs.Interrupt.{limit_of, overflow_of}
 use Rattle.vl_top.specs.Run.{IsAnswerCut, IsAnswered, IsNamingCut, IsStopped, IsUnanswered}
@@ -11,6 +16,23 @@ use Rattle.vl_top.specs.declared.status.Status.{Status}
 use Rattle.vl_top.specs.declared.status.Status.TheVariants as statuses
 use Rattle.vl_top.specs.declared.interrupt.Interrupt.{Interrupt}
 use Rattle.vl_top.specs.declared.interrupt.Interrupt.TheVariants.{Unreadable, Unwritable, Beyond, NoAnswer, NoMemory}
+
+-- the text spells a query for which this holds
+abbrev pub ForText : List ℕ → (Question → Type 0) → Type 0
+ForText text holds = (query : Question) × IsQueryText text query × holds query
+
+-- The query of this text has an answer over the history, and these are its lines.
+abbrev pub HasLines : List ℕ → ℕ → History → List ℕ → Type 0
+HasLines text now history lines =
+    (records : List Record) × HasQueryOutcome text now history (found records) × (lines ≡ lines_text records)
+
+-- It has none, for this reason. Want of memory is free.
+abbrev pub HasNoLines : List ℕ → ℕ → History → Interrupt → Type 0
+HasNoLines text now history Unreadable = ⊥
+HasNoLines text now history Unwritable = ⊥
+HasNoLines text now history (Beyond limit) = ⊥
+HasNoLines text now history (NoAnswer overflow) = Evaluates text now history (overflowing (overflow_of overflow))
+HasNoLines text now history NoMemory = Unit {0}
 
 -- The source gave an input to its end, and its refused lines are named. The evaluation over it overflows, and nothing
 -- is said of that yet.

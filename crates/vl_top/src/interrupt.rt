@@ -1,7 +1,6 @@
 ghost use Rattle.std.specs.Prelude.{◌≡◌, ◌++◌, ◌∷◌, [], IfOk, string_bytes};
 ghost use Rattle.vl_top.specs.Program.{limit_text, overflow_text, said_of_query};
 
-use query_run::RunFault;
 use std::alloc::{AllocError, Global};
 use vl_io::ReadFault;
 use vl_row::Text;
@@ -93,20 +92,6 @@ impl From<ReadFault> for Interrupt {
             ReadFault::Failed => Interrupt::Unreadable,
             ReadFault::Long => Interrupt::Beyond(Limit::Long),
             ReadFault::Memory => Interrupt::NoMemory,
-        }
-    }
-}
-
-impl From<RunFault> for Interrupt {
-    ghost use Rattle.vl_top.specs.Interrupt.{interrupt_of};
-
-    ghost from_gives = { λ fault interrupt. interrupt ≡ interrupt_of fault };
-
-    fn from(fault: RunFault) -> Interrupt {
-        match fault {
-            RunFault::ManyRows => Interrupt::NoAnswer(Overflow::ManyRows),
-            RunFault::Overflow { name } => Interrupt::NoAnswer(Overflow::Total(name)),
-            RunFault::Memory => Interrupt::NoMemory,
         }
     }
 }

@@ -6,9 +6,9 @@ ghost use Rattle.vl_io.specs.Change.{change_of};
 ghost use Rattle.vl_top.specs.Run.{IsNotAsked, IsRun};
 
 mod command;
-mod intake;
 mod interrupt;
 mod load;
+mod names;
 mod pipe;
 mod refusal;
 mod report;
@@ -56,7 +56,7 @@ pub fn run<R: AllocGlobal, S: Source, O: Sink, E: Sink, C: Clock>(
     };
     let alloc = rt.alloc();
     match read_query(alloc, text) {
-        Ok(search) => run_pipe(alloc, &search, src, out, err, clock).number(),
+        Ok(_search) => run_pipe(alloc, text, src, out, err, clock).number(),
         Err(refusal) => report_refused(alloc, refusal, err).number(),
     }
 }

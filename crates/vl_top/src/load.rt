@@ -1,18 +1,21 @@
 //! The way of an input into the shelf.
-ghost use Rattle.std.specs.Prelude.{◌≡◌, ◌+◌, ◌^◌, ◌≤◌, ◌<◌, ◌≤ℤ◌, List, [], OnOk, IfErr, length, pos, unsigned_abs};
+ghost use Rattle.std.specs.Prelude.{◌≡◌, ◌+◌, ◌^◌, ◌≤◌, ◌<◌, ◌≤ℤ◌, List, [], OnOk, IfErr, IfOk, length, pos, unsigned_abs};
 ghost use Rattle.vl_io.specs.Change.{Took, change_of};
 ghost use Rattle.log_model.specs.Line.{lines_of};
-ghost use Rattle.log_model.specs.Row.{Batch as Rows, batch_weight};
-ghost use Rattle.ingest_row.specs.Intake.{Outcome};
+ghost use Rattle.log_model.specs.Row.{Batch as Rows};
+ghost use Rattle.ingest_row.specs.Intake.{Outcome, refused_from};
+ghost use Rattle.vl_session.specs.Insertion.{seen_of};
 ghost use Rattle.vl_top.specs.Groups.{refusals_from};
-ghost use Rattle.vl_top.specs.Load.{CommitsRows, IsHeld, IsLoaded, RefusesRows, StopsGroup, StopsLoad, TakesGroup};
+ghost use Rattle.vl_top.specs.Load.{IsHeld, IsLoaded, RefusesGroup, StopsGroup, StopsLoad, TakesGroup};
 
-use crate::intake::take_in;
 use crate::interrupt::{Interrupt, Limit};
-use log_core::{CommitFault, Shelf};
+use crate::names::names_after;
+use ingest_row::Options;
+use log_core::Shelf;
 use std::alloc::Global;
 use vl_io::{Failed, GroupReader, Sink, Source, put_all};
-use vl_row::{Batch, BatchFault, Row, RowList};
+use vl_row::RowList;
+use vl_session::{Insertion, InsertionFault, insert_lines};
 
 /// How many lines form a group.
 const GROUP_LINES: usize = 1_000;
@@ -29,9 +32,9 @@ pub fn load<S: Source, E: Sink>(
     shelf: &mut Shelf<RowList>,
 ) -> Result<(), Interrupt>
     requires moment { pos 0 ≤ℤ now }
-    requires fresh { IsHeld shelf.old [] }
+    requires fresh { IsHeld (seen_of shelf.old) [] }
     ensures loaded { OnOk result (IsLoaded (unsigned_abs now) (change_of S.left S.faults src.old src.new)
-        (change_of E.written E.faults err.old err.new) shelf.new) }
+        (change_of E.written E.faults err.old err.new) (seen_of shelf.new)) }
     ensures stopped { IfErr result (StopsLoad (unsigned_abs now) (change_of S.left S.faults src.old src.new)
         (change_of E.written E.faults err.old err.new)) }
     ensures faults { E.faults err.old ≤ E.faults err.new }
@@ -57,40 +60,43 @@ fn take_group<E: Sink>(
     requires moment { pos 0 ≤ℤ now }
     requires numbers { lines_before + length body.now < 2 ^ 64 }
     requires lines { length (lines_of body.now) ≤ 1000 }
-    requires held { (batches : List Rows) × IsHeld shelf.old batches }
+    requires held { (batches : List Rows) × IsHeld (seen_of shelf.old) batches }
     ensures taken { OnOk result ((group : List Outcome)
-        × TakesGroup (unsigned_abs now) body.now group shelf.old shelf.new
+        × TakesGroup (unsigned_abs now) body.now group (seen_of shelf.old) (seen_of shelf.new)
         × Took (change_of E.written E.faults err.old err.new) (refusals_from (lines_before + 1) group)) }
-    ensures stopped { IfErr result (StopsGroup (unsigned_abs now) body.now lines_before shelf.old shelf.new
-        (change_of E.written E.faults err.old err.new)) }
+    ensures stopped { IfErr result (StopsGroup (unsigned_abs now) body.now lines_before (seen_of shelf.old)
+        (seen_of shelf.new) (change_of E.written E.faults err.old err.new)) }
     ensures faults { E.faults err.old ≤ E.faults err.new }
 {
-    let intake = take_in(alloc, now, body, lines_before)?;
-    commit_rows(alloc, intake.rows, shelf)?;
-    match put_all(err, intake.refusals.as_bytes()) {
+    let insertion = insert_group(alloc, now, body, shelf)?;
+    let refusals = names_after(alloc, lines_before, insertion.refused.as_slice())?;
+    match put_all(err, refusals.as_bytes()) {
         Ok(()) => Ok(()),
         Err(Failed) => Err(Interrupt::Unwritable),
     }
 }
 
-/// Commits the rows as one batch, if there are any.
-fn commit_rows(alloc: Global, rows: Vec<Row>, shelf: &mut Shelf<RowList>) -> Result<(), Interrupt>
-    requires held { (batches : List Rows) × IsHeld shelf.old batches }
-    requires weight { batch_weight rows.items < 2 ^ 64 }
-    ensures committed { OnOk result (CommitsRows shelf.old shelf.new rows.items) }
-    ensures refused { IfErr result (RefusesRows shelf.old rows.items) }
+/// Inserts the lines of one group.
+fn insert_group(
+    alloc: Global,
+    now: i64,
+    body: &[u8],
+    shelf: &mut Shelf<RowList>,
+) -> Result<Insertion, Interrupt>
+    requires moment { pos 0 ≤ℤ now }
+    requires lines { length (lines_of body.now) ≤ 1000 }
+    requires held { (batches : List Rows) × IsHeld (seen_of shelf.old) batches }
+    ensures taken { IfOk result (λ insertion. (group : List Outcome)
+        × TakesGroup (unsigned_abs now) body.now group (seen_of shelf.old) (seen_of shelf.new)
+        × (insertion.refused ≡ refused_from 1 group)) }
+    ensures refused { IfErr result (RefusesGroup (unsigned_abs now) body.now (seen_of shelf.old)) }
 {
-    let batch = match Batch::try_of(rows) {
-        Ok(batch) => batch,
-        Err((BatchFault::NoRows, _)) => return Ok(()),
-        Err((BatchFault::Large { weight }, _)) => return Err(Interrupt::Beyond(Limit::Large(
-            weight,
-        ))),
-    };
-    match shelf.commit(alloc, RowList::from(batch)) {
-        Ok(_) => Ok(()),
-        Err((CommitFault::Full { .. }, _)) => Err(Interrupt::Beyond(Limit::Full)),
-        Err((CommitFault::Spent, _)) => unreachable!(),
-        Err((CommitFault::Memory, _)) => Err(Interrupt::NoMemory),
+    let options = Options::plain(alloc);
+    match insert_lines(alloc, shelf, &options, now, body) {
+        Ok(insertion) => Ok(insertion),
+        Err(InsertionFault::Large { weight }) => Err(Interrupt::Beyond(Limit::Large(weight))),
+        Err(InsertionFault::Full { .. }) => Err(Interrupt::Beyond(Limit::Full)),
+        Err(InsertionFault::Spent) => unreachable!(),
+        Err(InsertionFault::Memory) => Err(Interrupt::NoMemory),
     }
 }

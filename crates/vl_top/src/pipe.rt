@@ -1,37 +1,39 @@
 //! A query over the input.
-ghost use Rattle.std.specs.Prelude.{◌≡◌, ◌≢◌, ◌≤◌, ◌≤ℤ◌, ℕ, OnOk, IfErr, pos, unsigned_abs};
+ghost use Rattle.std.specs.Prelude.{◌≡◌, ◌≢◌, ◌≤◌, ◌≤ℤ◌, ℕ, OnOk, IfErr, IfOk, pos, unsigned_abs};
 ghost use Rattle.vl_io.specs.Change.{change_of};
 ghost use Rattle.vl_io.specs.Moments.{FirstTold};
-ghost use Rattle.query_run.specs.Asked.{HasReadablePipes, asked_by};
-ghost use Rattle.vl_top.specs.Pipe.{EndsPipe, StopsPipe};
+ghost use Rattle.log_core.specs.History.{history_of};
+ghost use Rattle.query_run.specs.Asked.{IsReadableQuery};
+ghost use Rattle.vl_top.specs.Pipe.{EndsPipe, ForText, HasLines, HasNoLines, StopsPipe};
 ghost use Rattle.vl_top.specs.Run.{IsAnswered};
 
-use crate::interrupt::Interrupt;
+use crate::interrupt::{Interrupt, Overflow};
 use crate::load::load;
 use crate::report::report_interrupt;
 use crate::status::Status;
 use log_core::Shelf;
-use query_run::{Search, answer, order_law};
 use std::alloc::Global;
 use vl_io::{Clock, Failed, Sink, Source, put_all};
+use vl_row::{RowList, Text};
+use vl_session::{AnswerFault, answer_query};
 
 /// Loads the input and writes the answer, or says why not.
 pub fn run_pipe<S: Source, O: Sink, E: Sink, C: Clock>(
     alloc: Global,
-    search: &Search,
+    text: &str,
     src: &mut S,
     out: &mut O,
     err: &mut E,
     clock: &mut C,
 ) -> Status
-    requires { HasReadablePipes search.now }
+    requires readable { IsReadableQuery text.now }
     ensures ends { (now : ℕ) × FirstTold (C.moments clock.old) (C.moments clock.new) now
-        × EndsPipe (asked_by search.now) now (change_of S.left S.faults src.old src.new)
-        (change_of O.written O.faults out.old out.new) (change_of E.written E.faults err.old err.new) result }
+        × ForText text.now (λ query. EndsPipe query now (change_of S.left S.faults src.old src.new)
+        (change_of O.written O.faults out.old out.new) (change_of E.written E.faults err.old err.new) result) }
     ensures untouched { result ≢ Status.Done → result ≢ Status.WriteFault → out.new ≡ out.old }
 {
     let now = clock.now();
-    match pipe(alloc, search, now, src, out, err) {
+    match pipe(alloc, text, now, src, out, err) {
         Ok(()) => Status::Done,
         Err(interrupt) => report_interrupt(alloc, interrupt, err),
     }
@@ -40,30 +42,50 @@ pub fn run_pipe<S: Source, O: Sink, E: Sink, C: Clock>(
 /// Loads the input, and writes the answer.
 fn pipe<S: Source, O: Sink, E: Sink>(
     alloc: Global,
-    search: &Search,
+    text: &str,
     now: i64,
     src: &mut S,
     out: &mut O,
     err: &mut E,
 ) -> Result<(), Interrupt>
-    requires readable { HasReadablePipes search.now }
+    requires readable { IsReadableQuery text.now }
     requires moment { pos 0 ≤ℤ now }
-    ensures done { OnOk result (IsAnswered (asked_by search.now) (unsigned_abs now)
+    ensures done { OnOk result (ForText text.now (λ query. IsAnswered query (unsigned_abs now)
         (change_of S.left S.faults src.old src.new) (change_of O.written O.faults out.old out.new)
-        (change_of E.written E.faults err.old err.new)) }
-    ensures stopped { IfErr result (StopsPipe (asked_by search.now) (unsigned_abs now)
+        (change_of E.written E.faults err.old err.new))) }
+    ensures stopped { IfErr result (λ interrupt. ForText text.now (λ query. StopsPipe query (unsigned_abs now)
         (change_of S.left S.faults src.old src.new) (change_of O.written O.faults out.old out.new)
-        (change_of E.written E.faults err.old err.new)) }
+        (change_of E.written E.faults err.old err.new) interrupt)) }
     ensures untouched { IfErr result (λ interrupt. interrupt ≢ Interrupt.Unwritable → out.new ≡ out.old) }
     ensures faults { E.faults err.old ≤ E.faults err.new }
 {
     let mut shelf = Shelf::fresh(alloc)?;
     load(alloc, now, src, err, &mut shelf)?;
-    let look = shelf.look()?;
-    order_law(&look);
-    let text = answer(alloc, search, now, &look)?;
-    match put_all(out, text.as_str().as_bytes()) {
+    let lines = answer_lines(alloc, &shelf, text, now)?;
+    match put_all(out, lines.as_str().as_bytes()) {
         Ok(()) => Ok(()),
         Err(Failed) => Err(Interrupt::Unwritable),
+    }
+}
+
+/// The lines of the answer to a query that can be asked.
+fn answer_lines(
+    alloc: Global,
+    shelf: &Shelf<RowList>,
+    text: &str,
+    now: i64,
+) -> Result<Text, Interrupt>
+    requires readable { IsReadableQuery text.now }
+    requires moment { pos 0 ≤ℤ now }
+    ensures answered { IfOk result (HasLines text.now (unsigned_abs now) (history_of shelf.now)) }
+    ensures unanswered { IfErr result (HasNoLines text.now (unsigned_abs now) (history_of shelf.now)) }
+{
+    match answer_query(alloc, shelf, text, now) {
+        Ok(answer) => Ok(answer.lines),
+        Err(AnswerFault::ManyRows) => Err(Interrupt::NoAnswer(Overflow::ManyRows)),
+        Err(AnswerFault::Overflow { name }) => Err(Interrupt::NoAnswer(Overflow::Total(name))),
+        Err(AnswerFault::Memory) => Err(Interrupt::NoMemory),
+        Err(AnswerFault::Query(_)) => unreachable!(),
+        Err(AnswerFault::RegexRefused { .. }) => unreachable!(),
     }
 }

@@ -1,11 +1,47 @@
-use Rattle.std.proofs.Common.{◌<◌, ◌^◌, sym, subst}
-use Rattle.ingest_row.specs.Intake.{rows_read}
-use Rattle.log_model.specs.Row.{batch_weight}
-use Rattle.vl_top.proofs.WeightLemmas.{rows_fit, rows_light}
+use Rattle.std.proofs.Common.{◌≡◌, ◌+◌, sym, subst, unsigned_abs, FitsSigned, w64, to_z, of_z, ◌∙◌, string_bytes}
+use Rattle.std.proofs.lemmas.Int.{to_z-of_z}
+use Rattle.vl_session.specs.Insertion.{seen_of}
+use Rattle.vl_top.specs.Load.{StopsGroup}
+use Rattle.vl_top.proofs.LoadLemmas.{if_err}
+use Rattle.vl_top.proofs.RefusalLemmas.{names, numbers, stops_refused}
 use Rattle.vl_top.proofs.load.take_group.Goals as goal
 
-pub commit_rows-requires-clause-weight : goal.commit_rows-requires-clause-weight
-commit_rows-requires-clause-weight g c =
-    let taken = c.in_ok-intake.ensures.1 in
-    subst (λ rows. batch_weight rows < 2 ^ 64) (sym taken.rows)
-    (rows_fit (rows_read c.in_ok-intake.ensures.0) _ (rows_light _ _ _ taken.given) c.requires.lines)
+pub returns-in_err-insertion-clause-stopped : goal.returns-in_err-insertion-clause-stopped
+returns-in_err-insertion-clause-stopped g c =
+    let fits : FitsSigned w64 c.args.now = c.ranges.now in
+    if_err c.from_residual.result _ _ c.from_residual.ensures.1
+    (λ interrupt is. subst (StopsGroup _ _ _ _ _ _) (sym is)
+    (stops_refused (unsigned_abs c.args.now) c.args.body.now c.args.lines_before (seen_of c.args.shelf.now) _ _ _ _
+    c.in_err-insertion.field-0.0 (simp to_z-of_z at c.in_err-insertion.ensures.refused)))
+
+pub names_after-requires : goal.names_after-requires
+names_after-requires g c =
+    let fits : FitsSigned w64 c.args.now = c.ranges.now in
+    let taken = simp to_z-of_z at c.in_ok-insertion.ensures.taken in
+    rw c.as_slice.ensures (numbers (unsigned_abs c.args.now) c.args.body.now c.args.lines_before taken.0
+    c.in_ok-insertion.insertion.refused taken.1.intake taken.2 c.requires.numbers)
+
+pub returns-in-Ok-clause-taken : goal.returns-in-Ok-clause-taken
+returns-in-Ok-clause-taken g c =
+    let fits : FitsSigned w64 c.args.now = c.ranges.now in
+    let taken = simp to_z-of_z at c.in_ok-insertion.ensures.taken in
+    let named = (rw c.as_slice.ensures at c.in_ok-refusals.ensures)
+    ∙ names c.args.lines_before taken.0 c.in_ok-insertion.insertion.refused taken.2 in
+    let text = c.as_bytes.ensures.value ∙ named in (
+      taken.0,
+      taken.1,
+      rw text at c.in-Ok.ensures.ok,
+    )
+
+pub returns-clause-stopped : goal.returns-clause-stopped
+returns-clause-stopped g c =
+    let fits : FitsSigned w64 c.args.now = c.ranges.now in
+    let taken = simp to_z-of_z at c.in_ok-insertion.ensures.taken in
+    let named = (rw c.as_slice.ensures at c.in_ok-refusals.ensures)
+    ∙ names c.args.lines_before taken.0 c.in_ok-insertion.insertion.refused taken.2 in
+    let text = c.as_bytes.ensures.value ∙ named in
+    let cut = rw text at c.in-Err.ensures.err in (
+      taken.0,
+      taken.1,
+      record { len = cut.0; proper = cut.1; took = cut.2; failed = c.in-Err.ensures.cause.failed },
+    )

@@ -1,7 +1,7 @@
 use Rattle.std.proofs.Common.{◌≡◌, ◌+◌, ◌<◌, ◌^◌, ◌++◌, drop, string_bytes}
 use Rattle.std.specs.List.{AllByRecursion}
 use Rattle.vl_top.specs.Groups.{names_after}
-use Rattle.vl_top.proofs.intake.names_after.Given as goal
+use Rattle.vl_top.proofs.names.names_after.Given as goal
 
 abbrev pub invariant-loop-fault : goal.invariant-loop-fault
 invariant-loop-fault l =
