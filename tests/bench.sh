@@ -1,5 +1,6 @@
 #!/usr/bin/env bash
-# Times `pipe error` against grep and jq on the same file, in one run, and prints the ratios of the least times.
+# Times `pipe error` against grep and jq on the same file, and queries with pipes against it, in one run. Prints the ratios
+# of the least times.
 # usage: tests/bench.sh [LINES] [REPEATS]     (200000 lines of about 300 bytes, 3 repeats)
 set -u
 export LC_ALL=C.UTF-8
@@ -41,6 +42,9 @@ least() {
   awk -v t="$best" 'BEGIN { print t / 100 }'
 }
 
+# peak COMMAND..: its peak memory in KiB
+peak() { /usr/bin/time -f %M "$@" < "$work/full" 2>&1 > /dev/null | tail -n 1; }
+
 ratio() { awk -v a="$1" -v b="$2" 'BEGIN { printf "%.2f", a / b }'; }
 
 mine=$(least "$work/full" "$program" pipe error)
@@ -54,6 +58,23 @@ if command -v jq > /dev/null; then
   echo "jq select by the word: $jq ms, ratio $(ratio "$mine" "$jq")"
 fi
 if [ -x /usr/bin/time ]; then
-  peak=$(/usr/bin/time -f %M "$program" pipe error < "$work/full" 2>&1 > /dev/null | tail -n 1)
+  peak=$(peak "$program" pipe error)
   echo "peak memory: $((peak / 1024)) MB, $((peak * 1024 / lines)) bytes a line"
 fi
+
+# Queries with pipes, as multiples of the time and the peak memory of `pipe error`.
+while IFS= read -r query; do
+  told="$(ratio "$(least "$work/full" "$program" pipe "$query")" "$mine") times as long"
+  if [ -x /usr/bin/time ]; then
+    told="$told, $(ratio "$(peak "$program" pipe "$query")" "$(peak "$program" pipe error)") times the memory"
+  fi
+  echo "$query: $told"
+done <<'QUERIES'
+* | stats by (status) count() as n
+_time:[2024-05-01T00:01:00Z,2024-05-01T00:02:00Z) | stats count() as n
+* | limit 10
+* | uniq by (host, app) with hits
+* | top 5 by (bytes)
+* | stats by (_time:1m, app) count() as n, sum(bytes) as b, max(request_time) as m, count_uniq(client.addr) as u
+* | sort by (bytes) desc limit 10
+QUERIES
