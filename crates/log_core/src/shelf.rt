@@ -1,5 +1,5 @@
 ghost use Rattle.std.specs.Prelude.{◌≡◌, ◌+◌, ◌++◌, ◌^◌, ◌<◌, length, IfNone, None, OnErr, OnOk, IfErr, IfOk, []};
-ghost use Rattle.std.specs.Prelude.{◌∷◌, map};
+ghost use Rattle.std.specs.Prelude.{◌∷◌, ℕ, map, vec_capacity, vec_len};
 ghost use Rattle.std.specs.Arc.{arc_value};
 ghost use Rattle.log_model.specs.Core.{Goes, Stands, StandsAfterAll, after, commit, count_of, held_limit, look};
 ghost use Rattle.log_model.specs.Core.{nothing, with_part};
@@ -52,7 +52,8 @@ impl<P: Held> Shelf<P> {
     }
 
     /// Appends the batch that the part holds, under whatever number, as the next one, and answers its number. The first
-    /// fault that applies is answered, and the part handed back with it, except where memory ran out.
+    /// fault that applies is answered, and the part handed back with it. Where memory ran out its rows may have another
+    /// batch number.
     pub fn commit(&mut self, alloc: Global, part: P) -> Result<u64, (CommitFault, Option<P>)>
         requires { AreBatch (P.numbered part) }
         ensures number { IfOk result (λ number. number ≡ count_of self.old + 1) }
@@ -74,7 +75,7 @@ impl<P: Held> Shelf<P> {
 
         // A batch is refused exactly where something stands against it, or for memory.
         ensures accepted { OnOk result (commit_fault self.old ≡ None) }
-        ensures refused { IfErr result (IsPartRefused (commit_fault self.old) part) }
+        ensures refused { IfErr result (IsPartRefused P.numbered (commit_fault self.old) part) }
         ensures err { OnErr result (self.new ≡ self.old) }
     {
         if let Some(fault) = self.fault() {
@@ -82,7 +83,7 @@ impl<P: Held> Shelf<P> {
         }
         match self.push(alloc, part) {
             Ok(number) => Ok(number),
-            Err(AllocError) => Err((CommitFault::Memory, None)),
+            Err(part) => Err((CommitFault::Memory, Some(part))),
         }
     }
 
@@ -134,9 +135,10 @@ impl<P: Held> Shelf<P> {
         None
     }
 
-    /// Appends a batch, under the next number, which it answers.
+    /// Appends a batch, under the next number, which it answers. Where memory runs out the part comes back under that
+    /// number.
     #[tactic(auto, using(log_model::proofs::Numbering::batch_is_one))]
-    fn push(&mut self, alloc: Global, mut part: P) -> Result<u64, AllocError>
+    fn push(&mut self, alloc: Global, mut part: P) -> Result<u64, P>
         requires batch { AreBatch (P.numbered part) }
         requires room { length self.old.unsettled < held_limit }
         ensures number { IfOk result (λ number. number ≡ count_of self.old + 1) }
@@ -145,32 +147,63 @@ impl<P: Held> Shelf<P> {
         ensures held { OnOk result ((kept : P) × (self.new ≡ with_part self.old kept)
             × (P.numbered kept ≡ with_batch (count_of self.old + 1) (P.numbered part))) }
         ensures err { OnErr result (self.new ≡ self.old) }
+        ensures returned { IfErr result (λ back. (number : ℕ)
+            × (P.numbered back ≡ with_batch number (P.numbered part))) }
     {
         let number = self.count() + 1;
         part.set_batch(number);
-        let part = Arc::new(alloc, part)?;
         push_part(alloc, &mut self.parts, part)?;
         Ok(number)
     }
 }
 
-/// Appends a part to the list. A list that a snapshot still has is copied first, which copies one pointer a part.
-fn push_part<P: Drop>(
-    alloc: Global,
-    parts: &mut Arc<Vec<Arc<P>>>,
-    part: Arc<P>,
-) -> Result<(), AllocError>
-    ensures ok { OnOk result (parts_in parts.new ≡ parts_in parts.old ++ arc_value part ∷ []) }
+/// Appends a part to the list. All memory is taken before, and where it runs out the part comes back.
+fn push_part<P: Drop>(alloc: Global, parts: &mut Arc<Vec<Arc<P>>>, part: P) -> Result<(), P>
+    ensures ok { OnOk result (parts_in parts.new ≡ parts_in parts.old ++ part ∷ []) }
     ensures err { OnErr result (parts_in parts.new ≡ parts_in parts.old) }
+    ensures returned { IfErr result (λ back. back ≡ part) }
 {
-    if let Some(list) = Arc::get_mut(parts) {
-        list.push(part)?;
-        return Ok(());
+    match own_list(alloc, parts) {
+        Ok(()) => {}
+        Err(AllocError) => return Err(part),
     }
-    let mut list = copied(alloc, parts.as_slice())?;
-    list.push(part)?;
-    *parts = Arc::new(alloc, list)?;
+    // Nobody else has the list now.
+    let Some(list) = Arc::get_mut(parts) else {
+        return Err(part);
+    };
+    match list.reserve(1) {
+        Ok(()) => {}
+        Err(AllocError) => return Err(part),
+    }
+    match Arc::new(alloc, part) {
+        Ok(part) => {
+            push_within(list, part);
+            Ok(())
+        }
+        Err(refusal) => Err(refusal.value),
+    }
+}
+
+/// Copies a list that a snapshot still has, which copies one pointer a part.
+fn own_list<P: Drop>(alloc: Global, parts: &mut Arc<Vec<Arc<P>>>) -> Result<(), AllocError>
+    ensures { parts_in parts.new ≡ parts_in parts.old }
+{
+    if Arc::strong_count(parts) > 1 {
+        let list = copied(alloc, parts.as_slice())?;
+        *parts = Arc::new(alloc, list)?;
+    }
     Ok(())
+}
+
+/// Appends a part to the list, which has room for it.
+fn push_within<P: Drop>(list: &mut Vec<Arc<P>>, part: Arc<P>)
+    requires room { vec_len list.old < vec_capacity list.old }
+    ensures { list.new.items ≡ list.old.items ++ part ∷ [] }
+{
+    match list.push(part) {
+        Ok(()) => {}
+        Err(_) => unreachable!(),
+    }
 }
 
 /// The same parts, with room for one more.
