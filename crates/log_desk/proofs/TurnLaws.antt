@@ -1,7 +1,7 @@
 -- What one turn at the shelf does to what a pass has seen.
-use Rattle.std.proofs.Common.{◌≡◌, ℕ, ◌+◌, ◌<◌, List, [], ◌∷◌, ◌++◌, length, sym, ap, subst, ◌∙◌, arith}
+use Rattle.std.proofs.Common.{◌≡◌, ℕ, ◌+◌, ◌<◌, List, [], ◌∷◌, ◌++◌, length, refl, sym, ap, subst, ◌∙◌, arith}
 use Rattle.std.proofs.Common.{append_assoc}
-use Rattle.std.specs.Prelude.{Result, Ok, Err, IfOk}
+use Rattle.std.specs.Prelude.{IfOk, IsSomeAnd, Option, Some, None, Result, Ok, Err}
 use Rattle.std.specs.List.Sorted.{IsPermutation}
 use Rattle.std.proofs.lemmas.List.{length-map}
 use Rattle.std.proofs.lemmas.List.Sorted.{IsPermutation-refl, length_permutation}
@@ -15,7 +15,9 @@ use Rattle.turn_lock.specs.Entries.{made, maker_of, whats}
 use Rattle.turn_lock.specs.Passes.{Finds, LockId, IsPassOf, PassState, after_turn, committed, mine}
 use Rattle.turn_lock.proofs.Laws.{length-whats, mine-left-committed, numbers-found, whats-committed}
 use Rattle.log_core.specs.Entries.{batch_of, newest_in, seen_history, stands_for}
+use Rattle.log_core.specs.Faults.{IsPartRefused}
 use Rattle.log_core.specs.declared.entries.EntryRows.{EntryRows}
+use Rattle.log_core.specs.declared.fault.CommitFault.{CommitFault}
 use Rattle.log_core.proofs.EntryLaws.{counted_entries, newest_committed, stands_newest, stands_seen}
 use Rattle.log_desk.specs.Calls.{Inserts}
 
@@ -108,3 +110,20 @@ pub looked : {E : Type 0} (r : Result (Contents (List Numbered)) E) (held : Cont
 looked (Ok look) held seen is stands =
     subst (λ s. Stands rows s (seen_history seen)) (sym is) (stands_seen rows held seen stands)
 looked (Err fault) held seen is stands = tt
+
+-- The rows of a part stay the same, whatever batch number they have.
+pub rows_in_with_batch : (number : ℕ) (part : List Numbered) → rows_in (with_batch number part) ≡ rows_in part
+rows_in_with_batch number [] = refl
+rows_in_with_batch number (row ∷ part) = ap (λ rest. row.row ∷ rest) (rows_in_with_batch number part)
+
+-- A part that is handed back has them still.
+pub rows_back : (stands : Option CommitFault) (part back : List Numbered)
+    (refusal : CommitFault × Option (List Numbered)) → IsPartRefused rows stands part refusal → refusal.1 ≡ Some back
+    → rows_in back ≡ rows_in part
+rows_back (Some fault) part back refusal refused is =
+    let given = refused.1 in
+    let same : back ≡ part = cc in
+    ap rows_in same
+rows_back None part back refusal refused is =
+    let kept = subst (λ given. IsSomeAnd given (λ rest. (number : ℕ) × (rest ≡ with_batch number part))) is refused.1 in
+    ap rows_in kept.1 ∙ rows_in_with_batch kept.0 part

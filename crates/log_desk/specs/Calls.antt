@@ -7,13 +7,6 @@ use Rattle.turn_lock.specs.Passes.{PassState}
 use Rattle.log_core.specs.Entries.{batch_of}
 use Rattle.log_core.specs.declared.entries.EntryRows.{EntryRows}
 
--- The pass has the same numbers, has drawn as many, and may settle where it might before.
-pub record Keeps (old new : PassState EntryRows) : Type 0 where
-  pub numbers : new.numbers ≡ old.numbers
-  pub seen_drawn : new.seen_drawn ≡ old.seen_drawn
-  pub draws : new.draws ≡ old.draws
-  pub may_settle : new.may_settle ≡ old.may_settle
-
 -- The mark is no lower, and that of a pass that may settle is as before.
 pub record KeepsMark (old new : PassState EntryRows) : Type 0 where
   pub rises : old.mark ≤ new.mark

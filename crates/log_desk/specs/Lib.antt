@@ -1,3 +1,3 @@
 pub mod Calls
 pub mod Faults
-pub mod Own
+pub mod Seen

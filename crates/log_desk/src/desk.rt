@@ -7,22 +7,18 @@ ghost use Rattle.turn_lock.specs.Entries.{Continues, longer};
 ghost use Rattle.turn_lock.specs.Passes.{HasMineOf, IsPassOf, mine};
 ghost use Rattle.turn_lock.specs.Totals.{times};
 ghost use Rattle.log_core.specs.Entries.{seen_history};
-ghost use Rattle.log_desk.specs.Calls.{Inserts, Keeps, KeepsMark};
+ghost use Rattle.log_desk.specs.Calls.{Inserts, KeepsMark};
 ghost use Rattle.log_desk.specs.Faults.{HasRoom, Refuses, last_number};
+ghost use Rattle.log_desk.specs.Seen.{Follows, Gains, caller_of, seen_of};
 
 use crate::fault::InsertFault;
+use crate::pass::Pass;
 use log_core::{Shelf, Snapshot};
 use std::alloc::{AllocError, Global};
 use std::marker::Model;
 use std::sync::Wait;
 use turn_lock::{SplitFault, TurnLock};
 use vl_row::{Batch, RowList};
-
-/// The token of one caller of a desk. It takes no bytes.
-///
-/// Contracts see in it which front of the history its caller has seen, which entries of that the caller made, and how
-/// many of them were settled.
-pub type Pass = turn_lock::Pass<Shelf<RowList>>;
 
 /// The state that all callers share. `insert`, `look` and `status` take one turn each.
 #[derive(Drop)]
@@ -50,7 +46,12 @@ impl Desk {
         ensures history { IfOk result (λ r. r.1.seen ≡ []) }
     {
         let shelf = Shelf::fresh(alloc)?;
-        let (lock, pass) = TurnLock::new(rt, alloc, shelf, passes)?;
+        let (lock, at_lock) = TurnLock::new(rt, alloc, shelf, passes)?;
+        let pass = Pass {
+            at_lock,
+            front: 0,
+            settled: 0,
+        };
         Ok((Desk { lock }, pass))
     }
 
@@ -74,8 +75,12 @@ impl Desk {
         ensures spent { IfErr result (λ e. (e ≡ SplitFault.Spent self.now.passes)
             × (pass.new.seen_drawn ≡ self.now.passes) × (pass.new.draws ≡ pass.old.draws)) }
     {
-        let other = self.lock.split(pass)?;
-        Ok(other)
+        let at_lock = self.lock.split(&mut pass.at_lock)?;
+        Ok(Pass {
+            at_lock,
+            front: pass.front,
+            settled: pass.settled,
+        })
     }
 
     /// Puts `other` into `pass`, which has then the numbers of both, the longer of what they had seen and the greater
@@ -95,13 +100,20 @@ impl Desk {
         ensures second { Continues self.now.passes other.numbers other.seen pass.new.seen }
         ensures mine { HasMineOf pass.old other pass.new }
     {
-        self.lock.join(pass, other);
+        let Pass {
+            at_lock,
+            front,
+            settled,
+        } = other;
+        self.lock.join(&mut pass.at_lock, at_lock);
+        pass.front = pass.front.max(front);
+        pass.settled = pass.settled.max(settled);
     }
 
     /// Inserts the batch, in one turn, as the last one of the history that the pass has then seen, and answers its
-    /// number. After a refusal the batch comes back.
+    /// number. After a refusal the batch comes back, in the same memory.
     ///
-    /// All memory is taken before the history grows: where it runs out, there may have been no turn.
+    /// All memory is taken before the history grows. Where it runs out, the turn was taken all the same.
     pub fn insert<R: Wait>(
         &self,
         rt: &R,
@@ -115,8 +127,12 @@ impl Desk {
         ensures turn_refused { IfErr result (λ refusal. refusal.0 ≢ InsertFault.Memory
             → pass.new.turns ≡ pass.old.turns + 1) }
         ensures one_turn { (pass.new.turns ≡ pass.old.turns) ⊎ (pass.new.turns ≡ pass.old.turns + 1) }
-        ensures keeps { Keeps pass.old pass.new }
+        ensures caller { caller_of pass.new ≡ caller_of pass.old }
         ensures mark { KeepsMark pass.old pass.new }
+
+        // It gains the batch, or follows the history at least.
+        ensures gains { OnOk result (Gains (caller_of pass.old) (seen_of pass.old) (seen_of pass.new) batch) }
+        ensures follows { OnErr result (Follows (caller_of pass.old) (seen_of pass.old) (seen_of pass.new)) }
 
         // The batch is inserted once, as the last entry, which is the one place more of the pass's own.
         ensures inserts { OnOk result (Inserts batch pass.old pass.new) }
@@ -134,12 +150,11 @@ impl Desk {
         ensures complete { HasRoom (length pass.new.seen) pass.new.mark
             → IfErr result (λ refusal. refusal.0 ≡ InsertFault.Memory) }
     {
-        let Ok(part) = RowList::of_batch(alloc, &batch) else {
-            return Err((InsertFault::Memory, batch));
-        };
-        match self.commit(rt, alloc, pass, part) {
+        // Where the rows of a batch are read, it is known that they keep its rules.
+        let _ = batch.rows();
+        match self.commit(rt, alloc, pass, RowList::from(batch)) {
             Ok(number) => Ok(number),
-            Err(fault) => Err((fault, batch)),
+            Err((fault, part)) => Err((fault, part.into_batch())),
         }
     }
 
@@ -149,8 +164,9 @@ impl Desk {
         requires { IsPassOf self.now pass.old }
         ensures lock { IsPassOf self.now pass.new }
         ensures turn { pass.new.turns ≡ pass.old.turns + 1 }
-        ensures keeps { Keeps pass.old pass.new }
+        ensures caller { caller_of pass.new ≡ caller_of pass.old }
         ensures mark { KeepsMark pass.old pass.new }
+        ensures follows { Follows (caller_of pass.old) (seen_of pass.old) (seen_of pass.new) }
         ensures adds { Continues self.now.passes pass.old.numbers pass.old.seen pass.new.seen }
         ensures mine { mine pass.new ≡ mine pass.old }
 
@@ -159,8 +175,11 @@ impl Desk {
         ensures front { IfOk result (λ look. (count_of look ≡ length pass.new.seen)
             × (look.settled ≡ pass.new.mark)) }
     {
-        let mut turn = self.lock.enter(rt, pass);
-        let look = turn.value().look();
+        let mut turn = self.lock.enter(rt, &mut pass.at_lock);
+        let shelf = turn.value();
+        pass.front = shelf.count();
+        pass.settled = shelf.settled();
+        let look = shelf.look();
         turn.leave();
         look
     }
@@ -170,53 +189,63 @@ impl Desk {
         requires { IsPassOf self.now pass.old }
         ensures lock { IsPassOf self.now pass.new }
         ensures turn { pass.new.turns ≡ pass.old.turns + 1 }
-        ensures keeps { Keeps pass.old pass.new }
+        ensures caller { caller_of pass.new ≡ caller_of pass.old }
         ensures mark { KeepsMark pass.old pass.new }
+        ensures follows { Follows (caller_of pass.old) (seen_of pass.old) (seen_of pass.new) }
 
         // What was seen goes on with entries of strangers alone.
         ensures adds { Continues self.now.passes pass.old.numbers pass.old.seen pass.new.seen }
         ensures mine { mine pass.new ≡ mine pass.old }
         ensures numbers { (result.0 ≡ length pass.new.seen) × (result.1 ≡ pass.new.mark) }
     {
-        let mut turn = self.lock.enter(rt, pass);
+        let mut turn = self.lock.enter(rt, &mut pass.at_lock);
         let shelf = turn.value();
-        let status = (shelf.count(), shelf.settled());
+        pass.front = shelf.count();
+        pass.settled = shelf.settled();
         turn.leave();
-        status
+        (pass.front, pass.settled)
     }
 
-    /// Commits the part, in one turn.
+    /// Commits the part, in one turn. After a refusal the part comes back, under whatever number.
     fn commit<R: Wait>(
         &self,
         rt: &R,
         alloc: Global,
         pass: &mut Pass,
         part: RowList,
-    ) -> Result<u64, InsertFault>
+    ) -> Result<u64, (InsertFault, RowList)>
         requires pass { IsPassOf self.now pass.old }
         requires batch { AreBatch part × AreInOrder part }
         ensures lock { IsPassOf self.now pass.new }
         ensures turn { pass.new.turns ≡ pass.old.turns + 1 }
-        ensures keeps { Keeps pass.old pass.new }
+        ensures caller { caller_of pass.new ≡ caller_of pass.old }
         ensures mark { KeepsMark pass.old pass.new }
+        ensures gains { OnOk result (Gains (caller_of pass.old) (seen_of pass.old) (seen_of pass.new) (rows_in part)) }
+        ensures follows { OnErr result (Follows (caller_of pass.old) (seen_of pass.old) (seen_of pass.new)) }
         ensures inserts { OnOk result (Inserts (rows_in part) pass.old pass.new) }
         ensures number { IfOk result (λ number. length pass.new.seen ≡ number) }
         ensures mine { IfOk result (λ number. mine pass.new ≡ mine pass.old ++ number ∷ []) }
         ensures room { IfOk result (λ number. (number ≤ pass.new.mark + held_limit) × (number ≤ last_number)) }
-        ensures refused { IfErr result (λ fault. Refuses (length pass.new.seen) pass.new.mark fault) }
+        ensures refused { IfErr result (λ refusal. Refuses (length pass.new.seen) pass.new.mark refusal.0) }
         ensures adds { OnErr result (Continues self.now.passes pass.old.numbers pass.old.seen pass.new.seen) }
         ensures mine_refused { OnErr result (mine pass.new ≡ mine pass.old) }
+        ensures returned { IfErr result (λ refusal. rows_in refusal.1 ≡ rows_in part) }
     {
-        let mut turn = self.lock.enter(rt, pass);
-        match turn.value().commit(alloc, part) {
+        let mut turn = self.lock.enter(rt, &mut pass.at_lock);
+        let shelf = turn.value();
+        pass.front = shelf.count();
+        pass.settled = shelf.settled();
+        match shelf.commit(alloc, part) {
             Ok(number) => {
                 turn.commit();
                 turn.leave();
+                pass.front = number;
                 Ok(number)
             }
-            Err((fault, _part)) => {
+            Err((fault, part)) => {
                 turn.leave();
-                Err(InsertFault::from(fault))
+                let Some(part) = part else { unreachable!() };
+                Err((InsertFault::from(fault), part))
             }
         }
     }

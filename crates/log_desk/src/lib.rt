@@ -3,6 +3,11 @@
 
 mod desk;
 mod fault;
+mod law;
+mod pass;
 
-pub use desk::{Desk, Pass};
+pub use desk::Desk;
 pub use fault::InsertFault;
+pub use law::one_caller_law;
+pub use pass::Pass;
+pub use turn_lock::SplitFault;

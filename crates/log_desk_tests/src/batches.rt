@@ -1,18 +1,64 @@
-//! Batches of one row.
-use log_core::Snapshot;
-use std::alloc::{AllocError, Global};
-use vl_row::{Batch, FieldList, Row, RowList};
+//! Batches whose rows have a message alone, and what a look has of them.
+ghost use Rattle.turn_lock.specs.Passes.{IsPassOf};
 
-/// A batch of one row, whose message is this text.
-pub(crate) fn batch_of(alloc: Global, message: &str) -> Result<Option<Batch>, AllocError> {
+use log_core::Snapshot;
+use log_desk::{Desk, Pass};
+use std::alloc::{AllocError, Global};
+use std::sync::Wait;
+use vl_row::{Batch, FieldList, Held, Row, RowList};
+
+/// A row with this message.
+fn row_of(alloc: Global, message: &str) -> Result<Option<Row>, AllocError> {
     let mut fields = FieldList::new(alloc);
     fields.set(alloc, "_msg", message)?;
-    let Ok(row) = Row::try_new(alloc, 0, &[], fields) else {
+    Ok(Row::try_new(alloc, 0, &[], fields).ok())
+}
+
+/// A batch of one row for each line, with that message.
+pub(crate) fn batch_of(alloc: Global, lines: &str) -> Result<Option<Batch>, AllocError> {
+    let mut rows = Vec::new(alloc);
+    for line in lines.lines() {
+        let Some(row) = row_of(alloc, line)? else {
+            return Ok(None);
+        };
+        rows.push(row)?;
+    }
+    Ok(Batch::try_of(rows).ok())
+}
+
+/// Inserts a batch of one row with this message, and answers its number, or `None` where it is refused.
+pub(crate) fn insert_one<R: Wait>(
+    rt: &R,
+    alloc: Global,
+    desk: &Desk,
+    pass: &mut Pass,
+    message: &str,
+) -> Result<Option<u64>, AllocError>
+    requires { IsPassOf desk.now pass.old }
+    ensures { IsPassOf desk.now pass.new }
+{
+    let Some(batch) = batch_of(alloc, message)? else {
         return Ok(None);
     };
-    let mut rows = Vec::new(alloc);
-    rows.push(row)?;
-    Ok(Batch::try_of(rows).ok())
+    Ok(desk.insert(rt, alloc, pass, batch).ok())
+}
+
+/// Whether there is one row for each line, in this order, with that message.
+pub(crate) fn are_rows_of(rows: &[Row], lines: &str) -> bool {
+    rows.len() == lines.lines().count()
+        && rows
+            .iter()
+            .zip(lines.lines())
+            .all(|(row, line)| row.value("_msg") == line)
+}
+
+/// How many rows a look has, whatever their messages.
+pub(crate) fn row_count(look: &Snapshot<RowList>) -> u64 {
+    let mut count: u64 = 0;
+    for i in 0..look.len() {
+        count = count.saturating_add(look.part(i).rows());
+    }
+    count
 }
 
 /// How many rows of a look have this message.

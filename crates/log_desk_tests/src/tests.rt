@@ -1,7 +1,7 @@
 //! That each call does what it says.
 ghost use Rattle.turn_lock.specs.Passes.{IsPassOf};
 
-use crate::batches::{batch_of, rows_of};
+use crate::batches::{are_rows_of, batch_of, insert_one, row_count, rows_of};
 use crate::callers::{fault_of_one, insert_by_two};
 use log_desk::{Desk, InsertFault, Pass};
 use std::alloc::{AllocError, Global};
@@ -16,12 +16,12 @@ fn spent_split(rt: HostRuntime) -> Result<(), Fail> {
     Ok(())
 }
 
-/// What two passes of one desk answer: the numbers of their batches and the front between them, and what one look at
-/// the end has of each batch.
+/// What two passes of one desk answer: the numbers of their batches and the front between them, and how many rows one
+/// look at the end has of the first batch, of the second, and in all.
 fn by_two<R: Wait>(
     rt: &R,
     alloc: Global,
-) -> Result<Option<((u64, u64, u64), u64, u64)>, AllocError> {
+) -> Result<Option<((u64, u64, u64), (u64, u64, u64))>, AllocError> {
     let (desk, mut pass) = Desk::fresh(rt, alloc, 2)?;
     let (Some(first), Some(second)) = (batch_of(alloc, "a")?, batch_of(alloc, "b")?) else {
         return Ok(None);
@@ -30,12 +30,52 @@ fn by_two<R: Wait>(
         return Ok(None);
     };
     let look = desk.look(rt, &mut pass)?;
-    Ok(Some((numbers, rows_of(&look, "a"), rows_of(&look, "b"))))
+    let rows = (rows_of(&look, "a"), rows_of(&look, "b"), row_count(&look));
+    Ok(Some((numbers, rows)))
 }
 
 #[test]
 fn two_passes_of_one_desk(rt: HostRuntime) -> Result<(), Fail> {
-    assert!(rt; by_two(&rt, rt.alloc())? == Some(((1, 1, 2), 1, 1)));
+    assert!(rt; by_two(&rt, rt.alloc())? == Some(((1, 1, 2), (1, 1, 2))));
+    Ok(())
+}
+
+/// How many batches a pass has seen, and how many of them were settled.
+fn seen_by(pass: &Pass) -> (u64, u64) {
+    (pass.front(), pass.settled())
+}
+
+#[test]
+fn a_split_pass_has_the_same_front(rt: HostRuntime) -> Result<(), Fail> {
+    let alloc = rt.alloc();
+    let (desk, mut pass) = Desk::fresh(&rt, alloc, 3)?;
+    assert!(rt; seen_by(&pass) == (0, 0));
+    let Ok(early) = desk.split(&mut pass) else {
+        return Err(Fail::new("no second pass"));
+    };
+    assert!(rt; insert_one(&rt, alloc, &desk, &mut pass, "a")? == Some(1));
+    let Ok(late) = desk.split(&mut pass) else {
+        return Err(Fail::new("no third pass"));
+    };
+    // The one that was split before has taken no turn since.
+    assert!(rt; seen_by(&early) == (0, 0));
+    assert!(rt; seen_by(&late) == (1, 0) && seen_by(&pass) == (1, 0));
+    Ok(())
+}
+
+#[test]
+fn a_joined_pass_has_the_longer_front(rt: HostRuntime) -> Result<(), Fail> {
+    let alloc = rt.alloc();
+    let (desk, mut pass) = Desk::fresh(&rt, alloc, 3)?;
+    let (Ok(mut ahead), Ok(behind)) = (desk.split(&mut pass), desk.split(&mut pass)) else {
+        return Err(Fail::new("no three passes"));
+    };
+    assert!(rt; insert_one(&rt, alloc, &desk, &mut ahead, "a")? == Some(1));
+    assert!(rt; seen_by(&ahead) == (1, 0) && seen_by(&pass) == (0, 0));
+    desk.join(&mut pass, ahead);
+    assert!(rt; seen_by(&pass) == (1, 0));
+    desk.join(&mut pass, behind);
+    assert!(rt; seen_by(&pass) == (1, 0));
     Ok(())
 }
 
@@ -51,35 +91,29 @@ fn inserts_in_turn<R: Wait>(
     ensures { IsPassOf desk.now pass.new }
 {
     for number in 1..=count {
-        let Some(batch) = batch_of(alloc, "a")? else {
-            return Ok(false);
-        };
-        let Ok(found) = desk.insert(rt, alloc, pass, batch) else {
-            return Ok(false);
-        };
-        if found != number {
+        if insert_one(rt, alloc, desk, pass, "a")? != Some(number) {
             return Ok(false);
         }
     }
     Ok(true)
 }
 
-/// Whether one more batch is refused as the 4,097th, and comes back.
+/// Whether one more batch, of three rows, is refused as the 4,097th, and comes back whole.
 fn is_full<R: Wait>(rt: &R, alloc: Global, desk: &Desk, pass: &mut Pass) -> Result<bool, AllocError>
     requires { IsPassOf desk.now pass.old }
     ensures { IsPassOf desk.now pass.new }
 {
-    let Some(batch) = batch_of(alloc, "last")? else {
+    let Some(batch) = batch_of(alloc, "first\nsecond\nthird")? else {
         return Ok(false);
     };
     let Err((fault, batch)) = desk.insert(rt, alloc, pass, batch) else {
         return Ok(false);
     };
-    let rows = batch.rows();
+    // It weighs four bytes a row for the name `_msg`, and 16 for the messages.
     Ok(
         fault == InsertFault::Full { held: 4_096 }
-            && rows.len() == 1
-            && rows.iter().all(|row| row.value("_msg") == "last"),
+            && are_rows_of(batch.rows(), "first\nsecond\nthird")
+            && batch.weight() == 28,
     )
 }
 

@@ -2,12 +2,13 @@
 ghost use Rattle.std.specs.Prelude.{IfSome};
 ghost use Rattle.turn_lock.specs.Passes.{IsPassOf};
 
-use crate::batches::{batch_of, rows_of};
+use crate::batches::{insert_one, row_count, rows_of};
 use log_desk::{Desk, Pass};
 use std::alloc::{AllocError, Global};
 use std::sync::Wait;
 use std::test::Fail;
 use std::thread::{Threads, join};
+use std::time::Instant;
 
 /// How many batches each caller inserts.
 const ROUNDS: u64 = 64;
@@ -15,23 +16,8 @@ const ROUNDS: u64 = 64;
 /// How many callers there are.
 const CALLERS: u64 = 8;
 
-/// Inserts a batch of one row with this message.
-fn insert_one<R: Wait>(
-    rt: &R,
-    alloc: Global,
-    desk: &Desk,
-    pass: &mut Pass,
-    message: &str,
-) -> Result<bool, AllocError>
-    requires { IsPassOf desk.now pass.old }
-    ensures { IsPassOf desk.now pass.new }
-{
-    let Some(batch) = batch_of(alloc, message)? else {
-        return Ok(false);
-    };
-    let inserted = desk.insert(rt, alloc, pass, batch);
-    Ok(inserted.is_ok())
-}
+/// The most seconds that they may take, in a slow build and on a busy machine too.
+const MOST_SECONDS: u64 = 10;
 
 /// The front of a look, and how many of its rows have this message.
 fn look_for<R: Wait>(
@@ -62,9 +48,9 @@ fn insert_and_look<R: Wait>(
     let message = caller.to_string(alloc)?;
     let mut last = 0;
     for round in 1..=ROUNDS {
-        let inserted = insert_one(rt, alloc, desk, pass, message.as_str())?;
+        let number = insert_one(rt, alloc, desk, pass, message.as_str())?;
         let (front, own) = look_for(rt, desk, pass, message.as_str())?;
-        if !inserted || own != round || front <= last {
+        if number.is_none() || own != round || front <= last {
             return Ok(false);
         }
         last = front;
@@ -168,7 +154,7 @@ fn eight<R: Threads + Wait + Sync>(
     Some(pass)
 }
 
-/// Whether a look holds all rows of each caller, and no others.
+/// Whether a look holds all rows of each caller, and no other row.
 fn holds_all<R: Wait>(
     rt: &R,
     alloc: Global,
@@ -179,26 +165,26 @@ fn holds_all<R: Wait>(
     ensures { IsPassOf desk.now pass.new }
 {
     let look = desk.look(rt, pass)?;
-    let mut rows: u64 = 0;
     for caller in 0..CALLERS {
         let message = caller.to_string(alloc)?;
-        let own = rows_of(&look, message.as_str());
-        if own != ROUNDS {
+        if rows_of(&look, message.as_str()) != ROUNDS {
             return Ok(false);
         }
-        rows = rows.saturating_add(own);
     }
-    Ok(rows == 512 && look.front() == 512)
+    Ok(row_count(&look) == 512 && look.front() == 512)
 }
 
 #[test]
 fn eight_callers_insert_and_look(rt: HostRuntime) -> Result<(), Fail> {
     let alloc = rt.alloc();
+    let start = Instant::now(&rt)?;
     let (desk, pass) = Desk::fresh(&rt, alloc, 8)?;
     let Some(mut pass) = eight(&rt, alloc, &desk, pass) else {
         return Err(Fail::from(AllocError));
     };
     assert!(rt; holds_all(&rt, alloc, &desk, &mut pass)?);
     assert!(rt; desk.status(&rt, &mut pass) == (512, 0));
+    let took = start.elapsed(&rt)?;
+    assert!(rt; took.as_secs() < MOST_SECONDS, "{took:?}");
     Ok(())
 }
