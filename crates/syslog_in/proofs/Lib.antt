@@ -7,6 +7,7 @@ pub mod Stops
 pub mod Streams
 pub mod Pieces
 pub mod Framers
+pub mod SetValues
 pub mod Standing
 pub mod Timestamps
 pub mod Priorities

@@ -4,7 +4,7 @@ use Rattle.std.proofs.Common.{sym, ap, subst}
 use Rattle.std.proofs.Common.{arith, ◌∙◌, ◌≢◌, Result, Ok, Err}
 use Rattle.std.specs.Prelude.{codes, IfErr}
 use Rattle.std.specs.Str.Lossy.{utf8_lossy}
-use Rattle.std.proofs.lemmas.Bool.{eqb-true, eq-eqb}
+use Rattle.std.proofs.lemmas.Bool.{eqb-true}
 use Rattle.std.proofs.lemmas.List.{length-append}
 use Rattle.std.proofs.lemmas.List.Sums.{fold-append}
 use Rattle.std.proofs.lemmas.Option.{none-some}
@@ -21,6 +21,7 @@ use Rattle.syslog_in.specs.declared.fault.MessageFault.TheVariants.{Memory}
 use Rattle.time_text.proofs.Counts.{some_is}
 use Rattle.syslog_in.proofs.Headers.{time_part, pri_fits, parts_fit}
 use Rattle.syslog_in.proofs.NamesRead.{names_from}
+use Rattle.syslog_in.proofs.Standing.{behind_end}
 
 -- ---- a part with a blank behind it
 
@@ -236,10 +237,6 @@ pub no_header : {X : Type 0} (result : Result X MessageFault) (text : List ℕ)
 no_header (Ok x) text none = tt
 no_header (Err fault) text none = λ other time fields h.
     none h.header.priority h.header.time h.header.names _ (message_parts text time fields h).0
-
-behind_end : (after rest : List ℕ) → Behind after rest → is_end after ≡ true
-behind_end [] rest h = refl
-behind_end (byte ∷ bytes) rest h = eq-eqb byte 32 h.0
 
 -- the header that was read is the only one
 abbrev pub IsOnly : List ℕ → ℕ → Option ℤ → NameTexts → List ℕ → Type 0

@@ -1,5 +1,5 @@
 -- Names and parameters are read as they are spelled.
-use Rattle.std.proofs.Common.{◌≡◌, ℕ, false, ◌&&◌, nat_le, List, [], ◌∷◌}
+use Rattle.std.proofs.Common.{◌≡◌, ℕ, false, ◌&&◌, nat_le, List, ◌∷◌}
 use Rattle.std.proofs.Common.{◌++◌, length}
 use Rattle.std.proofs.Common.{take, drop, Option, Some, None, refl, sym, ap, subst, arith, ◌∙◌}
 use Rattle.std.specs.Prelude.{flat_map, IsTrue}
@@ -13,7 +13,7 @@ use Rattle.time_text.proofs.Counts.{some_is, test_some}
 use Rattle.log_model.specs.Field.{Field, set_field}
 use Rattle.syslog_in.specs.Message.{is_name_byte, IsDataName, Param, value_source}
 use Rattle.syslog_in.specs.Message.{character_text}
-use Rattle.syslog_in.specs.DataReading.{name_len, name_at, value_at, GivesValue, FindsOne, FindsAny, SpellsParam}
+use Rattle.syslog_in.specs.DataReading.{name_len, name_at, value_at, SetsValue, FindsOne, FindsAny, SpellsParam}
 use Rattle.syslog_in.specs.DataReading.{param_fields}
 use Rattle.syslog_in.specs.HeaderReading.{past}
 use Rattle.syslog_in.proofs.Runs.{all_taken, run_then}
@@ -55,17 +55,6 @@ name_again name rest byte h stop =
     rw (len, test, take_at name (byte ∷ rest) (length name) refl, drop_at name (byte ∷ rest) (length name) refl) refl
 
 -- ---- what a value gave
-
-gives_some : (o : Option (List ℕ × List ℕ)) (old new after : List ℕ) → GivesValue o old new (Some after)
-    → (text : List ℕ) × (o ≡ found text after) × (new ≡ old ++ text)
-gives_some None old new after e = absurd (none-some after (sym e))
-gives_some (Some x) old new after e =
-    let same : after ≡ x.1 = some_is after x.1 e.0 in
-    (x.0, ap (λ (r : List ℕ). found x.0 r) (sym same), e.1)
-
-gives_none : (o : Option (List ℕ × List ℕ)) (old new : List ℕ) → GivesValue o old new None → o ≡ None
-gives_none None old new e = refl
-gives_none (Some x) old new e = absurd (none-some x.1 e.0)
 
 -- ---- parameters
 
@@ -158,11 +147,10 @@ module _ (id text : List ℕ) (old new : List Field) where
       ∙ past_again 61 (34 ∷ reads.values)) in
       absurd (none-some reads.values (none ∙ ap (past 34) quoted_is ∙ past_again 34 reads.values))
 
-  pub no_value : (name rest quoted inside before out : List ℕ) → found name rest ≡ name_at text
-      → Some quoted ≡ past 61 rest
-      → Some inside ≡ past 34 quoted → GivesValue (value_at inside) before out None
-      → FindsAny (SpellsParam text) (param_fields id) old new None
-  no_value name rest quoted inside before out name_is equals quote none = λ param after spells.
+  no_value : (name rest quoted inside : List ℕ) → found name rest ≡ name_at text → Some quoted ≡ past 61 rest
+      → Some inside ≡ past 34 quoted → value_at inside ≡ None → (left : Option (List ℕ))
+      → FindsAny (SpellsParam text) (param_fields id) old new left
+  no_value name rest quoted inside name_is equals quote none left = λ param after spells.
       let reads = param_reads text after param spells in
       let names = some_is (pair name rest) (pair param.name (61 ∷ 34 ∷ reads.values)) (name_is ∙ reads.name) in
       let quoted_is : quoted ≡ 34 ∷ reads.values =
@@ -170,18 +158,37 @@ module _ (id text : List ℕ) (old new : List Field) where
       ∙ past_again 61 (34 ∷ reads.values)) in
       let inside_is : inside ≡ reads.values =
       some_is inside reads.values (quote ∙ ap (past 34) quoted_is ∙ past_again 34 reads.values) in
-      absurd (none-some _ (sym (gives_none (value_at inside) before out none) ∙ ap value_at inside_is ∙ reads.value))
+      absurd (none-some _ (sym none ∙ ap value_at inside_is ∙ reads.value))
 
-pub parts_of : (text name rest quoted inside before out after : List ℕ) → found name rest ≡ name_at text
-    → Some quoted ≡ past 61 rest → Some inside ≡ past 34 quoted → GivesValue (value_at inside) before out (Some after)
-    → before ≡ [] → PartsOf text name inside out after
-parts_of text name rest quoted inside before out after name_is equals quote gives empty =
-    let got = gives_some (value_at inside) before out after gives in
-    record {
-      rest = rest;
-      quoted = quoted;
-      name_is = name_is;
-      equals = equals;
-      quote = quote;
-      value_is = got.1 ∙ ap (λ (t : List ℕ). found t after) (sym (got.2 ∙ ap (λ (t : List ℕ). t ++ got.0) empty));
-    }
+  -- where the field of the value is set, that of the parameter is
+  module _ (name rest quoted inside field : List ℕ) (left : Option (List ℕ)) (name_is : found name rest ≡ name_at text)
+      (equals : Some quoted ≡ past 61 rest) (quote : Some inside ≡ past 34 quoted) (field_is : field ≡ id ++ 46 ∷ name)
+    where
+      parts : (value after : List ℕ) → value_at inside ≡ found value after → PartsOf text name inside value after
+      parts value after is =
+          record { rest = rest; quoted = quoted; name_is = name_is; equals = equals; quote = quote; value_is = is }
+
+      renamed : (value : List ℕ) → new ≡ set_field old field (utf8_lossy value) → new ≡ fields_with old id name value
+      renamed value set = set ∙ ap (λ (n : List ℕ). set_field old n (utf8_lossy value)) field_is
+
+      pub value_one : SetsValue (value_at inside) field old new left
+          → FindsOne (SpellsParam text) (param_fields id) old new left
+      value_one = by_case (value_at inside) refl
+        where
+          by_case : (o : Option (List ℕ × List ℕ)) → value_at inside ≡ o → SetsValue o field old new left
+              → FindsOne (SpellsParam text) (param_fields id) old new left
+          by_case None is sets = subst (FindsOne (SpellsParam text) (param_fields id) old new) (sym sets) tt
+          by_case (Some x) is sets =
+              subst (FindsOne (SpellsParam text) (param_fields id) old new) (sym sets.0)
+              (param_one name inside x.0 x.1 (parts x.0 x.1 is) (renamed x.0 sets.1))
+
+      pub value_any : SetsValue (value_at inside) field old new left
+          → FindsAny (SpellsParam text) (param_fields id) old new left
+      value_any = by_case (value_at inside) refl
+        where
+          by_case : (o : Option (List ℕ × List ℕ)) → value_at inside ≡ o → SetsValue o field old new left
+              → FindsAny (SpellsParam text) (param_fields id) old new left
+          by_case None is sets = no_value name rest quoted inside name_is equals quote is left
+          by_case (Some x) is sets =
+              subst (FindsAny (SpellsParam text) (param_fields id) old new) (sym sets.0)
+              (param_any name inside x.0 x.1 (parts x.0 x.1 is) (renamed x.0 sets.1))

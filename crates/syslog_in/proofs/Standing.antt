@@ -3,16 +3,16 @@ use Rattle.std.proofs.Common.{◌≡◌, ℕ, ◌<◌, true, ◌==◌, List, [],
 use Rattle.std.proofs.Common.{take}
 use Rattle.std.proofs.Common.{drop, refl, sym, ap, subst, arith, ◌∙◌, zero, suc}
 use Rattle.std.specs.Prelude.{nat_le}
-use Rattle.std.specs.List.{list_all}
+use Rattle.std.specs.List.{list_all, prefix_len}
 use Rattle.std.specs.Str.{IsUtf8}
-use Rattle.std.proofs.lemmas.Bool.{and_parts, and_from, eqb-true, ne_eqb, not-false, not_from_false}
+use Rattle.std.proofs.lemmas.Bool.{and_parts, and_from, eqb-true, eq-eqb, ne_eqb, not-false, not_from_false}
 use Rattle.std.proofs.lemmas.Bool.{leb-true}
 use Rattle.std.proofs.lemmas.List.{take-append-drop, append-nil, take_at, drop_at, get_or_past}
 use Rattle.std.proofs.lemmas.Str.{IsUtf8-from_ascii}
 use Rattle.syslog_in.specs.Message.{is_visible, is_name_byte, IsName}
 use Rattle.syslog_in.specs.Parts.{Behind, Stands}
-use Rattle.syslog_in.specs.DataReading.{is_no_blank, part_len, first_part, behind_part}
-use Rattle.syslog_in.proofs.Runs.{stops, run_then, run_alone}
+use Rattle.syslog_in.specs.DataReading.{is_no_blank, part_len, first_part, behind_part, is_end}
+use Rattle.syslog_in.proofs.Runs.{all_taken, stops, run_again, run_then, run_alone}
 
 -- ---- bytes
 
@@ -97,3 +97,37 @@ pub lacks_name : (most : ℕ) (text : List ℕ) → (IsName most (first_part tex
 lacks_name most text not_so rest h =
     not_so (subst (IsName most) (stands_only (IsName most) text rest h
     (visible_no_blanks h.part h.is_so.visible)).0 h.is_so)
+
+-- ---- the visible bytes at the start
+
+visible_run : (text : List ℕ) → list_all is_no_blank (take (prefix_len is_visible text) text) ≡ true
+visible_run text = visible_no_blanks (take (prefix_len is_visible text) text) (all_taken is_visible text)
+
+-- where a blank or the end comes behind them, they are the part at the start
+pub visible_first : (text after rest : List ℕ) → after ≡ drop (prefix_len is_visible text) text → Behind after rest
+    → (take (prefix_len is_visible text) text ≡ first_part text) × (rest ≡ behind_part text)
+visible_first text after rest is behind =
+    let len = prefix_len is_visible text in
+    let whole = ap (λ (t : List ℕ). take len text ++ t) is ∙ take-append-drop len text in
+    let same = only_part (take len text) after rest (visible_run text) behind in
+    (same.0 ∙ ap first_part whole, same.1 ∙ ap behind_part whole)
+
+pub behind_end : (after rest : List ℕ) → Behind after rest → is_end after ≡ true
+behind_end [] rest h = refl
+behind_end (byte ∷ bytes) rest h = eq-eqb byte 32 h.0
+
+visible_then : (part after rest : List ℕ) → list_all is_visible part ≡ true → Behind after rest
+    → prefix_len is_visible (part ++ after) ≡ length part
+visible_then part [] rest all h = omega (arith, run_again is_visible part [] all)
+visible_then part (byte ∷ more) rest all h = rw h.0 (run_then is_visible part more 32 all refl)
+
+-- behind a part that is visible comes a blank, or the end
+pub visible_ends : (text : List ℕ) → list_all is_visible (first_part text) ≡ true
+    → is_end (drop (prefix_len is_visible text) text) ≡ true
+visible_ends text all =
+    let h = stands_here (λ part. part ≡ first_part text) text refl in
+    let len = visible_then h.part h.after (behind_part text) (ap (list_all is_visible) h.is_so ∙ all) h.behind in
+    ap (λ (t : List ℕ). is_end (drop (prefix_len is_visible t) t)) h.spelled
+    ∙ ap (λ (n : ℕ). is_end (drop n (h.part ++ h.after))) len
+    ∙ ap is_end (drop_at h.part h.after (length h.part) refl)
+    ∙ behind_end h.after (behind_part text) h.behind

@@ -95,6 +95,14 @@ value_run (byte ∷ bytes) = by_case (is_plain byte) refl (value_run bytes)
         ∙ put_put (byte ∷ []) (take n bytes) (after_run (ending_at (drop n bytes))))
     by_case false is more = value_special byte bytes is ∙ sym (put_nil (after_run (ending_at (byte ∷ bytes))))
 
+-- a value without backslashes
+pub plain_value : (bytes rest : List ℕ) → quote rest ≡ ending_at (drop (prefix_len is_plain bytes) bytes)
+    → value_at bytes ≡ Some (take (prefix_len is_plain bytes) bytes, rest)
+plain_value bytes rest is =
+    let run = take (prefix_len is_plain bytes) bytes in
+    value_run bytes ∙ ap (λ (e : Ending). put run (after_run e)) (sym is)
+    ∙ ap (λ (t : List ℕ). Some (t, rest)) (append-nil run)
+
 -- so far the value has this text
 pub record ReadSoFar (text rest old new : List ℕ) : Type 0 where
   pub read : List ℕ

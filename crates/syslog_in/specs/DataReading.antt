@@ -3,7 +3,8 @@ use Rattle.std.specs.Prelude.{◌≡◌, ℕ, Bool, true, false, flat_map, map, 
 use Rattle.std.specs.Prelude.{List, [], ◌∷◌, ◌++◌, length, take, drop}
 use Rattle.std.specs.Prelude.{Option, Some, None, ◌-◌, nat_lt, slice_index, if◌then◌else◌}
 use Rattle.std.specs.List.{prefix_len, AllByRecursion}
-use Rattle.log_model.specs.Field.{Field, set_all}
+use Rattle.std.specs.Str.Lossy.{utf8_lossy}
+use Rattle.log_model.specs.Field.{Field, set_all, set_field}
 use Rattle.syslog_in.specs.Message.{is_special, is_name_byte, Param, IsParam, param_source, param_field, Element}
 use Rattle.syslog_in.specs.Message.{IsElement, element_source, data_source}
 
@@ -76,6 +77,12 @@ GivesValue None old new found = found ≡ None
 GivesValue (Some (text, rest)) old new found = (found ≡ Some rest) × (new ≡ old ++ text)
 
 -- ---- what is set
+
+-- The field of this name has the value, and what follows the value is left.
+abbrev pub SetsValue : Option (List ℕ × List ℕ) → List ℕ → List Field → List Field → Option (List ℕ) → Type 0
+SetsValue None name old new found = found ≡ None
+SetsValue (Some (text, rest)) name old new found =
+    (found ≡ Some rest) × (new ≡ set_field old name (utf8_lossy text))
 
 -- Something was found, and its fields were set.
 abbrev pub FindsOne : {X : Type 0} → (X → List ℕ → Type 0) → (X → List Field) → List Field → List Field

@@ -1,12 +1,12 @@
 //! Structured data, whose parameters become fields (RFC 5424, section 6.3).
-ghost use Rattle.std.specs.Prelude.{◌≡◌, ◌<◌, ◌≤◌, ◌++◌, ◌∷◌, IfOk, OnOk, length, string_bytes};
+ghost use Rattle.std.specs.Prelude.{◌≡◌, ◌<◌, ◌≤◌, ◌++◌, ◌∷◌, IfOk, OnOk, length};
 ghost use Rattle.std.specs.Option.{option_map};
 ghost use Rattle.std.specs.List.{prefix_len};
 ghost use Rattle.std.specs.Str.Lossy.{utf8_lossy};
 ghost use Rattle.log_model.specs.Field.{set_field};
 ghost use Rattle.syslog_in.specs.Message.{is_name_byte, is_special, data_fields};
 ghost use Rattle.syslog_in.specs.DataReading.{name_len, name_at, is_plain, escaped_text, value_at, ending_at};
-ghost use Rattle.syslog_in.specs.DataReading.{GivesValue};
+ghost use Rattle.syslog_in.specs.DataReading.{GivesValue, SetsValue};
 ghost use Rattle.syslog_in.specs.DataReading.{FindsOne, FindsAny, SpellsParam, param_fields, SpellsElement};
 ghost use Rattle.syslog_in.specs.DataReading.{element_fields, SpellsElements, SpellsParameters, SpellsData};
 ghost use Rattle.syslog_in.specs.DataReading.{SpellsParams};
@@ -17,14 +17,7 @@ ghost use Rattle.syslog_in.specs.Endings.{ending_of};
 use crate::part::past;
 use memchr::memchr3;
 use std::alloc::{AllocError, Global};
-use vl_row::FieldList;
-
-/// The room in which names and values are put together, used again from one parameter to the next.
-#[derive(Drop)]
-struct Room {
-    name: String,
-    value: Vec<u8>,
-}
+use vl_row::{FieldList, Text};
 
 /// Sets a field. Bytes that are no UTF-8 become U+FFFD.
 pub(crate) fn set_bytes(
@@ -64,10 +57,8 @@ fn name_at(text: &[u8]) -> Option<(&str, &[u8])>
     if len == 0 || len > 32 {
         return None;
     }
-    match std::str::from_utf8(&text[..len]) {
-        Ok(name) => Some((name, &text[len..])),
-        Err(_) => unreachable!(),
-    }
+    let (name, rest) = text.split_at(len);
+    Some((unsafe { std::str::from_utf8_unchecked(name) }, rest))
 }
 
 /// How many bytes stand for themselves, up to the first quotation mark, backslash or bracket.
@@ -138,14 +129,40 @@ fn value<'a>(text: &'a [u8], out: &mut Vec<u8>) -> Result<Option<&'a [u8]>, Allo
     }
 }
 
-/// Puts a field's name together.
-fn join(id: &str, name: &str, out: &mut String) -> Result<(), AllocError>
-    ensures { OnOk result (string_bytes out.new ≡ id.now ++ 46 ∷ name.now) }
+/// The name of a parameter's field. Most are short, and take no memory of their own.
+fn field_name(alloc: Global, id: &str, name: &str) -> Result<Text, AllocError>
+    ensures { IfOk result (λ field. field ≡ id.now ++ 46 ∷ name.now) }
 {
-    out.clear();
-    out.push_str(id)?;
-    out.push_str(".")?;
-    out.push_str(name)
+    let mut field = Text::try_of(alloc, id)?;
+    field.push_str(alloc, ".")?;
+    field.push_str(alloc, name)?;
+    Ok(field)
+}
+
+/// Sets the field of this name to the value behind its opening quotation mark, and gives what follows the closing one.
+/// A value with a backslash is put together in `room`, any other is taken from where it stands.
+fn set_value<'a>(
+    alloc: Global,
+    name: &str,
+    text: &'a [u8],
+    room: &mut Vec<u8>,
+    fields: &mut FieldList,
+) -> Result<Option<&'a [u8]>, AllocError>
+    requires { 0 < length name.now }
+    ensures { IfOk result (λ found. SetsValue (value_at text.now) name.now fields.old fields.new
+        (option_map (λ rest. rest.now) found)) }
+{
+    let (run, after) = text.split_at(plain_len(text));
+    if let RunEnd::Quote(rest) = run_end(after) {
+        set_bytes(alloc, name, run, fields)?;
+        return Ok(Some(rest));
+    }
+    room.clear();
+    let Some(rest) = value(text, room)? else {
+        return Ok(None);
+    };
+    set_bytes(alloc, name, room, fields)?;
+    Ok(Some(rest))
 }
 
 /// Sets the field of the parameter behind a blank, and gives what follows it.
@@ -153,7 +170,7 @@ fn set_param<'a>(
     alloc: Global,
     id: &str,
     text: &'a [u8],
-    room: &mut Room,
+    room: &mut Vec<u8>,
     fields: &mut FieldList,
 ) -> Result<Option<&'a [u8]>, AllocError>
     ensures one { IfOk result (λ found. FindsOne (SpellsParam text.now) (param_fields id.now) fields.old fields.new
@@ -170,13 +187,8 @@ fn set_param<'a>(
     let Some(inside) = past(quoted, b'"') else {
         return Ok(None);
     };
-    room.value.clear();
-    let Some(after) = value(inside, &mut room.value)? else {
-        return Ok(None);
-    };
-    join(id, name, &mut room.name)?;
-    set_bytes(alloc, room.name.as_str(), &room.value, fields)?;
-    Ok(Some(after))
+    let field = field_name(alloc, id, name)?;
+    set_value(alloc, field.as_str(), inside, room, fields)
 }
 
 /// Sets the fields of the parameters of an element, and gives what follows the closing bracket.
@@ -184,7 +196,7 @@ fn set_params<'a>(
     alloc: Global,
     id: &str,
     text: &'a [u8],
-    room: &mut Room,
+    room: &mut Vec<u8>,
     fields: &mut FieldList,
 ) -> Result<Option<&'a [u8]>, AllocError>
     ensures one { IfOk result (λ found. FindsOne (SpellsParams text.now) (params_fields id.now) fields.old fields.new
@@ -208,7 +220,7 @@ fn set_params<'a>(
 fn set_element<'a>(
     alloc: Global,
     text: &'a [u8],
-    room: &mut Room,
+    room: &mut Vec<u8>,
     fields: &mut FieldList,
 ) -> Result<Option<&'a [u8]>, AllocError>
     ensures one { IfOk result (λ found. FindsOne (SpellsElement text.now) element_fields fields.old fields.new
@@ -226,7 +238,7 @@ fn set_element<'a>(
 fn set_elements<'a>(
     alloc: Global,
     text: &'a [u8],
-    room: &mut Room,
+    room: &mut Vec<u8>,
     fields: &mut FieldList,
 ) -> Result<Option<&'a [u8]>, AllocError>
     ensures one { IfOk result (λ found. FindsOne (SpellsElements text.now) data_fields fields.old fields.new
@@ -260,10 +272,7 @@ fn set_parameters<'a>(
     let Some(inside) = past(text, b'[') else {
         return Ok(past(text, b'-'));
     };
-    let mut room = Room {
-        name: String::new(alloc),
-        value: Vec::new(alloc),
-    };
+    let mut room = Vec::new(alloc);
     set_elements(alloc, inside, &mut room, fields)
 }
 

@@ -1,11 +1,11 @@
 //! The parts of a header, each up to a blank or the end.
 ghost use Rattle.std.specs.Prelude.{◌≡◌, IfOk, IfErr, IfSome, IfNone, List, ℕ, length, IsFalse, IsTrue};
 ghost use Rattle.std.specs.Option.{option_map};
-ghost use Rattle.std.specs.List.{list_all};
+ghost use Rattle.std.specs.List.{list_all, prefix_len};
 ghost use Rattle.syslog_in.specs.Message.{is_visible, IsName};
-ghost use Rattle.syslog_in.specs.DataReading.{first_part, behind_part};
+ghost use Rattle.syslog_in.specs.DataReading.{first_part, behind_part, is_end};
 ghost use Rattle.syslog_in.specs.HeaderReading.{past};
-ghost use Rattle.syslog_in.specs.Parts.{Stands};
+ghost use Rattle.syslog_in.specs.Parts.{Behind, Stands};
 
 use memchr::memchr;
 
@@ -51,10 +51,40 @@ pub(crate) fn visible(bytes: &[u8]) -> Option<&str>
     if !are_visible(bytes) {
         return None;
     }
-    match std::str::from_utf8(bytes) {
-        Ok(text) => Some(text),
-        Err(_) => unreachable!(),
+    Some(unsafe { std::str::from_utf8_unchecked(bytes) })
+}
+
+/// How many visible bytes come first.
+fn visible_len(text: &[u8]) -> usize
+    ensures { result ≡ prefix_len is_visible text.now }
+{
+    text.iter().take_while(|byte| is_visible(**byte)).count()
+}
+
+/// What follows a blank, or the end.
+fn behind(after: &[u8]) -> Option<&[u8]>
+    ensures some { IfSome result (λ rest. Behind after.now rest.now) }
+    ensures none { IfNone result (IsFalse (is_end after.now)) }
+{
+    match after {
+        [] => Some(after),
+        [b' ', rest @ ..] => Some(rest),
+        _ => None,
     }
+}
+
+/// The bytes up to the first blank, if they are visible ones, and those behind it.
+fn visible_part(text: &[u8]) -> Option<(&str, &[u8])>
+    ensures part { IfSome result (λ x. x.0.now ≡ first_part text.now) }
+    ensures visible { IfSome result (λ _. IsTrue (list_all is_visible (first_part text.now))) }
+    ensures rest { IfSome result (λ x. x.1.now ≡ behind_part text.now) }
+    ensures none { IfNone result (IsFalse (list_all is_visible (first_part text.now))) }
+{
+    let (part, after) = text.split_at(visible_len(text));
+    let Some(rest) = behind(after) else {
+        return None;
+    };
+    Some((unsafe { std::str::from_utf8_unchecked(part) }, rest))
 }
 
 /// The name of at most so many bytes that stands at the start, and what stands behind it; or how many bytes are left
@@ -66,12 +96,11 @@ pub(crate) fn name(text: &[u8], most: usize) -> Result<(&str, &[u8]), usize>
     ensures lacks { IfErr result (λ left. (rest : List ℕ) → Stands (IsName most) text.now rest → ⊥) }
     ensures left { IfErr result (λ left. left ≡ length text.now) }
 {
-    let (part, rest) = cut(text);
-    if part.is_empty() || part.len() > most {
+    let Some((name, rest)) = visible_part(text) else {
+        return Err(text.len());
+    };
+    if name.is_empty() || name.len() > most {
         return Err(text.len());
     }
-    match visible(part) {
-        Some(name) => Ok((name, rest)),
-        None => Err(text.len()),
-    }
+    Ok((name, rest))
 }

@@ -4,29 +4,28 @@ use Rattle.syslog_in.specs.Message.{IsName}
 use Rattle.syslog_in.proofs.Standing.{stands_here, lacks_name}
 use Rattle.syslog_in.proofs.part.name.Goals as goal
 use Rattle.syslog_in.proofs.part.name.Goals.{then-is_empty-via-then-is_empty}
-use Rattle.syslog_in.proofs.part.name.Goals.{then-is_empty-via-else-is_empty+then-part-most}
+use Rattle.syslog_in.proofs.part.name.Goals.{then-is_empty-via-else-is_empty+then-name-most}
+
+pub returns-in_default-clause-lacks : goal.returns-in_default-clause-lacks
+returns-in_default-clause-lacks c = lacks_name c.args.most c.args.text.now (λ so.
+    false≢true (sym c.in_default.ensures.none ∙ so.visible))
 
 pub returns-then-is_empty-clause-lacks : goal.returns-then-is_empty-clause-lacks
 returns-then-is_empty-clause-lacks c = lacks_name c.args.most c.args.text.now (λ so.
-    let same = ap length c.cut.ensures.part in
+    let same = ap length c.in-Some.ensures.part in
     elim c.then-is_empty.branch [
       | then-is_empty-via-then-is_empty w ↦
           let none = eqb-true _ _ (sym c.is_empty.ensures ∙ w.if-is_empty.true) in omega (arith, so.some, same, none)
-      | then-is_empty-via-else-is_empty+then-part-most w ↦ omega (arith, so.few, same, w.if-part-most.true)
+      | then-is_empty-via-else-is_empty+then-name-most w ↦ omega (arith, so.few, same, w.if-name-most.true)
     ])
 
-pub returns-in-Some-clause-stands : goal.returns-in-Some-clause-stands
-returns-in-Some-clause-stands c =
+pub returns-clause-stands : goal.returns-clause-stands
+returns-clause-stands c =
     let text = c.args.text.now in
-    let same = c.cut.ensures.part in
-    let count = ap length same in
+    let count = ap length c.in-Some.ensures.part in
     let some = eqb-false _ _ (sym c.is_empty.ensures ∙ c.if-is_empty.false) in
-    rw c.cut.ensures.rest (stands_here (IsName c.args.most) text (record {
+    rw c.in-Some.ensures.rest (stands_here (IsName c.args.most) text (record {
       some = omega (arith, count, some);
-      few = omega (arith, count, c.if-part-most.false);
-      visible = rw (← same) c.in-Some.ensures.visible;
+      few = omega (arith, count, c.if-name-most.false);
+      visible = c.in-Some.ensures.visible;
     }))
-
-pub returns-in-None-clause-lacks : goal.returns-in-None-clause-lacks
-returns-in-None-clause-lacks c = lacks_name c.args.most c.args.text.now (λ so.
-    false≢true (sym c.in-None.ensures.none ∙ rw c.cut.ensures.part so.visible))
