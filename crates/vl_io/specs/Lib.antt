@@ -2,6 +2,7 @@ pub mod Bytes
 pub mod Faults
 pub mod Change
 pub mod Moments
+pub mod Visits
 pub mod Memory
 pub mod Adapters
 pub mod ReadFault

@@ -44,3 +44,15 @@ moments_of moments (suc calls) = moments_of moments calls ++ unsigned_abs (momen
 -- what the clock tells, as long as it can count its calls
 abbrev pub moments_told : ClockState → Option (List ℕ)
 moments_told clock = if nat_lt clock.calls (2 ^ 64 - 1) then Some (moments_of clock.moments clock.calls) else None
+
+pub record DoorsState (V : Type 0) : Type 0 where
+  -- the visits to give, in turn
+  pub visits : List V
+  -- the numbers of the calls that fail
+  pub failing : List ℕ
+  pub calls : ℕ
+  pub faults : ℕ
+
+-- how many visits are left
+abbrev pub visits_left : {V : Type 0} → DoorsState V → ℕ
+visits_left doors = length doors.visits

@@ -1,14 +1,17 @@
-//! A source, a sink and a clock in memory, which tell all that they give and take.
+//! A source, a sink, a clock and doors in memory, which tell all that they give and take.
 ghost use Rattle.std.specs.Prelude.{◌≡◌, ◌↔◌, ◌<◌, ◌≤◌, ◌++◌, [], All, Contains, IfOk, IsErr, OnErr, OnOk, Some};
 ghost use Rattle.std.specs.Prelude.{drop, length, min, take};
 ghost use Rattle.vl_io.specs.Bytes.{ReadConsumes, TakesSome, WriteAppends};
 ghost use Rattle.vl_io.specs.Faults.{HasCause};
-ghost use Rattle.vl_io.specs.Memory.{counted, moment_at, moments_told, read_count};
+ghost use Rattle.std.specs.Option.{option_to_list};
+ghost use Rattle.vl_io.specs.Memory.{counted, moment_at, moments_told, read_count, visits_left};
 ghost use Rattle.vl_io.specs.Moments.{IsMoment, Tells};
+ghost use Rattle.vl_io.specs.Visits.{NextGives};
 
-use crate::outside::{Clock, Failed, Sink, Source};
+use crate::outside::{Clock, Doors, Failed, Sink, Source, Visit};
 use std::alloc::{AllocError, Global};
 use std::marker::Model;
+use std::vec::IntoIter;
 
 /// A source over bytes in memory. It can give them in pieces, and fail at chosen calls.
 #[derive(Debug, Drop)]
@@ -240,4 +243,84 @@ impl Clock for MemClock {
         ensures kept { moments_told self.new ≡ moments_told self.old }
         ensures same { self.new ≡ self.old }
     {}
+}
+
+/// Doors that give chosen visits. They can fail at chosen calls.
+#[derive(Debug, Drop)]
+pub struct MemDoors<S, K, C> {
+    visits: IntoIter<Visit<S, K, C>, Global>,
+    failing: Vec<u64>,
+    calls: u64,
+    faults: u64,
+}
+
+impl<S, K, C> Model for MemDoors<S, K, C> {
+    ghost use Rattle.std.specs.Vec.Iter.{into_iter_items};
+    ghost use Rattle.vl_io.specs.Memory.{DoorsState};
+    ghost use Rattle.vl_io.specs.declared.outside.Visit.{Visit};
+
+    ghost Value = { DoorsState (Visit S K C) };
+
+    ghost view = { λ d. record {
+      visits = into_iter_items d.visits;
+      failing = d.failing.items;
+      calls = d.calls;
+      faults = d.faults;
+    } };
+}
+
+impl<S: Drop, K: Drop, C: Drop> MemDoors<S, K, C> {
+    /// Doors that give these visits in turn. The calls whose numbers, counted from 0, are in `failing` fail.
+    pub fn of(
+        alloc: Global,
+        visits: Vec<Visit<S, K, C>>,
+        failing: &[u64],
+    ) -> Result<MemDoors<S, K, C>, AllocError>
+        ensures { IfOk result (λ doors. doors ≡ record {
+          visits = visits.items;
+          failing = failing.now;
+          calls = 0;
+          faults = 0;
+        }) }
+    {
+        Ok(MemDoors {
+            failing: Vec::from_slice(alloc, failing)?,
+            visits: visits.into_iter(),
+            calls: 0,
+            faults: 0,
+        })
+    }
+}
+
+impl<S: Source + Drop, K: Sink + Drop, C: Clock + Drop> Doors for MemDoors<S, K, C> {
+    type S = S;
+
+    type K = K;
+
+    type C = C;
+
+    ghost left = { λ d. Some (visits_left d) };
+
+    ghost faults = { λ d. d.faults };
+
+    fn next(&mut self) -> Result<Option<Visit<S, K, C>>, Failed>
+        ensures visits { NextGives (Some (visits_left self.old)) (Some (visits_left self.new)) result }
+        ensures cause { HasCause self.old.faults self.new.faults result }
+
+        ensures fails { IsErr result ↔ Contains self.old.failing self.old.calls }
+        ensures given { IfOk result (λ visit. self.old.visits ≡ option_to_list visit ++ self.new.visits) }
+        ensures ok { OnOk result (self.new.faults ≡ self.old.faults) }
+        ensures err { OnErr result ((self.new.visits ≡ self.old.visits)
+            × (self.new.faults ≡ counted self.old.faults)) }
+        ensures calls { self.new.calls ≡ counted self.old.calls }
+        ensures failing { self.new.failing ≡ self.old.failing }
+    {
+        let call = self.calls;
+        self.calls = call.saturating_add(1);
+        if self.failing.contains(&call) {
+            self.faults = self.faults.saturating_add(1);
+            return Err(Failed);
+        }
+        Ok(self.visits.next())
+    }
 }

@@ -3,6 +3,7 @@ ghost use Rattle.std.specs.Prelude.{◌≡◌, ℕ, ◌≤◌, List, Option, IfO
 ghost use Rattle.vl_io.specs.Bytes.{ReadConsumes, TakesSome, WriteAppends};
 ghost use Rattle.vl_io.specs.Faults.{HasCause};
 ghost use Rattle.vl_io.specs.Moments.{IsMoment, Tells};
+ghost use Rattle.vl_io.specs.Visits.{NextGives};
 
 use std::error::Error;
 use std::fmt;
@@ -68,4 +69,50 @@ pub trait Clock {
     /// Waits a little. Nothing is promised of how long.
     fn pause(&mut self)
         ensures kept { moments self.new ≡ moments self.old };
+}
+
+/// What a visitor speaks.
+#[derive(Clone, Copy, Debug, PartialEq, Eq)]
+pub enum VisitKind {
+    /// HTTP requests.
+    Http,
+    /// Syslog messages.
+    Syslog,
+}
+
+/// One visitor of the program, as an accepted connection.
+#[derive(Debug, Drop)]
+pub struct Visit<S, K, C> {
+    /// What the visitor speaks.
+    pub kind: VisitKind,
+    /// What comes from the visitor.
+    pub source: S,
+    /// What goes to the visitor.
+    pub sink: K,
+    /// The clock of the visit.
+    pub clock: C,
+}
+
+/// Gives visits, one after another.
+pub trait Doors {
+    /// Where the bytes of a visit come from.
+    type S: Source + Drop;
+
+    /// Where the bytes for a visit go to.
+    type K: Sink + Drop;
+
+    /// The clock of a visit.
+    type C: Clock + Drop;
+
+    // How many visits are left, where the doors tell it.
+    ghost left: { Self → Option ℕ };
+
+    // How often the doors failed.
+    ghost faults: { Self → ℕ };
+
+    /// The next visit, which is then one less that is left. `None` says that no visit is left. A call that fails
+    /// takes none.
+    fn next(&mut self) -> Result<Option<Visit<Self::S, Self::K, Self::C>>, Failed>
+        ensures visits { NextGives (left self.old) (left self.new) result }
+        ensures cause { HasCause (faults self.old) (faults self.new) result };
 }

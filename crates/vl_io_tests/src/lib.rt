@@ -1,5 +1,7 @@
-//! Sources, sinks and clocks (`vl_io`).
+//! Sources, sinks, clocks and doors (`vl_io`).
 #![tactic(auto)]
 
+#[cfg(test)]
+mod doors_tests;
 #[cfg(test)]
 mod tests;
