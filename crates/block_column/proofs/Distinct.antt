@@ -27,11 +27,11 @@ left_true : (a b : Bool) → a ≡ true → (a || b) ≡ true
 left_true true b e = refl
 left_true false b e = absurd cc
 
-right_true : (a b : Bool) → b ≡ true → (a || b) ≡ true
+pub right_true : (a b : Bool) → b ≡ true → (a || b) ≡ true
 right_true true b e = refl
 right_true false b e = e
 
-either_kept : (a b c : Bool) → (a || b) ≡ true → (b ≡ true → c ≡ true) → (a || c) ≡ true
+pub either_kept : (a b c : Bool) → (a || b) ≡ true → (b ≡ true → c ≡ true) → (a || c) ≡ true
 either_kept true b c e h = refl
 either_kept false b c e h = h e
 
@@ -43,7 +43,7 @@ pub itself : (text : List ℕ) → bytes_eq text text ≡ true
 itself text = (bytes_eq-Decides text text).1 refl
 
 -- a text is there once it was put
-put-has : (key : List ℕ) (keys : List (List ℕ)) → list_any (bytes_eq key) (with_key keys key) ≡ true
+pub put-has : (key : List ℕ) (keys : List (List ℕ)) → list_any (bytes_eq key) (with_key keys key) ≡ true
 put-has key [] = left_true (bytes_eq key key) false (itself key)
 put-has key (x ∷ xs) = by (bytes_cmp key x) refl (put-has key xs)
   where
@@ -55,7 +55,7 @@ put-has key (x ∷ xs) = by (bytes_cmp key x) refl (put-has key xs)
     by Greater e h = right_true (bytes_eq key x) (list_any (bytes_eq key) (with_key xs key)) h
 
 -- and so are those that were there
-put-keeps : (p : List ℕ → Bool) (key : List ℕ) (keys : List (List ℕ)) → list_any p keys ≡ true
+pub put-keeps : (p : List ℕ → Bool) (key : List ℕ) (keys : List (List ℕ)) → list_any p keys ≡ true
     → list_any p (with_key keys key) ≡ true
 put-keeps p key [] e = absurd cc
 put-keeps p key (x ∷ xs) e = by (bytes_cmp key x) (put-keeps p key xs)

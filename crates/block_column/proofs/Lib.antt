@@ -3,3 +3,4 @@ pub mod KindLaws
 pub mod BodyLaws
 pub mod Again
 pub mod Whole
+pub mod Rising

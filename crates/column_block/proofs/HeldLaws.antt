@@ -1,10 +1,11 @@
 -- What a block holds says its rows.
 use Rattle.std.proofs.Common.{◌≡◌, ℕ, zero, suc, ◌+◌, ◌-◌, ◌<◌, ◌^◌, List, [], ◌∷◌, ◌++◌, length, map, take, get_or}
-use Rattle.std.proofs.Common.{Some, refl, sym, ap, ◌∙◌, arith, slice_get}
-use Rattle.std.specs.List.{AllByRecursion}
+use Rattle.std.proofs.Common.{Some, true, refl, sym, ap, ◌∙◌, arith, slice_get}
+use Rattle.std.specs.List.{AllByRecursion, list_all}
 use Rattle.log_model.specs.History.{Numbered}
 use Rattle.row_columns.specs.Columns.{Column, columns_of, names_of, values_of}
 use Rattle.row_columns.specs.Keys.{IsNumbered, keys_of}
+use Rattle.row_columns.specs.Texts.{is_text_row}
 use Rattle.row_columns.specs.declared.keys.Key.{Key}
 use Rattle.row_columns.proofs.RowLaws.{AreRows, rows-again}
 use Rattle.word_filter.specs.Words.{filter_of}
@@ -31,13 +32,13 @@ held-again rows block each =
     rw (columns-again rows (names_of rows)) (rows-again rows (labels_of rows) (are-rows rows each) block.stream)
 
 pub held : (rows : List Numbered) (head : Outline) (keys : List Key) (columns : List (List (List ℕ)))
-    → IsBlock rows → AllByRecursion IsNumbered rows → head ≡ outline_of rows → keys ≡ keys_of rows
-    → columns ≡ map (values_of rows) (names_of rows)
+    → IsBlock rows → AllByRecursion IsNumbered rows → list_all is_text_row rows ≡ true → head ≡ outline_of rows
+    → keys ≡ keys_of rows → columns ≡ map (values_of rows) (names_of rows)
     → (rows_in head keys columns ≡ rows) × IsHeld (rows_in head keys columns) head keys columns
-held rows head keys columns block each h k c =
+held rows head keys columns block each texts h k c =
     let all : rows_in head keys columns ≡ rows = rw (h, k, c) (held-again rows block each) in (
       all,
-      rw all (record { block = block; each = each; head_is = h; keys_are = k; columns_are = c }),
+      rw all (record { block = block; each = each; texts = texts; head_is = h; keys_are = k; columns_are = c }),
     )
 
 -- the columns are those of the rows

@@ -21,26 +21,32 @@ use Rattle.block_parts.specs.Labels.{IsShortLabel}
 use Rattle.block_parts.specs.Parts.{parts}
 use Rattle.block_parts.proofs.Again.{IsColumn, IsKey, IsLabel, IsWritable, whole-again}
 use Rattle.byte_format.specs.Format.{value, front, whole, ended, ◌>>=◌}
-use Rattle.byte_format.specs.Spelling.{IsReadAgain}
+use Rattle.byte_format.specs.Spelling.{IsReadAgain, reading}
 use Rattle.byte_format.proofs.Cases.{bind_assoc, bind_chosen, bind_same, both_true, some_from}
 use Rattle.byte_format.proofs.Readings.{whole-followed}
+use Rattle.byte_format.proofs.Spellings.{reading-only}
 use Rattle.log_model.specs.Field.{Field, bytes_cmp, field_value, is_filled, set_all}
 use Rattle.log_model.specs.History.{Numbered}
 use Rattle.log_model.specs.Row.{has_field}
 use Rattle.row_columns.specs.Columns.{Column, columns_of, names_in, names_of, rows_from, values_of}
 use Rattle.row_columns.specs.Keys.{IsNumbered, key_of, keys_of}
+use Rattle.row_columns.specs.Texts.{is_text_field, is_text_row}
+use Rattle.row_columns.specs.declared.keys.Key.{Key}
 use Rattle.row_columns.proofs.FieldLaws.{IsRising, below-more, filled-value, set-last}
 use Rattle.row_columns.proofs.RowLaws.{none-below, rows-again}
 use Rattle.row_columns.proofs.Sizes.{value-size}
 use Rattle.vl_row.specs.Place.{AllBelow}
+use Rattle.column_block.specs.Held.{IsHeld}
+use Rattle.column_block.specs.Outline.{Outline}
 use Rattle.column_block.specs.Outlines.{labels_of}
 use Rattle.column_block.specs.Reading.{are_said, block, block_writing, has_name, has_spelling, in_order, is_named}
-use Rattle.column_block.specs.Reading.{is_since_1970, is_text_field, is_text_row, rows_said}
+use Rattle.column_block.specs.Reading.{is_since_1970, rows_said}
 use Rattle.column_block.specs.Spelling.{block_bytes, parts_of}
 use Rattle.column_block.proofs.HeldLaws.{are-rows}
 use Rattle.column_block.proofs.LabelLaws.{is_short_name, is_some_name, names-short, names-some, stream-short}
 use Rattle.column_block.proofs.OrderLaws.{in-order-again}
 use Rattle.column_block.proofs.TestLaws.{IsWrittenBlock, IsWrittenRow, block-holds, both_from, each-numbered, each-text}
+use Rattle.column_block.proofs.TestLaws.{is-block}
 
 -- ---- in UTF-8
 
@@ -285,6 +291,16 @@ writing-is rows bytes e = sym (some_from (has_spelling rows) (block_bytes rows) 
 
 pub is-written : (rows : List Numbered) → has_spelling rows ≡ true → block_writing rows ≡ Some (block_bytes rows)
 is-written rows e = rw e refl
+
+-- what is held is written, and read again
+pub held-written : (rows : List Numbered) (head : Outline) (keys : List Key) (columns : List (List (List ℕ)))
+    (bytes : List ℕ) → IsHeld rows head keys columns → bytes ≡ block_bytes rows → block_writing rows ≡ Some bytes
+held-written rows head keys columns bytes held e =
+    is-written rows (is-block rows held.block held.each held.texts) ∙ ap (λ (l : List ℕ). Some l) (sym e)
+
+pub written-again : (rows : List Numbered) (bytes : List ℕ) → block_writing rows ≡ Some bytes
+    → reading block block_writing bytes ≡ Ok rows
+written-again rows bytes e = reading-only block block_writing bytes rows is_read_again e
 
 pub is-none : (rows : List Numbered) → has_spelling rows ≡ false → block_writing rows ≡ None
 is-none rows e = rw e refl

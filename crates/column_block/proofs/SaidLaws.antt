@@ -3,33 +3,26 @@ use Rattle.std.proofs.Common.{◌≡◌, ℕ, ℤ, zero, suc, pos, negsuc, ◌+�
 use Rattle.std.proofs.Common.{cond, eqb, List}
 use Rattle.std.proofs.Common.{[], ◌∷◌, ◌++◌, length, map, take, get_or, filter, Some, FitsSigned, refl, sym, ap}
 use Rattle.std.proofs.Common.{◌∙◌, arith, w64, slice_get}
-use Rattle.std.specs.Prelude.{◌&&◌, not, bytes_eq, int_lt, IsUtf8}
-use Rattle.std.specs.BTreeMap.{insert_entry}
+use Rattle.std.specs.Prelude.{not, int_lt}
 use Rattle.std.specs.List.{list_all}
 use Rattle.std.specs.Fmt.{decimal, signed_decimal}
-use Rattle.std.specs.Map.{remove_entry}
-use Rattle.std.specs.Ordering.{match_ordering}
-use Rattle.std.specs.Str.{is_utf8}
-use Rattle.std.specs.declared.cmp.Ordering.{Ordering}
-use Rattle.std.specs.declared.cmp.Ordering.TheVariants.{Less, Equal, Greater}
 use Rattle.std.proofs.lemmas.Bool.{cases_Bool, eqb-true, le-ltb, lt-ltb}
 use Rattle.std.proofs.lemmas.Fmt.{decimal_nonempty}
 use Rattle.std.proofs.lemmas.Int.{ints}
 use Rattle.std.proofs.lemmas.List.{append-nil, map-append, take_more}
 use Rattle.std.proofs.lemmas.List.Elements.{filter_more}
-use Rattle.std.proofs.lemmas.List.Folds.{list_all-append, list_all_at, list_all_more}
+use Rattle.std.proofs.lemmas.List.Folds.{list_all_at, list_all_more}
 use Rattle.std.proofs.lemmas.List.Sums.{fold_push}
 use Rattle.std.proofs.lemmas.Option.{slice_get-get_or}
-use Rattle.std.proofs.lemmas.Str.{is_utf8-from_IsUtf8}
-use Rattle.byte_format.proofs.Cases.{both_true, some_is}
+use Rattle.byte_format.proofs.Cases.{some_is}
 use Rattle.block_parts.specs.Found.{Found}
-use Rattle.log_model.specs.Field.{Field, bytes_cmp, is_empty, is_reserved, set_all, set_field}
+use Rattle.log_model.specs.Field.{Field, is_empty, is_reserved, set_all, set_field}
 use Rattle.log_model.specs.History.{Numbered}
 use Rattle.row_columns.specs.Columns.{Column, fields_at, row_of, rows_from}
 use Rattle.row_columns.specs.declared.keys.Key.{Key}
 use Rattle.vl_row.specs.Faults.{stored}
-use Rattle.column_block.specs.Reading.{IsFound, IsSaid, are_said, has_name, has_spelling, in_order, is_named}
-use Rattle.column_block.specs.Reading.{is_numbered, is_row, is_text_field, is_text_row, rows_found, rows_said}
+use Rattle.column_block.specs.Reading.{are_said, has_name, has_spelling, in_order, is_named, is_numbered, is_row}
+use Rattle.column_block.specs.Reading.{rows_found, rows_said}
 use Rattle.column_block.proofs.OrderLaws.{all-in-order, length-in-order}
 use Rattle.column_block.proofs.TestLaws.{both_from, not-all, not-block, not-numbered}
 
@@ -40,46 +33,6 @@ integer-some (pos n) fits =
     let small : n < 2 ^ 64 = omega (arith, ints, fits) in
     le-ltb (length (decimal n)) 1 (decimal_nonempty n small)
 integer-some (negsuc n) fits = le-ltb (length (45 ∷ decimal (suc n))) 1 (omega arith)
-
--- ---- fields in UTF-8
-
-without-texts : (p : Field → Bool) (test : List ℕ → Bool) (fields : List Field) → list_all p fields ≡ true
-    → list_all p (remove_entry test fields) ≡ true
-without-texts p test [] e = refl
-without-texts p test (f ∷ fs) e = by (test f.0) (without-texts p test fs (both_true (p f) (list_all p fs) e).1)
-  where
-    by : (b : Bool) → list_all p (remove_entry test fs) ≡ true
-        → list_all p (cond b fs (f ∷ remove_entry test fs)) ≡ true
-    by true h = (both_true (p f) (list_all p fs) e).1
-    by false h = both_from (p f) (list_all p (remove_entry test fs)) (both_true (p f) (list_all p fs) e).0 h
-
-with-text : (fields : List Field) (name text : List ℕ) → is_utf8 name ≡ true → is_utf8 text ≡ true
-    → list_all is_text_field fields ≡ true
-    → list_all is_text_field (insert_entry bytes_cmp fields name text) ≡ true
-with-text [] name text n t e =
-    both_from (is_utf8 name && is_utf8 text) true (both_from (is_utf8 name) (is_utf8 text) n t) refl
-with-text (f ∷ fs) name text n t e =
-    by (bytes_cmp name f.0) (with-text fs name text n t (both_true (is_text_field f) (list_all is_text_field fs) e).1)
-  where
-    one : is_text_field (name, text) ≡ true
-    one = both_from (is_utf8 name) (is_utf8 text) n t
-
-    by : (o : Ordering) → list_all is_text_field (insert_entry bytes_cmp fs name text) ≡ true
-        → list_all is_text_field (match_ordering o ((name, text) ∷ f ∷ fs) ((f.0, text) ∷ fs)
-        (f ∷ insert_entry bytes_cmp fs name text)) ≡ true
-    by Less h = both_from (is_text_field (name, text)) (list_all is_text_field (f ∷ fs)) one e
-    by Equal h =
-        let p = both_true (is_text_field f) (list_all is_text_field fs) e in
-        both_from (is_utf8 f.0 && is_utf8 text) (list_all is_text_field fs) (both_from (is_utf8 f.0) (is_utf8 text)
-        (both_true (is_utf8 f.0) (is_utf8 f.1) p.0).0 t) p.1
-    by Greater h = both_from (is_text_field f) (list_all is_text_field (insert_entry bytes_cmp fs name text)) (both_true
-        (is_text_field f) (list_all is_text_field fs) e).0 h
-
-pub set-text : (fields : List Field) (name text : List ℕ) → IsUtf8 name → IsUtf8 text
-    → list_all is_text_field fields ≡ true → list_all is_text_field (set_field fields name text) ≡ true
-set-text fields name [] n t e = without-texts is_text_field (bytes_eq name) fields e
-set-text fields name (b ∷ bs) n t e = with-text fields name (b ∷ bs) (is_utf8-from_IsUtf8 name n) (is_utf8-from_IsUtf8
-    (b ∷ bs) t) e
 
 -- ---- fields that are set
 
@@ -246,15 +199,13 @@ one-none found labels e l none =
     rw e (not-all (in_order (rows_found found)) (all-in-order is_numbered (rows_found found) ∙ all))
 
 pub all-said : (found : Found) (labels : List Field) (rows sorted : List Numbered) → are_said found ≡ true
-    → labels ≡ set_all [] found.labels → IsFound labels found rows → sorted ≡ in_order rows → IsSaid found sorted
-all-said found labels rows sorted e l h s =
+    → labels ≡ set_all [] found.labels → rows ≡ rows_from labels (filter has_name found.columns) 0 found.keys
+    → sorted ≡ in_order rows → sorted ≡ rows_said found
+all-said found labels rows sorted e l r s =
     let all : rows ≡ rows_found found =
-    h.rows_are ∙ ap (λ (k : List Field). rows_from k (filter has_name found.columns) 0 found.keys) l in
+    r ∙ ap (λ (k : List Field). rows_from k (filter has_name found.columns) 0 found.keys) l in
     let said : in_order (rows_found found) ≡ rows_said found = rw e refl in
-    record {
-      rows_are = s ∙ ap in_order all ∙ said;
-      texts = ap (list_all is_text_row) s ∙ all-in-order is_text_row rows ∙ h.texts;
-    }
+    s ∙ ap in_order all ∙ said
 
 -- one row more
 pub found-none : (labels : List Field) (columns : List Column) (keys : List Key) (i : ℕ) (key : Key)
@@ -277,11 +228,3 @@ found-more labels columns keys i key fields rows new row lt k f so_far r n =
     n ∙ ap (λ (l : List Numbered). l ++ row ∷ []) so_far
     ∙ ap (λ (x : Numbered). rows_from labels columns 0 (take i keys) ++ x ∷ []) here
     ∙ sym (rows-more labels columns keys i key lt)
-
-pub text-more : (rows new : List Numbered) (row : Numbered) → new ≡ rows ++ row ∷ []
-    → list_all is_text_row rows ≡ true → list_all is_text_field row.row.fields ≡ true
-    → list_all is_text_row new ≡ true
-text-more rows new row n all one =
-    ap (list_all is_text_row) n ∙ list_all-append is_text_row rows (row ∷ [])
-    ∙ both_from (list_all is_text_row rows) (list_all is_text_row (row ∷ [])) all (both_from (is_text_row row) true one
-    refl)

@@ -16,11 +16,11 @@ use Rattle.log_model.specs.History.{Numbered}
 use Rattle.log_model.specs.Row.{IsRow, Row}
 use Rattle.row_columns.specs.Columns.{names_of}
 use Rattle.row_columns.specs.Keys.{IsNumbered}
+use Rattle.row_columns.specs.Texts.{is_text_row}
 use Rattle.row_columns.proofs.FieldLaws.{Above, IsRising}
 use Rattle.column_block.specs.Outlines.{labels_of}
 use Rattle.column_block.specs.Reading.{all_hold, are_rising, block_tests, has_spelling, is_field_list, is_numbered}
-use Rattle.column_block.specs.Reading.{is_row}
-use Rattle.column_block.specs.Reading.{is_text_row, numbered_tests, row_tests, same_fields}
+use Rattle.column_block.specs.Reading.{is_row, numbered_tests, row_tests, same_fields}
 use Rattle.column_block.specs.Rows.{IsBlock}
 
 -- ---- tests

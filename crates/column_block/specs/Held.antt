@@ -1,9 +1,10 @@
 -- How a block holds its rows.
-use Rattle.std.specs.Prelude.{◌≡◌, ◌<◌, ◌^◌, ℕ, List, [], ◌∷◌, length, map}
-use Rattle.std.specs.List.{AllByRecursion}
+use Rattle.std.specs.Prelude.{◌≡◌, ◌<◌, ◌^◌, ℕ, List, [], ◌∷◌, length, map, true}
+use Rattle.std.specs.List.{AllByRecursion, list_all}
 use Rattle.log_model.specs.History.{Numbered}
 use Rattle.row_columns.specs.Columns.{Column, names_of, rows_from, values_of}
 use Rattle.row_columns.specs.Keys.{IsNumbered, keys_of}
+use Rattle.row_columns.specs.Texts.{is_text_row}
 use Rattle.row_columns.specs.declared.keys.Key.{Key}
 use Rattle.word_filter.specs.Words.{filter_of}
 use Rattle.column_block.specs.Outline.{NamedFilter, Outline}
@@ -31,6 +32,7 @@ pub record IsHeld (rows : List Numbered) (head : Outline) (keys : List Key)
     (columns : List (List (List ℕ))) : Type 0 where
   pub block : IsBlock rows
   pub each : AllByRecursion IsNumbered rows
+  pub texts : list_all is_text_row rows ≡ true
   pub head_is : head ≡ outline_of rows
   pub keys_are : keys ≡ keys_of rows
   pub columns_are : columns ≡ map (values_of rows) (names_of rows)

@@ -1,10 +1,9 @@
 -- The rows that the items of a block say, and the spelling of rows.
-use Rattle.std.specs.Prelude.{◌≡◌, ℕ, Bool, true, false, ◌&&◌, ◌||◌, ◌*◌, ◌^◌, not, nat_le, nat_lt, int_lt, pos, filter}
+use Rattle.std.specs.Prelude.{ℕ, Bool, true, false, ◌&&◌, ◌||◌, ◌*◌, ◌^◌, not, nat_le, nat_lt, int_lt, pos, filter}
 use Rattle.std.specs.Prelude.{List, [], ◌∷◌, length, bytes_eq, Option, Some, None, if◌then◌else◌}
 use Rattle.std.specs.List.{list_all}
 use Rattle.std.specs.Map.{keys_of}
 use Rattle.std.specs.Ordering.{is_lt}
-use Rattle.std.specs.Str.{is_utf8}
 use Rattle.byte_format.specs.Format.{Format, value, followed}
 use Rattle.block_parts.specs.Found.{Found}
 use Rattle.block_parts.specs.Parts.{parts}
@@ -12,6 +11,7 @@ use Rattle.log_model.specs.Field.{Field, bytes_cmp, is_empty, is_filled, is_rese
 use Rattle.log_model.specs.History.{Numbered}
 use Rattle.log_model.specs.Row.{Row, has_field}
 use Rattle.row_columns.specs.Columns.{Column, names_of, rows_from}
+use Rattle.row_columns.specs.Texts.{is_text_row}
 use Rattle.row_columns.specs.declared.keys.Key.{Key}
 use Rattle.column_block.specs.Outlines.{labels_of}
 use Rattle.column_block.specs.Rows.{are_numbered_apart, are_ordered, comes_before}
@@ -61,9 +61,6 @@ block = followed parts (λ found. value (rows_said found))
 abbrev pub all_hold : List Bool → Bool
 all_hold tests = list_all (λ test. test) tests
 
-abbrev pub is_text_field : Field → Bool
-is_text_field field = is_utf8 field.0 && is_utf8 field.1
-
 -- in byte order, each once
 abbrev pub are_rising : List (List ℕ) → Bool
 are_rising [] = true
@@ -89,9 +86,6 @@ row_tests row =
 
 unfoldable pub is_row : Row → Bool
 is_row row = all_hold (row_tests row)
-
-abbrev pub is_text_row : Numbered → Bool
-is_text_row numbered = list_all is_text_field numbered.row.fields
 
 -- `IsNumbered` as a test, of a row in UTF-8
 abbrev pub numbered_tests : Numbered → List Bool
@@ -130,13 +124,3 @@ has_spelling rows = all_hold (block_tests rows)
 -- the spelling of the rows of a block
 abbrev pub block_writing : List Numbered → Option (List ℕ)
 block_writing rows = if has_spelling rows then Some (block_bytes rows) else None
-
--- the rows that items say, in UTF-8
-pub record IsSaid (found : Found) (rows : List Numbered) : Type 0 where
-  pub rows_are : rows ≡ rows_said found
-  pub texts : list_all is_text_row rows ≡ true
-
--- the rows as they stand, in UTF-8
-pub record IsFound (labels : List Field) (found : Found) (rows : List Numbered) : Type 0 where
-  pub rows_are : rows ≡ rows_from labels (filter has_name found.columns) 0 found.keys
-  pub texts : list_all is_text_row rows ≡ true

@@ -83,9 +83,11 @@ impl Block {
         Open::new(self)
     }
 
-    /// The one spelling of the block.
+    /// The one spelling of the block. `from_bytes` reads the block again.
     pub fn to_bytes(&self, alloc: Global) -> Result<Vec<u8>, AllocError>
-        ensures { IfOk result (λ bytes. bytes.items ≡ block_bytes self.now) }
+        ensures spelling { IfOk result (λ bytes. bytes.items ≡ block_bytes self.now) }
+        ensures written { IfOk result (λ bytes. block_writing self.now ≡ Some bytes.items) }
+        ensures again { IfOk result (λ bytes. reading block block_writing bytes.items ≡ Ok self.now) }
     {
         let mut out = Vec::new(alloc);
         put_block(

@@ -2,10 +2,12 @@
 
 ghost use Rattle.std.specs.Prelude.{◌≡◌, ◌<◌, ◌≤◌, ◌^◌, IfOk, Some, length, map, pos, slice_get};
 ghost use Rattle.log_model.specs.Row.{IsRow};
+ghost use Rattle.log_model.specs.Stream.{label_text, stream_id};
 ghost use Rattle.column_block.specs.Outlines.{outline_of};
 
 use std::alloc::{AllocError, Global};
 use std::marker::Model;
+use stream_label::{label_text, stream_id};
 use token_bloom::Bloom;
 use vl_row::{Numbered, Stream, Text};
 
@@ -59,11 +61,13 @@ impl ColumnHead {
     }
 }
 
-/// What is known of a block without its values: the stream, the times, and of each column its name and a filter of the
-/// words of its values.
+/// What is known of a block without its values: the stream with its text and its id, the times, and of each column its
+/// name and a filter of the words of its values.
 #[derive(Drop)]
 pub struct Head {
     stream: Stream,
+    label_text: Text,
+    stream_id: Text,
     min: i64,
     max: i64,
     rows: usize,
@@ -71,6 +75,8 @@ pub struct Head {
 }
 
 impl Model for Head {
+    ghost use Rattle.std.specs.Prelude.{◌≡◌};
+    ghost use Rattle.log_model.specs.Stream.{label_text as text_of, stream_id as id_of};
     ghost use Rattle.column_block.specs.Outline.{Outline};
 
     ghost Value = { Outline };
@@ -82,6 +88,8 @@ impl Model for Head {
       rows = h.rows;
       columns = h.columns.items;
     } };
+
+    ghost invariant = { λ h. (h.label_text ≡ text_of h.stream) × (h.stream_id ≡ id_of h.stream) };
 }
 
 impl Head {
@@ -98,8 +106,14 @@ impl Head {
         let first = &rows[0];
         let last = &rows[rows.len() - 1];
         let stream = first.row.stream().try_copy(alloc)?;
+        let mut text = Text::new();
+        label_text(alloc, &stream, &mut text)?;
+        let mut id = Text::new();
+        stream_id(alloc, &stream, &mut id)?;
         Ok(Head {
             stream,
+            label_text: text,
+            stream_id: id,
             min: first.row.time(),
             max: last.row.time(),
             rows: rows.len(),
@@ -112,6 +126,20 @@ impl Head {
         ensures { result.now ≡ self.now.labels }
     {
         &self.stream
+    }
+
+    /// The text of the stream's labels, which is the value of `_stream` in each row.
+    pub fn label_text(&self) -> &str
+        ensures { result.now ≡ label_text self.now.labels }
+    {
+        self.label_text.as_str()
+    }
+
+    /// The id of the stream, which is the value of `_stream_id` in each row.
+    pub fn stream_id(&self) -> &str
+        ensures { result.now ≡ stream_id self.now.labels }
+    {
+        self.stream_id.as_str()
     }
 
     /// The least time, in nanoseconds since 1970.
@@ -170,8 +198,12 @@ impl Head {
     {
         let columns = copied(alloc, self.columns.as_slice())?;
         let stream = self.stream.try_copy(alloc)?;
+        let label_text = self.label_text.try_copy(alloc)?;
+        let stream_id = self.stream_id.try_copy(alloc)?;
         Ok(Head {
             stream,
+            label_text,
+            stream_id,
             min: self.min,
             max: self.max,
             rows: self.rows,

@@ -1,12 +1,10 @@
 //! Opened blocks, which lend values, keys and rows.
 
 ghost use Rattle.std.specs.Prelude.{◌≡◌, ◌<◌, IfOk, IfSome, OnOk, Some, length, map, slice_get};
-ghost use Rattle.std.specs.Prelude.{slice_index_or, true, []};
-ghost use Rattle.std.specs.List.{list_all};
+ghost use Rattle.std.specs.Prelude.{slice_index_or, []};
 ghost use Rattle.block_column.specs.Values.{value_text};
 ghost use Rattle.log_model.specs.Field.{is_empty, set_field};
 ghost use Rattle.row_columns.specs.Columns.{names_of, values_of};
-ghost use Rattle.column_block.specs.Reading.{is_text_field};
 ghost use Rattle.column_block.specs.Rows.{key_in};
 
 use crate::block::Block;
@@ -122,23 +120,13 @@ pub(crate) fn set_value(
     value: Value<'_>,
 ) -> Result<(), AllocError>
     requires { 0 < length name.now }
-    ensures value { OnOk result (fields.new ≡ set_field fields.old name.now (value_text value.entry)) }
-    ensures texts { OnOk result (list_all is_text_field fields.old ≡ true → list_all is_text_field fields.new ≡ true) }
+    ensures { OnOk result (fields.new ≡ set_field fields.old name.now (value_text value.entry)) }
 {
     match value {
-        Value::Str(text) => set_text(alloc, fields, name, text),
+        Value::Str(text) => fields.set(alloc, name, text),
         Value::Int(integer) => {
             let text = format!(in alloc; "{integer}")?;
-            set_text(alloc, fields, name, text.as_str())
+            fields.set(alloc, name, text.as_str())
         }
     }
-}
-
-fn set_text(alloc: Global, fields: &mut FieldList, name: &str, text: &str) -> Result<(), AllocError>
-    requires { 0 < length name.now }
-    ensures value { OnOk result (fields.new ≡ set_field fields.old name.now text.now) }
-    ensures texts { OnOk result (list_all is_text_field fields.old ≡ true → list_all is_text_field fields.new ≡ true) }
-{
-    fields.set(alloc, name, text)?;
-    Ok(())
 }

@@ -7,8 +7,8 @@ ghost use Rattle.block_column.specs.Values.{value_text};
 ghost use Rattle.block_parts.specs.Columns.{HasRows};
 ghost use Rattle.log_model.specs.Field.{is_empty, is_filled, set_all, set_field};
 ghost use Rattle.row_columns.specs.Columns.{fields_at, names_in, row_of, rows_from};
-ghost use Rattle.column_block.specs.Reading.{IsFound, IsSaid, are_said, has_name, has_spelling, in_order, is_named};
-ghost use Rattle.column_block.specs.Reading.{is_numbered, is_row, is_since_1970, is_text_field, put_row, rows_said};
+ghost use Rattle.column_block.specs.Reading.{are_said, has_name, has_spelling, in_order, is_named, is_numbered};
+ghost use Rattle.column_block.specs.Reading.{is_row, is_since_1970, put_row, rows_said};
 
 use crate::open::{is_missing, set_value};
 use crate::rules::{MAX_ROWS, are_ordered, comes_before};
@@ -21,7 +21,7 @@ use vl_row::{Field, FieldList, Numbered, Row, RowFault, Stream, Text};
 pub(crate) fn rows_said(alloc: Global, parts: &Parts) -> Result<Option<Vec<Numbered>>, AllocError>
     requires { All (HasRows (length parts.now.keys)) parts.now.columns }
     ensures { IfOk result (λ rows. MatchOption rows (has_spelling (rows_said parts.now) ≡ false)
-        (λ rows. IsSaid parts.now rows.items)) }
+        (λ rows. rows.items ≡ rows_said parts.now)) }
 {
     if parts.keys.len() > MAX_ROWS || !are_said(parts) {
         return Ok(None);
@@ -98,7 +98,7 @@ fn rows_found(
     requires rows { All (HasRows (length parts.now.keys)) parts.now.columns }
     ensures { IfOk result (λ rows. MatchOption rows
         (list_all is_numbered (rows_from labels.now (filter has_name parts.now.columns) 0 parts.now.keys) ≡ false)
-        (λ rows. IsFound labels.now parts.now rows.items)) }
+        (λ rows. rows.items ≡ rows_from labels.now (filter has_name parts.now.columns) 0 parts.now.keys)) }
 {
     let names = names_of(alloc, labels)?;
     let mut rows = Vec::with_capacity(alloc, parts.keys.len())?;
@@ -125,8 +125,7 @@ fn names_of(alloc: Global, labels: &FieldList) -> Result<Vec<Text>, AllocError>
 /// The fields of the row at this place.
 fn fields_of(alloc: Global, columns: &[NamedColumn], i: usize) -> Result<FieldList, AllocError>
     requires { All (λ column. i < length column.1) columns.now }
-    ensures value { IfOk result (λ fields. fields ≡ fields_at (filter has_name columns.now) i) }
-    ensures texts { IfOk result (λ fields. list_all is_text_field fields ≡ true) }
+    ensures { IfOk result (λ fields. fields ≡ fields_at (filter has_name columns.now) i) }
 {
     let mut fields = FieldList::with_room(alloc, count_of(columns, i))?;
     for column in columns {
@@ -156,9 +155,8 @@ fn set_said(
     i: usize,
 ) -> Result<(), AllocError>
     requires { i < length column.now.1 }
-    ensures value { OnOk result (fields.new ≡ (if has_name column.now
+    ensures { OnOk result (fields.new ≡ (if has_name column.now
         then set_field fields.old column.now.0 (slice_index_or column.now.1 i []) else fields.old)) }
-    ensures texts { OnOk result (list_all is_text_field fields.old ≡ true → list_all is_text_field fields.new ≡ true) }
 {
     if column.name.as_str().is_empty() {
         return Ok(());

@@ -3,6 +3,7 @@ ghost use Rattle.std.specs.Prelude.{◌≡◌, ◌<◌, length};
 ghost use Rattle.row_columns.specs.Columns.{names_of};
 
 use crate::hex_tests::{bytes_of, push_digits};
+use crate::plain_tests::plain_text;
 use column_block::{Block, BlockFault, Head, Open, Steps, Value, is_block};
 use std::alloc::{AllocError, Global};
 use std::fmt::Write;
@@ -19,6 +20,9 @@ pub fn answer(alloc: Global, line: &str) -> Result<String, AllocError> {
     }
     if let Some(sizes) = line.strip_prefix("made ") {
         return made_text(alloc, sizes);
+    }
+    if let Some(sizes) = line.strip_prefix("wide ") {
+        return wide_text(alloc, sizes);
     }
     match rows_of(alloc, line)? {
         Some(rows) => rows_text(alloc, rows.as_slice()),
@@ -78,13 +82,16 @@ fn fields_of(alloc: Global, text: &str) -> Result<FieldList, AllocError> {
     Ok(fields)
 }
 
-/// What a block of these rows says, and its bytes.
+/// What a block of these rows says, and its bytes. A plain block says the same.
 fn rows_text(alloc: Global, rows: &[Numbered]) -> Result<String, AllocError> {
     if !is_block(alloc, rows)? {
         return format!(in alloc; "no block");
     }
     let block = Block::try_of(alloc, rows)?;
     let mut text = block_text(alloc, &block)?;
+    if text != plain_text(alloc, rows)? {
+        text.push_str("unlike the plain block ")?;
+    }
     let bytes = block.to_bytes(alloc)?;
     push_digits(&mut text, bytes.as_slice())?;
     Ok(text)
@@ -99,8 +106,7 @@ fn read_text(alloc: Global, bytes: &[u8]) -> Result<String, AllocError> {
     }
 }
 
-/// What a block of so many rows answers whose values are distinct and have so many bytes: its rows, the length of its
-/// bytes, whether they are read again, and where they are damaged without the last one.
+/// What a block of so many rows answers whose values are distinct and have so many bytes.
 fn made_text(alloc: Global, sizes: &str) -> Result<String, AllocError> {
     let (rows, len) = sizes.split_once(' ').unwrap_or((sizes, ""));
     let rows = made_rows(
@@ -108,10 +114,30 @@ fn made_text(alloc: Global, sizes: &str) -> Result<String, AllocError> {
         rows.parse::<u16>().unwrap_or(1),
         len.parse::<u16>().unwrap_or(1),
     )?;
-    if !is_block(alloc, rows.as_slice())? {
+    large_text(alloc, rows.as_slice())
+}
+
+/// What a block of so many rows answers whose fields have so many names.
+fn wide_text(alloc: Global, sizes: &str) -> Result<String, AllocError> {
+    let (rows, columns) = sizes.split_once(' ').unwrap_or((sizes, ""));
+    let line = wide_line(
+        alloc,
+        rows.parse::<u16>().unwrap_or(1),
+        columns.parse::<u16>().unwrap_or(1),
+    )?;
+    match rows_of(alloc, line.as_str())? {
+        Some(rows) => large_text(alloc, rows.as_slice()),
+        None => format!(in alloc; "no row"),
+    }
+}
+
+/// Of a block its rows, the length of its bytes, whether they are read again, and where they are damaged without the
+/// last one.
+fn large_text(alloc: Global, rows: &[Numbered]) -> Result<String, AllocError> {
+    if !is_block(alloc, rows)? {
         return format!(in alloc; "no block");
     }
-    let block = Block::try_of(alloc, rows.as_slice())?;
+    let block = Block::try_of(alloc, rows)?;
     let bytes = block.to_bytes(alloc)?;
     let again = Block::from_bytes(alloc, bytes.as_slice()).is_ok();
     let cut = match bytes.as_slice() {
@@ -119,6 +145,27 @@ fn made_text(alloc: Global, sizes: &str) -> Result<String, AllocError> {
         [] => String::new(alloc),
     };
     format!(in alloc; "{} {} {again} {cut}", rows.len(), bytes.len())
+}
+
+/// So many rows, over which the names of the columns are spread.
+fn wide_line(alloc: Global, rows: u16, columns: u16) -> Result<String, AllocError> {
+    let mut line = String::new(alloc);
+    for i in 0..rows {
+        if i > 0 {
+            line.push(';')?;
+        }
+        let _ = write!(line, "{i} 1 {i}||");
+        push_names(&mut line, i, rows, columns);
+    }
+    Ok(line)
+}
+
+fn push_names(line: &mut String, i: u16, rows: u16, columns: u16) {
+    for c in 0..columns {
+        if c.checked_rem(rows) == i.checked_rem(columns) {
+            let _ = write!(line, "c{c}=x,");
+        }
+    }
 }
 
 fn made_rows(alloc: Global, rows: u16, len: u16) -> Result<Vec<Numbered>, AllocError> {

@@ -2,13 +2,15 @@
 //!
 //! A line is the rows of a block, cut at semicolons: of each its time, its batch and its place, the names of its
 //! labels, and its fields. The program makes a block of them, and writes what the head says, what the opened block
-//! lends, and the bytes of the block. Hexadecimal digits are the bytes of a block, and the program writes the same of
-//! it, or where the bytes are damaged. `made` is a block of so many rows with values of so many bytes. The answers are
+//! lends, and the bytes of the block. A plain block, which keeps the rows as they are, says the same. Hexadecimal
+//! digits are the bytes of a block, and the program writes the same of it, or where the bytes are damaged. `made` is a
+//! block of so many rows with values of so many bytes, and `wide` one of so many rows and columns. The answers are
 //! those of a plain program in Python.
 #![tactic(auto)]
 
 mod block_tests;
 mod hex_tests;
+mod plain_tests;
 
 use block_tests::answer;
 use std::io;

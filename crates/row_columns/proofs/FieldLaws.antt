@@ -14,6 +14,7 @@ use Rattle.std.proofs.lemmas.List.{append-nil, drop_all, take_all}
 use Rattle.std.proofs.lemmas.Map.Keys.{sorted_head, sorted_tail}
 use Rattle.std.proofs.lemmas.Map.Text.{is_eq-slice_cmp}
 use Rattle.std.proofs.lemmas.Slice.Eq.{bytes_eq-Decides}
+use Rattle.block_column.proofs.Rising.{above-along}
 use Rattle.byte_format.proofs.Cases.{both_true}
 use Rattle.log_model.specs.Field.{Field, bytes_cmp, field_value, is_filled, set_all, set_field}
 use Rattle.log_model.specs.Row.{has_field}
@@ -34,10 +35,6 @@ apart x y h = sym (is_eq-slice_cmp x y) ∙ ap is_eq h
 
 apart-back : (x y : List ℕ) → bytes_cmp x y ≡ Less → bytes_eq y x ≡ false
 apart-back x y h = sym (is_eq-slice_cmp y x) ∙ ap is_eq (nat_list_cmp_total.antisymm y x ∙ ap ordering_reverse h)
-
-pub above-along : (x y : List ℕ) (names : List (List ℕ)) → bytes_cmp x y ≡ Less → Above y names → Above x names
-above-along x y [] h a = tt
-above-along x y (n ∷ ns) h a = (nat_list_cmp_total.trans x y n h a.0, above-along x y ns h a.1)
 
 above-listed : (x key : List ℕ) (names : List (List ℕ)) → Above x names → list_any (bytes_eq key) names ≡ true
     → bytes_cmp x key ≡ Less

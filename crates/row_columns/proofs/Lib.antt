@@ -3,3 +3,4 @@ pub mod NameLaws
 pub mod Sizes
 pub mod RowLaws
 pub mod FaultLaws
+mod TextLaws

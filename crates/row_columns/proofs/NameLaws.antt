@@ -1,54 +1,14 @@
 -- The names of the fields of rows are in order, and each field has one of them.
-use Rattle.std.proofs.Common.{◌≡◌, ℕ, true, List, [], ◌∷◌, ◌++◌, refl, ap, ◌∙◌}
+use Rattle.std.proofs.Common.{◌≡◌, ℕ, true, List, [], ◌∷◌, ◌++◌}
 use Rattle.std.specs.Prelude.{bytes_eq}
-use Rattle.std.specs.BTreeSet.{insert_key}
-use Rattle.std.specs.List.{AllByRecursion, flat_map, fold, list_any}
-use Rattle.std.specs.List.Sorted.{IsStrictlySortedBy}
-use Rattle.std.specs.Ordering.{match_ordering, ordering_reverse}
-use Rattle.std.specs.declared.cmp.Ordering.{Ordering}
-use Rattle.std.specs.declared.cmp.Ordering.TheVariants.{Less, Equal, Greater}
-use Rattle.std.proofs.lemmas.Cmp.{nat_list_cmp_total}
+use Rattle.std.specs.List.{AllByRecursion, flat_map, list_any}
 use Rattle.std.proofs.lemmas.List.Concat.{flat_map-cons}
-use Rattle.block_column.specs.Kinds.{distinct}
 use Rattle.block_column.proofs.Distinct.{are_listed}
-use Rattle.log_model.specs.Field.{Field, bytes_cmp}
+use Rattle.block_column.proofs.Rising.{IsRising, distinct-rising}
+use Rattle.log_model.specs.Field.{Field}
 use Rattle.log_model.specs.History.{Numbered}
 use Rattle.row_columns.specs.Columns.{names_in, names_of}
-use Rattle.row_columns.proofs.FieldLaws.{Above, AreListed, IsRising, above-along}
-
--- ---- in order
-
-above-put : (x key : List ℕ) (keys : List (List ℕ)) → Above x keys → bytes_cmp x key ≡ Less
-    → Above x (insert_key bytes_cmp keys key)
-above-put x key [] a h = (h, tt)
-above-put x key (k ∷ ks) a h = by (bytes_cmp key k) (above-put x key ks a.1 h)
-  where
-    by : (o : Ordering) → Above x (insert_key bytes_cmp ks key)
-        → Above x (match_ordering o (key ∷ k ∷ ks) (k ∷ ks) (k ∷ insert_key bytes_cmp ks key))
-    by Less later = (h, a)
-    by Equal later = a
-    by Greater later = (a.0, later)
-
-rising-put : (key : List ℕ) (keys : List (List ℕ)) → IsRising keys → IsRising (insert_key bytes_cmp keys key)
-unfolding IsStrictlySortedBy
-rising-put key [] s = (tt, tt)
-rising-put key (k ∷ ks) s = by (bytes_cmp key k) refl (rising-put key ks s.1)
-  where
-    by : (o : Ordering) → bytes_cmp key k ≡ o → IsRising (insert_key bytes_cmp ks key)
-        → IsRising (match_ordering o (key ∷ k ∷ ks) (k ∷ ks) (k ∷ insert_key bytes_cmp ks key))
-    by Less e later = ((e, above-along key k ks e s.0), s)
-    by Equal e later = s
-    by Greater e later =
-        let back : bytes_cmp k key ≡ Less = nat_list_cmp_total.antisymm k key ∙ ap ordering_reverse e in
-        (above-put k key ks s.0 back, later)
-
-rising-all : (texts keys : List (List ℕ)) → IsRising keys → IsRising (fold (insert_key bytes_cmp) keys texts)
-rising-all [] keys s = s
-rising-all (t ∷ ts) keys s = rising-all ts (insert_key bytes_cmp keys t) (rising-put t keys s)
-
-pub distinct-rising : (texts : List (List ℕ)) → IsRising (distinct texts)
-unfolding IsStrictlySortedBy
-distinct-rising texts = rising-all texts [] tt
+use Rattle.row_columns.proofs.FieldLaws.{AreListed}
 
 -- ---- each field has one
 

@@ -1,9 +1,11 @@
 //! The columns of rows.
 
-ghost use Rattle.std.specs.Prelude.{◌≡◌, ◌≤◌, ◌*◌, IfOk, OnOk, length, map, sum_by};
+ghost use Rattle.std.specs.Prelude.{◌≡◌, ◌≤◌, ◌*◌, IfOk, OnOk, length, map, sum_by, true};
 ghost use Rattle.std.specs.BTreeSet.{keys};
+ghost use Rattle.std.specs.List.{list_all};
 ghost use Rattle.log_model.specs.Field.{field_value};
 ghost use Rattle.row_columns.specs.Columns.{names_of, put_names, values_of};
+ghost use Rattle.row_columns.specs.Texts.{is_text_field, is_text_row};
 
 use std::alloc::{AllocError, Global};
 use std::collections::BTreeSet;
@@ -11,7 +13,8 @@ use vl_row::{Field, Numbered, Text};
 
 /// The names of the fields that the rows have, each once, in byte order.
 pub fn column_names(alloc: Global, rows: &[Numbered]) -> Result<Vec<Text>, AllocError>
-    ensures { IfOk result (λ names. names.items ≡ names_of rows.now) }
+    ensures names { IfOk result (λ names. names.items ≡ names_of rows.now) }
+    ensures texts { IfOk result (λ names. list_all is_text_row rows.now ≡ true) }
 {
     let names = name_set(alloc, rows)?;
     let texts = listed(alloc, &names)?;
@@ -29,7 +32,8 @@ fn listed(alloc: Global, names: &BTreeSet<&str>) -> Result<Vec<Text>, AllocError
 }
 
 fn name_set<'a>(alloc: Global, rows: &'a [Numbered]) -> Result<BTreeSet<&'a str>, AllocError>
-    ensures { IfOk result (λ names. map (λ t. t.now) (keys names) ≡ names_of rows.now) }
+    ensures names { IfOk result (λ names. map (λ t. t.now) (keys names) ≡ names_of rows.now) }
+    ensures texts { IfOk result (λ names. list_all is_text_row rows.now ≡ true) }
 {
     let mut names = BTreeSet::new(alloc);
     for numbered in rows {
@@ -40,13 +44,23 @@ fn name_set<'a>(alloc: Global, rows: &'a [Numbered]) -> Result<BTreeSet<&'a str>
 
 /// Puts the names of some fields to the others.
 fn put_names<'a>(names: &mut BTreeSet<&'a str>, fields: &'a [Field]) -> Result<(), AllocError>
-    ensures { OnOk result (map (λ t. t.now) (keys names.new)
+    ensures names { OnOk result (map (λ t. t.now) (keys names.new)
         ≡ put_names (map (λ t. t.now) (keys names.old)) fields.now) }
+    ensures texts { OnOk result (list_all is_text_field fields.now ≡ true) }
 {
     for field in fields {
-        names.insert(field.name())?;
+        names.insert(name_of(field))?;
     }
     Ok(())
+}
+
+/// The name of a field. It and the value are in UTF-8.
+fn name_of(field: &Field) -> &str
+    ensures name { result.now ≡ field.now.0 }
+    ensures text { is_text_field field.now ≡ true }
+{
+    let _ = field.value.as_str();
+    field.name.as_str()
 }
 
 /// The values of the fields of this name, empty where a row has none.

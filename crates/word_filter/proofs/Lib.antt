@@ -2,3 +2,5 @@ pub mod WordLaws
 pub mod FilterLaws
 pub mod Kept
 pub mod Again
+pub mod There
+pub mod Slots

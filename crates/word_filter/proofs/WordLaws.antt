@@ -1,13 +1,13 @@
 -- The words of values, and how many there are.
 use Rattle.std.proofs.Common.{◌≡◌, ℕ, zero, suc, ◌+◌, ◌≤◌, Bool, true, false, cond, List, [], ◌∷◌, ◌++◌, length}
-use Rattle.std.proofs.Common.{map, filter, refl, ap, ◌∙◌, arith}
+use Rattle.std.proofs.Common.{map, filter, drop, ◌-◌, ◌<◌, refl, ap, ◌∙◌, arith}
 use Rattle.std.specs.BTreeSet.{insert_key}
 use Rattle.std.specs.List.{AllByRecursion, fold, range_with_len, slice_range}
 use Rattle.std.specs.declared.cmp.Ordering.{Ordering}
 use Rattle.std.specs.declared.cmp.Ordering.TheVariants.{Less, Equal, Greater}
 use Rattle.std.specs.Ordering.{match_ordering}
 use Rattle.std.specs.Str.{IsUtf8}
-use Rattle.std.proofs.lemmas.List.{length-append, length-map}
+use Rattle.std.proofs.lemmas.List.{length-append, length-drop, length-map, length-take}
 use Rattle.block_column.specs.Kinds.{distinct}
 use Rattle.log_model.specs.Field.{bytes_cmp}
 use Rattle.word_filter.specs.Words.{put_words}
@@ -92,6 +92,19 @@ none-at-end text = by (words_at text (length text)) refl (starts-here text (leng
         let here = same-start text (length text) (filter (is_word_at text (length text)) (range_with_len 0 (suc
         (length text)))) place more e in
         absurd (omega (arith, here, h.0.before, h.0.end_cut.0))
+
+-- a word has a byte
+pub filled-word : (text : List ℕ) (start end : ℕ) (word : List ℕ) → IsWord text start end
+    → word ≡ slice_range text start end → 0 < length word
+filled-word text start end word is e =
+    omega (
+      arith,
+      ap length e,
+      length-take (end - start) (drop start text),
+      length-drop start text,
+      is.before,
+      is.end_cut.0,
+    )
 
 -- no more words than bytes
 pub few-words : (text : List ℕ) → IsUtf8 text → length (words_of text) ≤ length text

@@ -1,12 +1,12 @@
 -- The words of a column's values, and the filter of them.
-use Rattle.std.specs.Prelude.{ℕ, IsTrue, List, ◌++◌, length, map, Result, Ok}
+use Rattle.std.specs.Prelude.{ℕ, Bool, ◌||◌, IsTrue, List, ◌++◌, bytes_eq, length, map, Result, Ok}
 use Rattle.std.specs.BTreeSet.{insert_key}
 use Rattle.std.specs.Int.{w32, w64, to_le_bytes}
-use Rattle.std.specs.List.{All, flat_map, fold, slice_range}
+use Rattle.std.specs.List.{All, flat_map, fold, list_any, slice_range}
 use Rattle.block_column.specs.Kinds.{distinct}
 use Rattle.byte_format.specs.Format.{Format, value, followed, many, front, ◌>>=◌}
 use Rattle.byte_format.specs.Items.{number}
-use Rattle.log_model.specs.Field.{bytes_cmp}
+use Rattle.log_model.specs.Field.{bytes_cmp, is_empty}
 use Rattle.token_bloom.specs.Filter.{empty_filter, filter_bytes, may_have, with_word}
 use Rattle.word_tokens.specs.Runs.{words_of}
 
@@ -33,6 +33,10 @@ LeavesNoneOut = (values : List (List ℕ)) → All (HasWords (filter_of values))
 -- some texts in order, and the words of one more value
 abbrev pub put_words : List (List ℕ) → List ℕ → List (List ℕ)
 put_words texts text = fold (insert_key bytes_cmp) texts (words_in text)
+
+-- no word, or one of these texts
+abbrev pub is_there : List (List ℕ) → List ℕ → Bool
+is_there texts word = is_empty word || list_any (bytes_eq word) texts
 
 -- the number of words of 64 bits, and these words
 unfoldable pub counted_filter : List ℕ → List ℕ

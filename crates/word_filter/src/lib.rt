@@ -1,18 +1,23 @@
 //! The filter of a column: a Bloom filter that has the words of the column's values, and the filter as bytes.
 #![tactic(auto)]
 
-ghost use Rattle.std.specs.Prelude.{◌≡◌, ◌<◌, ◌^◌, ◌≤◌, ◌+◌, ◌++◌, IfOk, OnOk, length, map, sum_by};
-ghost use Rattle.std.specs.BTreeSet.{keys};
-ghost use Rattle.std.specs.List.{All, fold};
+ghost use Rattle.std.specs.Prelude.{◌≡◌, ◌<◌, ◌^◌, ◌≤◌, ◌+◌, ◌++◌, IfOk, OnOk, length, map, sum_by, true};
+ghost use Rattle.std.specs.BTreeSet.{insert_key, keys};
+ghost use Rattle.std.specs.List.{All, fold, list_all};
+ghost use Rattle.std.specs.List.Sorted.{IsStrictlySortedBy};
 ghost use Rattle.std.specs.Int.{w64};
 ghost use Rattle.byte_format.specs.Format.{front, many};
 ghost use Rattle.byte_format.specs.Gives.{Gives};
 ghost use Rattle.byte_format.specs.Items.{number};
+ghost use Rattle.log_model.specs.Field.{bytes_cmp};
 ghost use Rattle.token_bloom.specs.Filter.{with_word};
 ghost use Rattle.word_filter.specs.Words.{HasWords, LeavesNoneOut, column_words, counted_filter, filter_item};
-ghost use Rattle.word_filter.specs.Words.{filter_of, filter_steps, put_words, skipped};
+ghost use Rattle.word_filter.specs.Words.{filter_of, filter_steps, is_there, put_words, skipped};
+
+mod recent;
 
 use byte_format::{Stop, put_u64s, take_u32, take_u64};
+use recent::Recent;
 use std::alloc::{AllocError, Global};
 use std::collections::BTreeSet;
 use token_bloom::Bloom;
@@ -43,21 +48,50 @@ fn words_of<'a>(alloc: Global, values: &[&'a str]) -> Result<BTreeSet<&'a str>, 
     ensures few { IfOk result (λ words. length (keys words) ≤ sum_by (λ t. length t.now) values.now) }
 {
     let mut words = BTreeSet::new(alloc);
+    let mut recent = Recent::new(alloc)?;
     for value in values {
-        put_words(&mut words, value)?;
+        put_words(&mut words, &mut recent, value)?;
     }
     Ok(words)
 }
 
 /// Puts the words of one value to the others.
-fn put_words<'a>(all: &mut BTreeSet<&'a str>, value: &'a str) -> Result<(), AllocError>
+fn put_words<'a>(
+    all: &mut BTreeSet<&'a str>,
+    recent: &mut Recent<'a>,
+    value: &'a str,
+) -> Result<(), AllocError>
+    requires rising { IsStrictlySortedBy bytes_cmp (map (λ t. t.now) (keys all.old)) }
+    requires recent { list_all (is_there (map (λ t. t.now) (keys all.old))) recent.old ≡ true }
     ensures words { OnOk result (map (λ t. t.now) (keys all.new)
         ≡ put_words (map (λ t. t.now) (keys all.old)) value.now) }
     ensures few { OnOk result (length (keys all.new) ≤ length (keys all.old) + length value.now) }
+    ensures recent { OnOk result (list_all (is_there (map (λ t. t.now) (keys all.new))) recent.new ≡ true) }
 {
     for (start, end) in words(value) {
-        all.insert(&value[start..end])?;
+        put_word(all, recent, &value[start..end])?;
     }
+    Ok(())
+}
+
+/// Puts a word to the others, unless it was put lately.
+fn put_word<'a>(
+    all: &mut BTreeSet<&'a str>,
+    recent: &mut Recent<'a>,
+    word: &'a str,
+) -> Result<(), AllocError>
+    requires some { 0 < length word.now }
+    requires rising { IsStrictlySortedBy bytes_cmp (map (λ t. t.now) (keys all.old)) }
+    requires recent { list_all (is_there (map (λ t. t.now) (keys all.old))) recent.old ≡ true }
+    ensures words { OnOk result (map (λ t. t.now) (keys all.new)
+        ≡ insert_key bytes_cmp (map (λ t. t.now) (keys all.old)) word.now) }
+    ensures recent { OnOk result (list_all (is_there (map (λ t. t.now) (keys all.new))) recent.new ≡ true) }
+{
+    if recent.has(word) {
+        return Ok(());
+    }
+    all.insert(word)?;
+    recent.put(word);
     Ok(())
 }
 

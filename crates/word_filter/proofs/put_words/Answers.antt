@@ -2,10 +2,10 @@ use Rattle.std.proofs.Common.{◌≡◌, ◌∙◌, ◌∷◌, ℕ, List, Bor, l
 use Rattle.std.specs.BTreeSet.{insert_key}
 use Rattle.std.specs.List.{fold, slice_range}
 use Rattle.std.proofs.lemmas.List.{length-map}
-use Rattle.block_column.proofs.Distinct.{map-put}
+use Rattle.block_column.proofs.Rising.{rising-put}
 use Rattle.log_model.specs.Field.{bytes_cmp}
 use Rattle.word_filter.specs.Words.{put_words}
-use Rattle.word_filter.proofs.WordLaws.{AreWords, are-words, few-put, texts_at}
+use Rattle.word_filter.proofs.WordLaws.{AreWords, are-words, few-put, filled-word, texts_at}
 use Rattle.word_filter.proofs.put_words.Goals as goal
 
 abbrev now_of : Bor (List ℕ) → List ℕ
@@ -14,21 +14,34 @@ now_of t = t.now
 pub loop-start-init : goal.loop-start-init
 loop-start-init c =
     let all = c.into_iter-start-iterator.ensures.into_iter_gives ∙ c.words-start-items.ensures in
-    rw all (record { words = are-words c.args.value.now; so_far = refl })
+    rw all (record {
+      words = are-words c.args.value.now;
+      so_far = refl;
+      rising = c.requires.rising;
+      recent = c.requires.recent;
+    })
+
+pub put_word-requires-clause-some : goal.put_word-requires-clause-some
+put_word-requires-clause-some c =
+    let words : AreWords c.args.value.now ((c.in-Some.start, c.in-Some.end) ∷ c.next.new.self) =
+    rw c.in-Some.ensures.steps at c.loop-start.invariant.words in
+    filled-word c.args.value.now c.in-Some.start c.in-Some.end c.range.result.now words.0 c.range.ensures.value
 
 pub loop-start-preserved : goal.loop-start-preserved
 loop-start-preserved c =
     let words : AreWords c.args.value.now ((c.in-Some.start, c.in-Some.end) ∷ c.next.new.self) =
     rw c.in-Some.ensures.steps at c.loop-start.invariant.words in
     let so_far = rw c.in-Some.ensures.steps at c.loop-start.invariant.so_far in
-    let put : map now_of c.insert.new.self.keys ≡ insert_key bytes_cmp (map now_of c.loop-start.all.keys)
-    (slice_range c.args.value.now c.in-Some.start c.in-Some.end) = ap (map now_of) c.in_ok-insert.ensures.keys
-    ∙ map-put now_of c.loop-start.all.keys c.range.result
+    let put : map now_of c.put_word.new.all.keys ≡ insert_key bytes_cmp (map now_of c.loop-start.all.keys)
+    (slice_range c.args.value.now c.in-Some.start c.in-Some.end) = c.in_ok-put_word.ensures.words
     ∙ ap (insert_key bytes_cmp (map now_of c.loop-start.all.keys)) c.range.ensures.value in
     record {
       words = words.1;
       so_far = ap (λ (l : List (List ℕ)). fold (insert_key bytes_cmp) l (texts_at c.args.value.now c.next.new.self)) put
           ∙ so_far;
+      rising = rw put (rising-put (slice_range c.args.value.now c.in-Some.start c.in-Some.end) (map now_of
+          c.loop-start.all.keys) c.loop-start.invariant.rising);
+      recent = c.in_ok-put_word.ensures.recent;
     }
 
 pub returns-clause-few : goal.returns-clause-few

@@ -1,8 +1,9 @@
-use Rattle.std.proofs.Common.{◌≡◌, map}
+use Rattle.std.proofs.Common.{◌≡◌, map, true}
 use Rattle.std.specs.BTreeSet.{insert_key}
-use Rattle.std.specs.List.{fold}
+use Rattle.std.specs.List.{fold, list_all}
+use Rattle.block_column.proofs.Rising.{IsRising}
 use Rattle.log_model.specs.Field.{bytes_cmp}
-use Rattle.word_filter.specs.Words.{put_words}
+use Rattle.word_filter.specs.Words.{is_there, put_words}
 use Rattle.word_filter.proofs.WordLaws.{AreWords, texts_at}
 use Rattle.word_filter.proofs.put_words.Given as goal
 
@@ -11,4 +12,6 @@ invariant-loop-start l = record {
   words : AreWords l.value l.start-iterator;
   so_far : fold (insert_key bytes_cmp) (map (λ t. t.now) l.all.keys) (texts_at l.value l.start-iterator)
       ≡ put_words (map (λ t. t.now) l.initial.all.keys) l.value;
+  rising : IsRising (map (λ t. t.now) l.all.keys);
+  recent : list_all (is_there (map (λ t. t.now) l.all.keys)) l.recent ≡ true;
 }

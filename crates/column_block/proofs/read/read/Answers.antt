@@ -1,5 +1,4 @@
 use Rattle.std.proofs.Common.{◌≡◌, ◌∙◌, Err, length, List, Ok, Result, Some, ap, false, subst, sym, ℕ}
-use Rattle.std.specs.List.{AllByRecursion, list_all}
 use Rattle.std.proofs.lemmas.Bool.{both_ways}
 use Rattle.std.proofs.lemmas.Result.{err_from_is_err_and}
 use Rattle.block_parts.specs.Found.{Found}
@@ -11,11 +10,10 @@ use Rattle.byte_format.specs.declared.Stop.{Stop}
 use Rattle.byte_format.specs.declared.Stop.TheVariants as stops
 use Rattle.byte_format.proofs.Spellings.{no-spelling, not-whole}
 use Rattle.log_model.specs.History.{Numbered}
-use Rattle.row_columns.specs.Keys.{IsNumbered}
-use Rattle.column_block.specs.Reading.{block, block_writing, has_spelling, is_text_row, rows_said}
+use Rattle.column_block.specs.Reading.{block, block_writing, has_spelling, rows_said}
 use Rattle.column_block.specs.Rows.{IsBlock}
-use Rattle.column_block.proofs.ReadAgain.{is-none, is-written, whole-block}
-use Rattle.column_block.proofs.TestLaws.{is-block, not-block}
+use Rattle.column_block.proofs.ReadAgain.{is-none, whole-block}
+use Rattle.column_block.proofs.TestLaws.{not-block}
 use Rattle.column_block.proofs.read.read.Goals as goal
 
 abbrev said : Found → Result (List Numbered) ℕ
@@ -48,7 +46,7 @@ returns-in_default c =
 pub returns-then-not-branch : goal.returns-then-not-branch
 returns-then-not-branch c =
     let said = (rw c.in-Some.is at c.in_ok-rows.ensures) in
-    let same : c.as_slice.result.now ≡ rows_said c.in_ok-parts.parts = c.as_slice.ensures.value ∙ said.rows_are in
+    let same : c.as_slice.result.now ≡ rows_said c.in_ok-parts.parts = c.as_slice.ensures.value ∙ said in
     no-block c.args.bytes.now c.in_ok-parts.parts c.in_ok-parts.ensures.value (ap has_spelling (sym same)
     ∙ not-block c.as_slice.result.now (λ b. both_ways c.in_ok-is_block.field-0 c.if-not-branch.true
     (c.in_ok-is_block.ensures.1 b)))
@@ -57,19 +55,11 @@ pub compared-requires-clause-whole : goal.compared-requires-clause-whole
 compared-requires-clause-whole c =
     let said = (rw c.in-Some.is at c.in_ok-rows.ensures) in
     whole-said c.args.bytes.now c.in_ok-parts.parts c.in_ok-parts.ensures.value
-    ∙ ap (λ (l : List Numbered). Ok l) (sym (c.in_ok-block.ensures.rows ∙ c.as_slice-2.ensures.value ∙ said.rows_are))
+    ∙ ap (λ (l : List Numbered). Ok l) (sym (c.in_ok-block.ensures.rows ∙ c.as_slice-2.ensures.value ∙ said))
 
 pub compared-requires-clause-written : goal.compared-requires-clause-written
 compared-requires-clause-written c =
-    let said = (rw c.in-Some.is at c.in_ok-rows.ensures) in
-    let rows : c.in_ok-block.block ≡ c.as_slice-2.result.now = c.in_ok-block.ensures.rows in
-    let items : c.in_ok-block.block ≡ c.in-Some.rows.items = rows ∙ c.as_slice-2.ensures.value in
-    let is : IsBlock c.as_slice.result.now = c.in_ok-is_block.ensures.0 c.if-not-branch.false in
-    let block_is : IsBlock c.in_ok-block.block = subst IsBlock (c.as_slice.ensures.value ∙ sym items) is in
-    let each = subst (AllByRecursion IsNumbered) (sym rows) c.in_ok-block.ensures.rules in
-    is-written c.in_ok-block.block (is-block c.in_ok-block.block block_is each (ap (list_all is_text_row) items
-    ∙ said.texts))
-    ∙ ap (λ (l : List ℕ). Some l) (sym (c.as_slice-3.ensures.value ∙ c.in_ok-spelling.ensures))
+    c.in_ok-spelling.ensures.written ∙ ap (λ (l : List ℕ). Some l) (sym c.as_slice-3.ensures.value)
 
 pub try_of-requires : goal.try_of-requires
 try_of-requires c =

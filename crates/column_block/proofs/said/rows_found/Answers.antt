@@ -1,12 +1,11 @@
-use Rattle.std.proofs.Common.{◌≡◌, ◌<◌, ◌∙◌, List, ap, arith, filter, get_or, length, sym, true, ℕ}
-use Rattle.std.specs.List.{list_all}
+use Rattle.std.proofs.Common.{◌≡◌, ◌<◌, ◌∙◌, List, ap, arith, filter, get_or, length, sym, ℕ}
 use Rattle.block_parts.specs.Found.{Found}
 use Rattle.log_model.specs.Field.{Field}
 use Rattle.log_model.specs.History.{Numbered}
 use Rattle.row_columns.specs.Columns.{Column, fields_at, row_of}
 use Rattle.row_columns.specs.declared.keys.Key.{Key}
-use Rattle.column_block.specs.Reading.{has_name, is_row, is_text_field}
-use Rattle.column_block.proofs.SaidLaws.{found-more, found-none, text-more}
+use Rattle.column_block.specs.Reading.{has_name, is_row}
+use Rattle.column_block.proofs.SaidLaws.{found-more, found-none}
 use Rattle.column_block.proofs.said.rows_found.Goals as goal
 
 pub returns-in-None : goal.returns-in-None
@@ -27,7 +26,7 @@ returns-in-None c =
     let there : key ≡ get_or c.args.parts.now.keys i key = c.index.ensures
     ∙ ap (λ (l : List Key). get_or l i key) keys in
     let fields : c.in_ok-fields.fields ≡ fields_at (filter has_name c.args.parts.now.columns) i =
-    c.in_ok-fields.ensures.value ∙ ap (λ (l : List Column). fields_at (filter has_name l) i) columns in
+    c.in_ok-fields.ensures ∙ ap (λ (l : List Column). fields_at (filter has_name l) i) columns in
     let none = (rw c.in-None.is at c.in_ok-row.ensures) in
     found-none labels (filter has_name found.columns) found.keys i key lt there
     (ap (λ (f : List Field). is_row (row_of labels key f).row) (sym fields) ∙ none)
@@ -50,14 +49,8 @@ loop-i-preserved c =
     let there : key ≡ get_or c.args.parts.now.keys i key = c.index.ensures
     ∙ ap (λ (l : List Key). get_or l i key) keys in
     let fields : c.in_ok-fields.fields ≡ fields_at (filter has_name c.args.parts.now.columns) i =
-    c.in_ok-fields.ensures.value ∙ ap (λ (l : List Column). fields_at (filter has_name l) i) columns in
+    c.in_ok-fields.ensures ∙ ap (λ (l : List Column). fields_at (filter has_name l) i) columns in
     let made = (rw c.in-Some.is at c.in_ok-row.ensures) in
-    let texts : list_all is_text_field row.row.fields ≡ true =
-    ap (λ (n : Numbered). list_all is_text_field n.row.fields) made ∙ c.in_ok-fields.ensures.texts in
-    record {
-      rows_are = found-more c.args.labels.now (filter has_name found.columns) found.keys i key c.in_ok-fields.fields
-          c.loop-i.rows.items c.push.new.self.items row lt there fields c.loop-i.invariant.rows_are made
-          c.in_ok-push-in-Some.ensures.items;
-      texts = text-more c.loop-i.rows.items c.push.new.self.items row c.in_ok-push-in-Some.ensures.items
-          c.loop-i.invariant.texts texts;
-    }
+    found-more c.args.labels.now (filter has_name found.columns) found.keys i key c.in_ok-fields.fields
+    c.loop-i.rows.items c.push.new.self.items row lt there fields c.loop-i.invariant made
+    c.in_ok-push-in-Some.ensures.items

@@ -55,7 +55,7 @@ loop-c-preserved c numbered e =
     fields-more numbered.row.fields (names_of c.args.self.now) c.loop-c.c c.loop-c.fields c.set_value.new.fields
     c.name.result.now (value_text c.value.result) lt (c.loop-c.invariant numbered e)
     (name-at c.args.self.now c.block.inside.head c.block.inside.keys.items c.block.inside.columns.items c.loop-c.c
-    c.name.result.now held lt c.name.ensures) value c.in_ok-set_value.ensures.value
+    c.name.result.now held lt c.name.ensures) value c.in_ok-set_value.ensures
 
 pub returns : goal.returns
 returns c =

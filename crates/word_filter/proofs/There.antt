@@ -1,0 +1,58 @@
+-- Words that are there already.
+use Rattle.std.proofs.Common.{◌≡◌, ℕ, ◌<◌, Bool, true, false, List, [], ◌∷◌, length, refl, ap, ◌∙◌, arith}
+use Rattle.std.specs.Prelude.{◌||◌, bytes_eq}
+use Rattle.std.specs.BTreeSet.{insert_key}
+use Rattle.std.specs.List.{list_all, list_any}
+use Rattle.std.proofs.lemmas.Bool.{le-ltb}
+use Rattle.std.proofs.lemmas.Slice.Eq.{bytes_eq-Decides}
+use Rattle.block_column.proofs.Distinct.{either_kept, put-has, put-keeps, right_true}
+use Rattle.block_column.proofs.Rising.{IsRising, put-again}
+use Rattle.byte_format.proofs.Cases.{both_true}
+use Rattle.log_model.specs.Field.{bytes_cmp, is_empty}
+use Rattle.word_filter.specs.Words.{is_there}
+
+-- what passes for all slots passes for a text that is in one
+pub passes-one : (p : List ℕ → Bool) (text : List ℕ) (slots : List (List ℕ)) → list_all p slots ≡ true
+    → list_any (bytes_eq text) slots ≡ true → p text ≡ true
+passes-one p text [] all one = absurd cc
+passes-one p text (s ∷ ss) all one =
+    by (bytes_eq text s) refl one (passes-one p text ss (both_true (p s) (list_all p ss) all).1)
+  where
+    by : (b : Bool) → bytes_eq text s ≡ b → (b || list_any (bytes_eq text) ss) ≡ true
+        → (list_any (bytes_eq text) ss ≡ true → p text ≡ true) → p text ≡ true
+    by true same h later = ap p ((bytes_eq-Decides text s).0 same) ∙ (both_true (p s) (list_all p ss) all).0
+    by false same h later = later h
+
+-- slots without a word
+pub empty-there : (texts slots : List (List ℕ)) → list_all is_empty slots ≡ true
+    → list_all (is_there texts) slots ≡ true
+empty-there texts [] e = refl
+empty-there texts (s ∷ ss) e =
+    let p = both_true (is_empty s) (list_all is_empty ss) e in
+    rw p.0 (empty-there texts ss p.1)
+
+-- what was there stays there
+pub there-kept : (texts slots : List (List ℕ)) (word : List ℕ) → list_all (is_there texts) slots ≡ true
+    → list_all (is_there (insert_key bytes_cmp texts word)) slots ≡ true
+there-kept texts [] word e = refl
+there-kept texts (s ∷ ss) word e =
+    let p = both_true (is_there texts s) (list_all (is_there texts) ss) e in
+    let one : is_there (insert_key bytes_cmp texts word) s ≡ true =
+    either_kept (is_empty s) (list_any (bytes_eq s) texts) (list_any (bytes_eq s) (insert_key bytes_cmp texts word)) p.0
+    (put-keeps (bytes_eq s) word texts) in
+    rw one (there-kept texts ss word p.1)
+
+-- and so is the word
+pub put-there : (texts : List (List ℕ)) (word : List ℕ) → is_there (insert_key bytes_cmp texts word) word ≡ true
+put-there texts word =
+    right_true (is_empty word) (list_any (bytes_eq word) (insert_key bytes_cmp texts word)) (put-has word texts)
+
+-- a word that is there changes nothing when it is put
+pub there-again : (texts slots : List (List ℕ)) (word : List ℕ) → IsRising texts → 0 < length word
+    → list_all (is_there texts) slots ≡ true → list_any (bytes_eq word) slots ≡ true
+    → insert_key bytes_cmp texts word ≡ texts
+there-again texts slots word rising some all one =
+    let there : is_there texts word ≡ true = passes-one (is_there texts) word slots all one in
+    let filled : is_empty word ≡ false = le-ltb (length word) 1 (omega (arith, some)) in
+    let listed : list_any (bytes_eq word) texts ≡ true = (rw filled at there) in
+    put-again word texts rising listed
