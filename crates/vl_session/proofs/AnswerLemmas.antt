@@ -1,12 +1,11 @@
--- What is said to requests of the one caller, and what has been seen then.
-use Rattle.std.proofs.Common.{◌≡◌, ◌≢◌, inl, inr, ℕ, ◌+◌, ◌-◌, ◌^◌, ◌<◌, ◌≤◌, List, [], ◌∷◌, length, codes, decimal, pos, true, Option, Some, None, Ok, refl, sym, ap, subst, ◌∙◌, arith}
-use Rattle.std.proofs.lemmas.List.{append-nil, length-append}
+-- What is said to requests, and what has been seen then.
+use Rattle.std.proofs.Common.{◌≡◌, inl, inr, ℕ, ◌-◌, ◌^◌, ◌<◌, List, [], ◌∷◌, length, codes, decimal, pos, Option, Some, None, Ok, refl, sym, ap, subst, ◌∙◌, arith}
 use Rattle.std.specs.Prelude.{IfSome, is_some}
-use Rattle.log_model.specs.Core.{Contents, held_limit}
-use Rattle.log_model.specs.History.{History, Numbered}
 use Rattle.log_model.specs.Print.{line_text}
-use Rattle.log_model.specs.Row.{Row, batch_limit, batch_weight}
-use Rattle.log_core.specs.History.{entries_of, history_of}
+use Rattle.log_model.specs.Row.{Batch}
+use Rattle.log_desk.specs.Seen.{Caller, Follows, Gains, Seen}
+use Rattle.log_desk.specs.declared.fault.InsertFault.{InsertFault}
+use Rattle.log_desk.specs.declared.fault.InsertFault.TheVariants as desk
 use Rattle.http_reply.specs.Reply.{reply_bytes}
 use Rattle.http_reply.specs.declared.status.Delivery.{Delivery}
 use Rattle.http_reply.specs.declared.status.Kind.TheVariants as kinds
@@ -14,17 +13,22 @@ use Rattle.http_reply.specs.declared.status.Status.TheVariants as statuses
 use Rattle.http_route.specs.Route.{insert, query, status}
 use Rattle.ingest_row.specs.Ingest.{Options}
 use Rattle.ingest_row.specs.Intake.{Outcome, rows_read}
-use Rattle.vl_session.specs.Answering.{Answered, IsAccepted, SaysOutcome, TakesIn}
-use Rattle.vl_session.specs.Incoming.{HoldsRows, IsIncoming, IsUncommitted, IsUnread, batch_text, fields_said}
-use Rattle.vl_session.specs.Incoming.{filled, outcome_of}
+use Rattle.vl_session.specs.Answer.{fault_effect}
+use Rattle.vl_session.specs.Answer as answering
+use Rattle.vl_session.specs.Answering.{Answered, IsAccepted, IsTurnedAway, SaysOutcome, TakesIn}
+use Rattle.vl_session.specs.Incoming.{HoldsRows, IsIncoming, IsUnread, batch_text, fault_of, fields_said}
+use Rattle.vl_session.specs.Incoming.{InsertsBatch, filled, outcome_of}
 use Rattle.vl_session.specs.Insert.{CanBeBatch, HasInsertOutcome, InsertOutcome, insert_fields, insert_status, refusal_text}
 use Rattle.vl_session.specs.Insert as inserts
-use Rattle.vl_session.specs.Insertion.{seen_of}
-use Rattle.vl_session.specs.Query.{QueryOutcome, found, many_rows, overflows, query_effect, unreadable, unspelled}
+use Rattle.vl_session.specs.Query.{QueryOutcome, many_rows, overflows, query_effect, unreadable, unspelled}
 use Rattle.vl_session.specs.Reply.{status_text}
-use Rattle.vl_session.specs.Seen.{Follows, Gains, Has, adds, looks, nothing}
+use Rattle.vl_session.specs.Seen.{Has, IsRefused, Looks, adds, looks, nothing}
 use Rattle.vl_session.proofs.InsertLemmas.{filled_number}
-use Rattle.vl_session.proofs.InsertionLemmas.{follows, had_room, nothing_added, one_added}
+use Rattle.vl_session.proofs.InsertionLemmas.{can_be, can_insert}
+use Rattle.vl_session.proofs.SeenLemmas.{follows_none}
+use Rattle.vl_session.specs.declared.answer.AnswerFault.{AnswerFault}
+use Rattle.vl_session.specs.declared.answer.AnswerFault.TheVariants.{Query, RegexRefused, ManyRows, Overflow}
+use Rattle.vl_session.specs.declared.answer.AnswerFault.TheVariants as answers
 use Rattle.vl_session.specs.declared.insert.Incoming.{Incoming}
 use Rattle.vl_session.specs.declared.insert.InsertionFault.{InsertionFault}
 use Rattle.vl_session.specs.declared.insert.InsertionFault.TheVariants.{Large, Full, Spent, Memory}
@@ -35,178 +39,151 @@ said_of : (incoming : Incoming) (outcomes : List Outcome) (options : Options) (n
     ≡ insert_fields outcomes (filled (codes "batch") (batch_text (is_some incoming.batch) number))
 said_of incoming outcomes options now body number is = rw is.accepted (rw is.refused refl)
 
-module _ (options : Options) (now : ℕ) (body : List ℕ) (incoming : Incoming) (old new : Contents (List Numbered))
+-- what comes of a fault of the desk
+desk_outcome : InsertFault → Option InsertOutcome
+desk_outcome (desk.Full held) = Some inserts.full
+desk_outcome desk.Spent = Some inserts.spent
+desk_outcome desk.Memory = None
+
+module _ (caller : Caller) (options : Options) (now : ℕ) (body : List ℕ) (incoming : Incoming) (old new : Seen)
     (delivery : Delivery) (reply : List ℕ) (outcomes : List Outcome)
     (is : IsIncoming options (pos now) body outcomes incoming) where
-  taken_none : (rows : List Row) (batch : Option (List Numbered)) → rows_read outcomes ≡ rows → incoming.batch ≡ batch
-      → HoldsRows batch rows → IsAccepted incoming old new delivery reply
-      → Answered (Ok (insert options)) body now (seen_of old) (seen_of new) delivery reply
-  taken_none [] None none is_none holds taken =
-      let rows = taken.commits.rows [] (subst (λ batch. HoldsRows batch []) (sym is_none) refl) in
-      let same : seen_of new ≡ seen_of old = nothing_added old new rows in
-      let fields : fields_said incoming taken.number ≡ insert_fields outcomes [] =
-      said_of incoming outcomes options now body taken.number is
-      ∙ ap (λ (batch : Option (List Numbered)).
-      insert_fields outcomes (filled (codes "batch") (batch_text (is_some batch) taken.number))) is_none in
-      record {
-        effect = nothing;
-        has = same;
-        answers = record {
-          outcome = inserts.no_row outcomes;
-          has_outcome = (is.given, none);
-          effect_is = refl;
-          said = taken.said
-              ∙ ap (λ fields. reply_bytes (statuses.Served kinds.Json) (line_text fields) delivery) fields;
-        };
-      }
-  taken_none [] (Some part) none is_some holds taken = absurd (omega (arith, holds.0))
-  taken_none (row ∷ rows) None some is_none holds taken = absurd cc
-  taken_none (row ∷ rows) (Some part) some is_there holds taken =
-      let made = taken.commits.rows (row ∷ rows) (subst (λ batch. HoldsRows batch (row ∷ rows)) (sym is_there) holds) in
-      let room = had_room old new row rows made in
-      let last : taken.number ≡ length (history_of new) =
-      subst (λ (batch : Option ℕ). IfSome batch (λ batch. taken.number ≡ batch)) made.batch_is taken.numbered in
-      let small : taken.number < 2 ^ 64 = omega (arith, last, room.numbered) in
+  abbrev IsAnswered : Type 0
+  IsAnswered = Answered caller (Ok (insert options)) body now old new delivery reply
+
+  fields_are : (batch : Option Batch) (number : ℕ) → incoming.batch ≡ batch
+      → fields_said incoming number ≡ insert_fields outcomes (filled (codes "batch") (batch_text (is_some batch) number))
+  fields_are batch number are =
+      said_of incoming outcomes options now body number is
+      ∙ ap (λ (b : Option Batch). insert_fields outcomes (filled (codes "batch") (batch_text (is_some b) number))) are
+
+  taken_none : (batch : Option Batch) → incoming.batch ≡ batch → HoldsRows batch (rows_read outcomes)
+      → (taken : IsAccepted caller incoming old new delivery reply)
+      → InsertsBatch caller batch old new taken.insertion.batch → IsAnswered
+  taken_none None none holds taken made = record {
+    effect = nothing;
+    has = made.0;
+    answers = record {
+      outcome = inserts.no_row outcomes;
+      has_outcome = (is.given, holds);
+      effect_is = refl;
+      said = taken.said
+          ∙ ap (λ fields. reply_bytes (statuses.Served kinds.Json) (line_text fields) delivery)
+          (fields_are None taken.number none);
+    };
+  }
+  taken_none (Some batch) some holds taken made =
+      let last : taken.number ≡ length new.history =
+      subst (λ (number : Option ℕ). IfSome number (λ n. taken.number ≡ n)) made.1 taken.numbered in
+      let small : taken.number < 2 ^ 64 = omega (arith, last, made.0.room.numbered) in
       let fields : fields_said incoming taken.number
-      ≡ insert_fields outcomes ((codes "batch", decimal (length (history_of new))) ∷ []) =
-      said_of incoming outcomes options now body taken.number is
-      ∙ ap (λ (batch : Option (List Numbered)).
-      insert_fields outcomes (filled (codes "batch") (batch_text (is_some batch) taken.number))) is_there
-      ∙ ap (insert_fields outcomes) (filled_number taken.number small)
+      ≡ insert_fields outcomes ((codes "batch", decimal (length new.history)) ∷ []) =
+      fields_are (Some batch) taken.number some ∙ ap (insert_fields outcomes) (filled_number taken.number small)
       ∙ ap (λ n. insert_fields outcomes ((codes "batch", decimal n) ∷ [])) last in
       record {
         effect = adds (rows_read outcomes);
-        has = subst (Gains (λ entry. true) (seen_of old) (seen_of new)) (sym some)
-            (one_added old new row rows made);
+        has = subst (Gains caller old new) holds.2 made.0.gains;
         answers = record {
           outcome = inserts.taken outcomes;
-          has_outcome = (
-            record {
-              given = is.given;
-              some = subst (λ (rows : List Row). 0 < length rows) (sym some) holds.0;
-              light = subst (λ (rows : List Row). batch_weight rows ≤ batch_limit) (sym some) holds.1;
-            },
-            room,
-          );
+          has_outcome = (can_be options now body outcomes batch is.given holds, made.0.room);
           effect_is = refl;
           said = taken.said
               ∙ ap (λ fields. reply_bytes (statuses.Served kinds.Json) (line_text fields) delivery) fields;
         };
       }
 
-  can_be : (batch : Option (List Numbered)) → incoming.batch ≡ batch → incoming.batch ≢ None
-      → HoldsRows batch (rows_read outcomes) → CanBeBatch options now body outcomes
-  can_be None is_none some holds = absurd (some is_none)
-  can_be (Some part) is_some some holds = record { given = is.given; some = holds.0; light = holds.1 }
-
-  refused_for : (fault : InsertionFault) (outcome : InsertOutcome) → outcome_of fault ≡ Some outcome
-      → IsUncommitted incoming old fault → new ≡ old
+  looked : (outcome : InsertOutcome) → Looks caller old new → HasInsertOutcome options now body new outcome
+      → inserts.insert_effect outcome ≡ looks
       → reply ≡ reply_bytes (insert_status outcome) (refusal_text outcome) delivery
-      → Answered (Ok (insert options)) body now (seen_of old) (seen_of new) delivery reply
-  refused_for (Large weight) outcome is_outcome why same said = absurd why
-  refused_for (Full limit) inserts.full is_outcome why same said = record {
+      → inserts.insert_content new outcome ≡ refusal_text outcome → IsAnswered
+  looked outcome has has_outcome effect said content = record {
     effect = looks;
-    has = subst (λ held. Follows (λ entry. true) (seen_of old) (seen_of held)) (sym same) (follows (seen_of old));
+    has = has;
     answers = record {
-      outcome = inserts.full;
-      has_outcome = (
-        outcomes,
-        can_be incoming.batch refl why.0 is.holds,
-        subst (λ held. length (history_of held) ≡ held.settled + held_limit) (sym same) why.2,
-      );
-      effect_is = refl;
-      said = said;
+      outcome = outcome;
+      has_outcome = has_outcome;
+      effect_is = sym effect;
+      said = said ∙ ap (λ text. reply_bytes (insert_status outcome) text delivery) (sym content);
     };
   }
-  refused_for Spent inserts.spent is_outcome why same said = record {
-    effect = looks;
-    has = subst (λ held. Follows (λ entry. true) (seen_of old) (seen_of held)) (sym same) (follows (seen_of old));
-    answers = record {
-      outcome = inserts.spent;
-      has_outcome = (
-        outcomes,
-        can_be incoming.batch refl why.0 is.holds,
-        subst (λ held. length (history_of held) < held.settled + held_limit) (sym same) why.1,
-        subst (λ held. length (history_of held) ≡ 2 ^ 63 - 1) (sym same) why.2,
-      );
-      effect_is = refl;
-      said = said;
-    };
-  }
-  refused_for Memory outcome is_outcome why same said = absurd cc
-  refused_for (Full limit) (inserts.no_row o) is_outcome why same said = absurd cc
-  refused_for (Full limit) (inserts.taken o) is_outcome why same said = absurd cc
-  refused_for (Full limit) (inserts.large o) is_outcome why same said = absurd cc
-  refused_for (Full limit) inserts.spent is_outcome why same said = absurd cc
-  refused_for Spent (inserts.no_row o) is_outcome why same said = absurd cc
-  refused_for Spent (inserts.taken o) is_outcome why same said = absurd cc
-  refused_for Spent (inserts.large o) is_outcome why same said = absurd cc
-  refused_for Spent inserts.full is_outcome why same said = absurd cc
 
-  -- the lines of an insert were committed, or not
-  pub insert_answered : TakesIn incoming old new delivery reply
-      → Answered (Ok (insert options)) body now (seen_of old) (seen_of new) delivery reply
-  insert_answered (inl taken) = taken_none (rows_read outcomes) incoming.batch refl refl is.holds taken
-  insert_answered (inr refused) =
-      refused_for refused.fault refused.outcome refused.is_outcome refused.why refused.same refused.said
+  -- the desk refused
+  refused_for : (why : InsertFault) (outcome : InsertOutcome) → outcome_of (fault_of why) ≡ Some outcome
+      → CanBeBatch options now body outcomes → IsRefused caller old new why
+      → reply ≡ reply_bytes (insert_status outcome) (refusal_text outcome) delivery → IsAnswered
+  refused_for (desk.Full held) outcome is_outcome can refused said =
+      let same : inserts.full ≡ outcome = cc in
+      looked inserts.full refused.0 (outcomes, can, refused.1) refl
+      (said ∙ ap (λ o. reply_bytes (insert_status o) (refusal_text o) delivery) (sym same)) refl
+  refused_for desk.Spent outcome is_outcome can refused said =
+      let same : inserts.spent ≡ outcome = cc in
+      looked inserts.spent refused.0 (outcomes, can, refused.1, refused.2) refl
+      (said ∙ ap (λ o. reply_bytes (insert_status o) (refusal_text o) delivery) (sym same)) refl
+  refused_for desk.Memory outcome is_outcome can refused said = absurd cc
+
+  refused_so : IsTurnedAway caller incoming old new delivery reply → IsAnswered
+  refused_so away =
+      let (some, (why, same, refused)) = away.why in
+      refused_for why away.outcome (ap outcome_of (sym same) ∙ away.is_outcome)
+      (can_insert caller options now body outcomes old new is.given incoming incoming.batch refl some is.holds) refused
+      away.said
+
+  -- the lines of an insert were taken in, or not
+  pub insert_answered : TakesIn caller incoming old new delivery reply → IsAnswered
+  insert_answered (inl taken) = taken_none incoming.batch refl is.holds taken taken.commits.inserts
+  insert_answered (inr refused) = refused_so refused
 
 -- its rows are too heavy for a batch
-pub insert_unread : (options : Options) (now : ℕ) (body : List ℕ) (held : Contents (List Numbered))
+pub insert_unread : (caller : Caller) (options : Options) (now : ℕ) (body : List ℕ) (seen : Seen)
     (delivery : Delivery) (reply : List ℕ) (fault : InsertionFault) (outcome : InsertOutcome)
     → IsUnread options (pos now) body fault → outcome_of fault ≡ Some outcome
     → reply ≡ reply_bytes (insert_status outcome) (refusal_text outcome) delivery
-    → Answered (Ok (insert options)) body now (seen_of held) (seen_of held) delivery reply
-insert_unread options now body held delivery reply (Large weight) (inserts.large w) unread is_outcome said =
-    let same : weight ≡ w = cc in
+    → Answered caller (Ok (insert options)) body now seen seen delivery reply
+insert_unread caller options now body seen delivery reply (Large weight) outcome unread is_outcome said =
+    let same : inserts.large weight ≡ outcome = cc in
     record {
       effect = nothing;
       has = refl;
       answers = record {
-        outcome = inserts.large w;
-        has_outcome = subst (λ n. HasInsertOutcome options now body (seen_of held) (inserts.large n)) same unread;
+        outcome = inserts.large weight;
+        has_outcome = unread;
         effect_is = refl;
-        said = said;
+        said = said ∙ ap (λ o. reply_bytes (insert_status o) (refusal_text o) delivery) (sym same);
       };
     }
-insert_unread options now body held delivery reply (Large weight) (inserts.no_row o) unread is_outcome said = absurd cc
-insert_unread options now body held delivery reply (Large weight) (inserts.taken o) unread is_outcome said = absurd cc
-insert_unread options now body held delivery reply (Large weight) inserts.full unread is_outcome said = absurd cc
-insert_unread options now body held delivery reply (Large weight) inserts.spent unread is_outcome said = absurd cc
-insert_unread options now body held delivery reply (Full limit) outcome unread is_outcome said = absurd unread
-insert_unread options now body held delivery reply Spent outcome unread is_outcome said = absurd unread
-insert_unread options now body held delivery reply Memory outcome unread is_outcome said = absurd cc
+insert_unread caller options now body seen delivery reply (Full limit) outcome unread is_outcome said = absurd unread
+insert_unread caller options now body seen delivery reply Spent outcome unread is_outcome said = absurd unread
+insert_unread caller options now body seen delivery reply Memory outcome unread is_outcome said = absurd cc
+
+-- Why rows are not inserted, nothing was added.
+pub refused_follows : (caller : Caller) (old new : Seen) (why : InsertFault) → IsRefused caller old new why
+    → Follows caller old new
+refused_follows caller old new (desk.Full held) is = is.0.0
+refused_follows caller old new desk.Spent is = is.0.0
+refused_follows caller old new desk.Memory is = is
 
 -- how much there is
-pub status_answered : (held : Contents (List Numbered)) (body : List ℕ) (now : ℕ) (delivery : Delivery)
-    (reply : List ℕ) (count : ℕ) → count ≡ length (history_of held) → held.settled ≡ 0
-    → reply ≡ reply_bytes (statuses.Served kinds.Json) (status_text count 0) delivery
-    → Answered (Ok status) body now (seen_of held) (seen_of held) delivery reply
-status_answered held body now delivery reply count counted unsettled said = record {
+pub status_answered : (caller : Caller) (old new : Seen) (body : List ℕ) (now : ℕ) (delivery : Delivery)
+    (reply : List ℕ) (count settled : ℕ) → Looks caller old new → count ≡ length new.history → settled ≡ new.settled
+    → reply ≡ reply_bytes (statuses.Served kinds.Json) (status_text count settled) delivery
+    → Answered caller (Ok status) body now old new delivery reply
+status_answered caller old new body now delivery reply count settled has counted marked said = record {
   effect = looks;
-  has = follows (seen_of held);
+  has = has;
   answers = (
     refl,
-    said ∙ ap (λ n. reply_bytes (statuses.Served kinds.Json) (status_text n 0) delivery) counted
-        ∙ ap (λ n. reply_bytes (statuses.Served kinds.Json) (status_text (length (history_of held)) n) delivery)
-        (sym unsettled),
+    said ∙ ap (λ n. reply_bytes (statuses.Served kinds.Json) (status_text n settled) delivery) counted
+        ∙ ap (λ n. reply_bytes (statuses.Served kinds.Json) (status_text (length new.history) n) delivery) marked,
   );
 }
 
-query_has : (held : Contents (List Numbered)) (outcome : QueryOutcome)
-    → Has (λ entry. true) (seen_of held) (seen_of held) (query_effect outcome)
-query_has held (unspelled fault) = refl
-query_has held (unreadable nth) = refl
-query_has held (found records) = follows (seen_of held)
-query_has held many_rows = follows (seen_of held)
-query_has held (overflows name) = follows (seen_of held)
-
 -- a query that has this outcome
-pub query_answered : (text : List ℕ) (now : ℕ) (body : List ℕ) (held : Contents (List Numbered)) (delivery : Delivery)
-    (reply : List ℕ) → SaysOutcome text now (history_of held) delivery reply
-    → Answered (Ok (query text)) body now (seen_of held) (seen_of held) delivery reply
-query_answered text now body held delivery reply says = record {
+pub query_answered : (caller : Caller) (text : List ℕ) (now : ℕ) (body : List ℕ) (old new : Seen) (delivery : Delivery)
+    (reply : List ℕ) → SaysOutcome caller text now old new delivery reply
+    → Answered caller (Ok (query text)) body now old new delivery reply
+query_answered caller text now body old new delivery reply says = record {
   effect = query_effect says.outcome;
-  has = query_has held says.outcome;
+  has = says.has;
   answers = record {
     outcome = says.outcome;
     has_outcome = says.has_outcome;
@@ -214,3 +191,29 @@ query_answered text now body held delivery reply says = record {
     said = says.said;
   };
 }
+
+-- A query without an answer has the effect of what comes of it.
+pub fault_has : (caller : Caller) (old new : Seen) (fault : AnswerFault) (outcome : QueryOutcome)
+    → Has caller old new (fault_effect fault) → answering.outcome_of fault ≡ Some outcome
+    → Has caller old new (query_effect outcome)
+fault_has caller old new (Query fault) outcome has is =
+    let same : unspelled fault ≡ outcome = cc in subst (λ o. Has caller old new (query_effect o)) same has
+fault_has caller old new (RegexRefused nth) outcome has is =
+    let same : unreadable nth ≡ outcome = cc in subst (λ o. Has caller old new (query_effect o)) same has
+fault_has caller old new ManyRows outcome has is =
+    let same : many_rows ≡ outcome = cc in subst (λ o. Has caller old new (query_effect o)) same has
+fault_has caller old new (Overflow name) outcome has is =
+    let same : overflows name ≡ outcome = cc in subst (λ o. Has caller old new (query_effect o)) same has
+fault_has caller old new answers.Memory outcome has is = absurd cc
+
+same_follows : (caller : Caller) (old new : Seen) → new ≡ old → Follows caller old new
+same_follows caller old new same = subst (Follows caller old) (sym same) (follows_none caller old)
+
+-- It adds nothing.
+pub fault_follows : (caller : Caller) (old new : Seen) (fault : AnswerFault) → Has caller old new (fault_effect fault)
+    → Follows caller old new
+fault_follows caller old new (Query fault) has = same_follows caller old new has
+fault_follows caller old new (RegexRefused nth) has = same_follows caller old new has
+fault_follows caller old new ManyRows has = has.0
+fault_follows caller old new (Overflow name) has = has.0
+fault_follows caller old new answers.Memory has = has

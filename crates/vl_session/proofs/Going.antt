@@ -1,5 +1,5 @@
 -- A session that has not ended, how it goes on, and how it ends.
-use Rattle.std.proofs.Common.{◌≡◌, ℕ, ◌<◌, ◌≤◌, Bool, false, List, [], ◌∷◌, ◌++◌, length, take, refl, ap}
+use Rattle.std.proofs.Common.{◌≡◌, ℕ, ◌<◌, ◌≤◌, false, List, [], ◌∷◌, ◌++◌, length, take, refl, ap}
 use Rattle.std.proofs.Common.{sym, subst, ◌∙◌, inl, inr, arith, append_assoc, length-append, pos}
 use Rattle.std.specs.Prelude.{Option}
 use Rattle.std.specs.List.{AllZip}
@@ -8,12 +8,11 @@ use Rattle.vl_io.specs.Bytes.{Appends, Consumes}
 use Rattle.vl_io.specs.Change.{Change, IsCut, Took}
 use Rattle.vl_io.specs.Moments.{Tells}
 use Rattle.vl_io.proofs.Laws.{Appends-nil, Appends-trans, Consumes-nil, Consumes-trans, Rose-earlier}
-use Rattle.log_model.specs.History.{Entry}
 use Rattle.http_in.specs.Message.{Asked}
 use Rattle.http_in.specs.Reading.{FindsRequest, Holds, Reading}
 use Rattle.http_in.specs.Requests.{AreRequests, asked_to_close}
 use Rattle.http_in.proofs.RequestsLemmas.{AreRequests-later, AreRequests-more, asked_to_close-more}
-use Rattle.vl_session.specs.Seen.{Seen}
+use Rattle.log_desk.specs.Seen.{Caller, Seen}
 use Rattle.vl_session.specs.Sent.{EndsReading, EndsTurn, Reaches, Serves}
 use Rattle.vl_session.specs.Session.{Ends, IsServing, IsSession, StaysOpen, fault_bytes}
 use Rattle.vl_session.specs.Turns.{GaveMoments, IsDone, IsTurn, Turn, asked_in, moments_of, replies_of}
@@ -28,11 +27,11 @@ change old new before after =
     record { bytes_before = old; bytes_after = new; faults_before = before; faults_after = after }
 
 -- the session stands between two requests, and none asked to close
-pub record Going (mine : Entry → Bool) (first last : Seen) (source sink : Change) (t0 t1 : Option (List ℕ))
+pub record Going (caller : Caller) (first last : Seen) (source sink : Change) (t0 t1 : Option (List ℕ))
     (dones : List Done) (reader : Reading) : Type 0 where
   pub turns : List Turn
   pub ahead : List ℕ
-  pub serving : IsServing mine first last source t0 t1 turns ahead
+  pub serving : IsServing caller first last source t0 t1 turns ahead
   pub done : AllZip IsDone turns dones
   pub holds : Holds (length serving.used) ahead reader.held
   pub stays : asked_to_close (asked_in turns) ≡ false
@@ -40,11 +39,11 @@ pub record Going (mine : Entry → Bool) (first last : Seen) (source sink : Chan
 
 -- ---- the source, the requests and the turns
 
-serving_read : (mine : Entry → Bool) (first last : Seen) (l0 l1 l2 : Option (List ℕ)) (s0 s1 s2 : ℕ)
+serving_read : (caller : Caller) (first last : Seen) (l0 l1 l2 : Option (List ℕ)) (s0 s1 s2 : ℕ)
     (t0 t1 : Option (List ℕ)) (turns : List Turn) (ahead piece : List ℕ)
-    → IsServing mine first last (change l0 l1 s0 s1) t0 t1 turns ahead → Consumes l1 l2 piece
-    → IsServing mine first last (change l0 l2 s0 s2) t0 t1 turns (ahead ++ piece)
-serving_read mine first last l0 l1 l2 s0 s1 s2 t0 t1 turns ahead piece s p =
+    → IsServing caller first last (change l0 l1 s0 s1) t0 t1 turns ahead → Consumes l1 l2 piece
+    → IsServing caller first last (change l0 l2 s0 s2) t0 t1 turns (ahead ++ piece)
+serving_read caller first last l0 l1 l2 s0 s1 s2 t0 t1 turns ahead piece s p =
     let whole : (s.used ++ ahead) ++ piece ≡ s.used ++ (ahead ++ piece) = append_assoc s.used ahead piece in
     record {
       used = s.used;
@@ -56,13 +55,13 @@ serving_read mine first last l0 l1 l2 s0 s1 s2 t0 t1 turns ahead piece s p =
     }
 
 -- a request was served, which the bytes ahead begin with
-serving_turn : (mine : Entry → Bool) (first mid new : Seen) (source : Change) (t0 t1 t2 : Option (List ℕ))
+serving_turn : (caller : Caller) (first mid new : Seen) (source : Change) (t0 t1 t2 : Option (List ℕ))
     (dones dones_new : List Done) (turns : List Turn) (turn : Turn) (asked : Asked) (ahead : List ℕ) (reader : Reading)
     → asked_to_close (asked_in turns) ≡ false → length turns ≡ length dones
-    → (s : IsServing mine first mid source t0 t1 turns ahead)
-    → (f : FindsRequest (length s.used) ahead reader.held asked) → Serves mine asked mid new dones dones_new turn
-    → Tells t1 t2 (pos turn.now) → IsServing mine first new source t0 t2 (turns ++ turn ∷ []) f.rest
-serving_turn mine first mid new source t0 t1 t2 dones dones_new turns turn asked ahead reader stays count s f v tells =
+    → (s : IsServing caller first mid source t0 t1 turns ahead)
+    → (f : FindsRequest (length s.used) ahead reader.held asked) → Serves caller asked mid new dones dones_new turn
+    → Tells t1 t2 (pos turn.now) → IsServing caller first new source t0 t2 (turns ++ turn ∷ []) f.rest
+serving_turn caller first mid new source t0 t1 t2 dones dones_new turns turn asked ahead reader stays count s f v tells =
     let whole : s.used ++ ahead ≡ (s.used ++ f.used) ++ f.rest =
     ap (λ l. s.used ++ l) f.whole ∙ sym (append_assoc s.used f.used f.rest) in
     let list : asked_in turns ++ asked ∷ [] ≡ asked_in (turns ++ turn ∷ []) =
@@ -74,8 +73,8 @@ serving_turn mine first mid new source t0 t1 t2 dones dones_new turns turn asked
       requests = subst (λ l. AreRequests l (asked_in (turns ++ turn ∷ [])) f.rest) whole
           (subst (λ l. AreRequests (s.used ++ ahead) l f.rest) list
           (AreRequests-more (s.used ++ ahead) ahead f.rest (asked_in turns) asked stays s.requests f.begins));
-      ran = AreTurns-more mine 0 first mid new turns turn s.ran
-          (subst (λ n. IsTurn mine n mid turn) (omega (arith, count)) v.served) v.seen;
+      ran = AreTurns-more caller 0 first mid new turns turn s.ran
+          (subst (λ n. IsTurn caller n mid turn) (omega (arith, count)) v.served) v.seen;
       told = subst (GaveMoments t0 t2) (sym (map-append (λ (t : Turn). t.now) turns (turn ∷ [])))
           (told-more t0 t1 t2 (moments_of turns) turn.now s.told tells);
     }
@@ -102,10 +101,10 @@ cut_more w0 w1 w2 k0 k1 k2 sure text q w c = record {
 
 -- ---- it goes on
 
-pub going_first : (mine : Entry → Bool) (first : Seen) (l t w : Option (List ℕ)) (s k : ℕ) (dones : List Done)
+pub going_first : (caller : Caller) (first : Seen) (l t w : Option (List ℕ)) (s k : ℕ) (dones : List Done)
     (reader : Reading) → dones ≡ [] → Holds 0 [] reader.held
-    → Going mine first first (change l l s s) (change w w k k) t t dones reader
-going_first mine first l t w s k dones reader none holds = record {
+    → Going caller first first (change l l s s) (change w w k k) t t dones reader
+going_first caller first l t w s k dones reader none holds = record {
   turns = [];
   ahead = [];
   serving = record { used = []; gave = Consumes-nil l; requests = refl; ran = refl; told = told-none t };
@@ -115,21 +114,21 @@ going_first mine first l t w s k dones reader none holds = record {
   written = Appends-nil w;
 }
 
-pub going_more : (mine : Entry → Bool) (first mid last : Seen) (l0 l1 l2 t0 t1 t2 w0 w1 w2 : Option (List ℕ))
+pub going_more : (caller : Caller) (first mid last : Seen) (l0 l1 l2 t0 t1 t2 w0 w1 w2 : Option (List ℕ))
     (s0 s1 s2 k0 k1 k2 : ℕ) (dones dones_new : List Done) (before after : Reading) (turn : Turn) (asked : Asked)
-    → Going mine first mid (change l0 l1 s0 s1) (change w0 w1 k0 k1) t0 t1 dones before
-    → Reaches before after l1 l2 asked → Serves mine asked mid last dones dones_new turn
+    → Going caller first mid (change l0 l1 s0 s1) (change w0 w1 k0 k1) t0 t1 dones before
+    → Reaches before after l1 l2 asked → Serves caller asked mid last dones dones_new turn
     → Tells t1 t2 (pos turn.now) → turn.asked.last ≡ false → Appends w1 w2 turn.reply
-    → Going mine first last (change l0 l2 s0 s2) (change w0 w2 k0 k2) t0 t2 dones_new after
+    → Going caller first last (change l0 l2 s0 s2) (change w0 w2 k0 k2) t0 t2 dones_new after
 unfolding serving_read serving_turn
-going_more mine first mid last l0 l1 l2 t0 t1 t2 w0 w1 w2 s0 s1 s2 k0 k1 k2 dones dones_new before after turn asked g r
+going_more caller first mid last l0 l1 l2 t0 t1 t2 w0 w1 w2 s0 s1 s2 k0 k1 k2 dones dones_new before after turn asked g r
     v tells goes written =
-    let read = serving_read mine first mid l0 l1 l2 s0 s1 s2 t0 t1 g.turns g.ahead r.piece g.serving r.consumed in
+    let read = serving_read caller first mid l0 l1 l2 s0 s1 s2 t0 t1 g.turns g.ahead r.piece g.serving r.consumed in
     let f = r.finds (length g.serving.used) g.ahead g.holds in
     record {
       turns = g.turns ++ turn ∷ [];
       ahead = f.rest;
-      serving = serving_turn mine first mid last (change l0 l2 s0 s2) t0 t1 t2 dones dones_new g.turns turn asked
+      serving = serving_turn caller first mid last (change l0 l2 s0 s2) t0 t1 t2 dones dones_new g.turns turn asked
           (g.ahead ++ r.piece) after g.stays (done-length g.turns dones g.done) read f v tells;
       done = subst (AllZip IsDone (g.turns ++ turn ∷ [])) (sym v.noted)
           (done-more g.turns dones turn v.done g.done v.shown);
@@ -139,11 +138,11 @@ going_more mine first mid last l0 l1 l2 t0 t1 t2 w0 w1 w2 s0 s1 s2 k0 k1 k2 done
     }
 
 -- the list of turns moved in memory, and nothing was written
-pub going_moved : (mine : Entry → Bool) (first last : Seen) (source : Change) (t0 t1 w0 w1 w2 : Option (List ℕ))
+pub going_moved : (caller : Caller) (first last : Seen) (source : Change) (t0 t1 w0 w1 w2 : Option (List ℕ))
     (k0 k1 k2 : ℕ) (dones moved : List Done) (reader : Reading) → moved ≡ dones → w2 ≡ w1
-    → Going mine first last source (change w0 w1 k0 k1) t0 t1 dones reader
-    → Going mine first last source (change w0 w2 k0 k2) t0 t1 moved reader
-going_moved mine first last source t0 t1 w0 w1 w2 k0 k1 k2 dones moved reader same silent g = record {
+    → Going caller first last source (change w0 w1 k0 k1) t0 t1 dones reader
+    → Going caller first last source (change w0 w2 k0 k2) t0 t1 moved reader
+going_moved caller first last source t0 t1 w0 w1 w2 k0 k1 k2 dones moved reader same silent g = record {
   turns = g.turns;
   ahead = g.ahead;
   serving = g.serving;
@@ -155,11 +154,11 @@ going_moved mine first last source t0 t1 w0 w1 w2 k0 k1 k2 dones moved reader sa
 
 -- ---- it ends
 
-pub ends_memory : (mine : Entry → Bool) (first last : Seen) (source sink : Change) (t0 t1 : Option (List ℕ))
+pub ends_memory : (caller : Caller) (first last : Seen) (source sink : Change) (t0 t1 : Option (List ℕ))
     (dones : List Done) (reader : Reading) → length dones < turn_limit
-    → Going mine first last source sink t0 t1 dones reader
-    → IsSession mine first last source sink t0 t1 dones ends.Memory
-ends_memory mine first last source sink t0 t1 dones reader few g = record {
+    → Going caller first last source sink t0 t1 dones reader
+    → IsSession caller first last source sink t0 t1 dones ends.Memory
+ends_memory caller first last source sink t0 t1 dones reader few g = record {
   turns = g.turns;
   few = omega (arith, few, done-length g.turns dones g.done);
   rest = g.ahead;
@@ -168,11 +167,11 @@ ends_memory mine first last source sink t0 t1 dones reader few g = record {
   ends = ((g.stays, omega (arith, few, done-length g.turns dones g.done)), g.written);
 }
 
-pub ends_limit : (mine : Entry → Bool) (first last : Seen) (source sink : Change) (t0 t1 : Option (List ℕ))
+pub ends_limit : (caller : Caller) (first last : Seen) (source sink : Change) (t0 t1 : Option (List ℕ))
     (dones : List Done) (reader : Reading) → length dones ≡ turn_limit
-    → Going mine first last source sink t0 t1 dones reader
-    → IsSession mine first last source sink t0 t1 dones ends.Limit
-ends_limit mine first last source sink t0 t1 dones reader full g = record {
+    → Going caller first last source sink t0 t1 dones reader
+    → IsSession caller first last source sink t0 t1 dones ends.Limit
+ends_limit caller first last source sink t0 t1 dones reader full g = record {
   turns = g.turns;
   few = omega (arith, full, done-length g.turns dones g.done);
   rest = g.ahead;
@@ -198,20 +197,20 @@ read_ends l0 l1 l2 w0 w1 w2 s0 s1 s2 k0 k1 k2 turns start rest (ends.BadInput fa
 read_ends l0 l1 l2 w0 w1 w2 s0 s1 s2 k0 k1 k2 turns start rest ends.Memory p q stays w e =
     (stays, subst (λ x. Appends w0 x (replies_of turns)) (sym e) w)
 
-pub ends_reading : (mine : Entry → Bool) (first last : Seen) (l0 l1 l2 t0 t1 w0 w1 w2 : Option (List ℕ))
+pub ends_reading : (caller : Caller) (first last : Seen) (l0 l1 l2 t0 t1 w0 w1 w2 : Option (List ℕ))
     (s0 s1 s2 k0 k1 k2 : ℕ) (dones : List Done) (reader : Reading) (end : End) → s0 ≤ s1 → k0 ≤ k1
-    → length dones < turn_limit → Going mine first last (change l0 l1 s0 s1) (change w0 w1 k0 k1) t0 t1 dones reader
+    → length dones < turn_limit → Going caller first last (change l0 l1 s0 s1) (change w0 w1 k0 k1) t0 t1 dones reader
     → (piece : List ℕ) × Consumes l1 l2 piece × ((start : ℕ) (bytes : List ℕ) → Holds start bytes reader.held
     → EndsReading (change l1 l2 s1 s2) (change w1 w2 k1 k2) start (bytes ++ piece) end)
-    → IsSession mine first last (change l0 l2 s0 s2) (change w0 w2 k0 k2) t0 t1 dones end
+    → IsSession caller first last (change l0 l2 s0 s2) (change w0 w2 k0 k2) t0 t1 dones end
 unfolding serving_read
-ends_reading mine first last l0 l1 l2 t0 t1 w0 w1 w2 s0 s1 s2 k0 k1 k2 dones reader end p q few g e =
+ends_reading caller first last l0 l1 l2 t0 t1 w0 w1 w2 s0 s1 s2 k0 k1 k2 dones reader end p q few g e =
     let short : length g.turns < turn_limit = omega (arith, few, done-length g.turns dones g.done) in
     record {
       turns = g.turns;
       few = omega (arith, short);
       rest = g.ahead ++ e.0;
-      serving = serving_read mine first last l0 l1 l2 s0 s1 s2 t0 t1 g.turns g.ahead e.0 g.serving e.1;
+      serving = serving_read caller first last l0 l1 l2 s0 s1 s2 t0 t1 g.turns g.ahead e.0 g.serving e.1;
       done = g.done;
       ends = read_ends l0 l1 l2 w0 w1 w2 s0 s1 s2 k0 k1 k2 g.turns (length g.serving.used) (g.ahead ++ e.0) end p q
           (g.stays, short) g.written (e.2 (length g.serving.used) g.ahead g.holds);
@@ -231,23 +230,23 @@ turn_ends source w0 w1 w2 k0 k1 k2 turns turn start rest ends.SinkFault q w e =
 turn_ends source w0 w1 w2 k0 k1 k2 turns turn start rest (ends.BadInput fault) q w e = absurd e
 turn_ends source w0 w1 w2 k0 k1 k2 turns turn start rest ends.Memory q w e = absurd e
 
-pub ends_turn : (mine : Entry → Bool) (first mid last : Seen) (l0 l1 l2 t0 t1 t2 w0 w1 w2 : Option (List ℕ))
+pub ends_turn : (caller : Caller) (first mid last : Seen) (l0 l1 l2 t0 t1 t2 w0 w1 w2 : Option (List ℕ))
     (s0 s1 s2 k0 k1 k2 : ℕ) (dones dones_new : List Done) (before after : Reading) (turn : Turn) (asked : Asked)
     (end : End) → k0 ≤ k1 → length dones < turn_limit
-    → Going mine first mid (change l0 l1 s0 s1) (change w0 w1 k0 k1) t0 t1 dones before
-    → Reaches before after l1 l2 asked → Serves mine asked mid last dones dones_new turn
+    → Going caller first mid (change l0 l1 s0 s1) (change w0 w1 k0 k1) t0 t1 dones before
+    → Reaches before after l1 l2 asked → Serves caller asked mid last dones dones_new turn
     → Tells t1 t2 (pos turn.now) → EndsTurn turn (change w1 w2 k1 k2) end
-    → IsSession mine first last (change l0 l2 s0 s2) (change w0 w2 k0 k2) t0 t2 dones_new end
+    → IsSession caller first last (change l0 l2 s0 s2) (change w0 w2 k0 k2) t0 t2 dones_new end
 unfolding serving_read serving_turn
-ends_turn mine first mid last l0 l1 l2 t0 t1 t2 w0 w1 w2 s0 s1 s2 k0 k1 k2 dones dones_new before after turn asked end q
+ends_turn caller first mid last l0 l1 l2 t0 t1 t2 w0 w1 w2 s0 s1 s2 k0 k1 k2 dones dones_new before after turn asked end q
     few g r v tells e =
-    let read = serving_read mine first mid l0 l1 l2 s0 s1 s2 t0 t1 g.turns g.ahead r.piece g.serving r.consumed in
+    let read = serving_read caller first mid l0 l1 l2 s0 s1 s2 t0 t1 g.turns g.ahead r.piece g.serving r.consumed in
     let f = r.finds (length g.serving.used) g.ahead g.holds in
     record {
       turns = g.turns ++ turn ∷ [];
       few = omega (arith, few, done-length g.turns dones g.done, length-append g.turns (turn ∷ []));
       rest = f.rest;
-      serving = serving_turn mine first mid last (change l0 l2 s0 s2) t0 t1 t2 dones dones_new g.turns turn asked
+      serving = serving_turn caller first mid last (change l0 l2 s0 s2) t0 t1 t2 dones dones_new g.turns turn asked
           (g.ahead ++ r.piece) after g.stays (done-length g.turns dones g.done) read f v tells;
       done = subst (AllZip IsDone (g.turns ++ turn ∷ [])) (sym v.noted)
           (done-more g.turns dones turn v.done g.done v.shown);

@@ -1,127 +1,94 @@
 -- Lines that were taken in, or not, by what has been seen then.
-use Rattle.std.proofs.Common.{◌≡◌, ℕ, ℤ, pos, ◌+◌, ◌^◌, ◌<◌, ◌≤◌, ◌≤ℤ◌, List, [], ◌∷◌, length, true, Option, Some, None, refl, sym, ap, subst, ◌∙◌, arith, unsigned_abs}
-use Rattle.std.proofs.lemmas.List.{append-nil, length-append}
-use Rattle.log_model.specs.Core.{Contents}
-use Rattle.log_model.specs.History.{History, Numbered}
-use Rattle.log_model.specs.Row.{Row, batch_limit, batch_weight}
-use Rattle.log_core.specs.History.{entries_of, history_of}
+use Rattle.std.proofs.Common.{◌≡◌, ◌≢◌, ℕ, pos, List, [], ◌∷◌, length, Option, Some, None, refl, sym, ap, subst, ◌∙◌, arith}
+use Rattle.log_model.specs.Row.{Batch, Row}
 use Rattle.ingest_row.specs.Ingest.{Options}
 use Rattle.ingest_row.specs.Intake.{IsIntake, Outcome, rows_read}
-use Rattle.vl_session.specs.Incoming.{Commits, CommitsRows, HoldsRows, IsIncoming, IsUncommitted, IsUnread}
-use Rattle.vl_session.specs.Insert.{CanBeBatch, HadRoom, HasInsertOutcome, insert_effect}
-use Rattle.vl_session.specs.Insertion.{Inserts, RefusesLines, accepted, seen_of}
-use Rattle.vl_session.specs.Seen.{Follows, Gains, Has, Seen}
+use Rattle.log_desk.specs.Seen.{Caller, Gains, Seen}
+use Rattle.log_desk.specs.declared.fault.InsertFault.{InsertFault}
+use Rattle.log_desk.specs.declared.fault.InsertFault.TheVariants as desk
+use Rattle.vl_session.specs.Incoming.{Commits, HoldsRows, InsertsBatch, IsIncoming, IsUncommitted, IsUnread, fault_of}
+use Rattle.vl_session.specs.Insert.{CanBeBatch, HasInsertOutcome, insert_effect}
+use Rattle.vl_session.specs.Insertion.{Inserts, IsOfLines, RefusesLines, accepted, batch_number}
+use Rattle.vl_session.specs.Seen.{Has, HasLastNumber, HasRoom, IsFull, IsRefused}
 use Rattle.vl_session.specs.declared.insert.Incoming.{Incoming}
 use Rattle.vl_session.specs.declared.insert.Insertion.{Insertion}
 use Rattle.vl_session.specs.declared.insert.InsertionFault.{InsertionFault}
 use Rattle.vl_session.specs.declared.insert.InsertionFault.TheVariants.{Large, Full, Spent, Memory}
+use Rattle.vl_session.proofs.SeenLemmas.{follows_none}
 
--- the same is seen
-pub follows : (seen : Seen) → Follows (λ entry. true) seen seen
-follows seen = record {
-  others = [];
-  longer = sym (append-nil seen.history);
-  not_mine = refl;
-  settled = omega arith;
-}
+-- Rows that are held can be a batch.
+pub can_be : (options : Options) (now : ℕ) (body : List ℕ) (outcomes : List Outcome) (batch : Batch)
+    → IsIntake options (pos now) body outcomes → HoldsRows (Some batch) (rows_read outcomes)
+    → CanBeBatch options now body outcomes
+can_be options now body outcomes batch given holds =
+    record { given = given; some = holds.0; light = holds.1 }
 
-module _ (old new : Contents (List Numbered)) where
-  -- no rows were committed
-  pub nothing_added : {batch : Option ℕ} → CommitsRows [] old new batch → seen_of new ≡ seen_of old
-  nothing_added made =
-      ap (λ (history : History). record { history = history; settled = new.settled })
-      (made.grows ∙ append-nil (history_of old))
-      ∙ ap (λ n. record { history = history_of old; settled = n }) made.settled
+module _ (caller : Caller) (options : Options) (now : ℕ) (body : List ℕ) (outcomes : List Outcome) (old new : Seen)
+    (given : IsIntake options (pos now) body outcomes) where
+  abbrev ComesTo : List Row → Option ℕ → Type 0
+  ComesTo rows number = HasInsertOutcome options now body new (accepted rows outcomes)
+      × Has caller old new (insert_effect (accepted rows outcomes)) × (number ≡ batch_number rows new.history)
 
-  module _ (row : Row) (rows : List Row) {batch : Option ℕ} (made : CommitsRows (row ∷ rows) old new batch) where
-    -- rows were committed, as one entry
-    pub one_added : Gains (λ entry. true) (seen_of old) (seen_of new) (row ∷ rows)
-    one_added = record {
-      others = [];
-      entry = record { first = row; others = rows; maker = None };
-      longer = made.grows;
-      not_mine = refl;
-      is_mine = refl;
-      rows = refl;
-      settled = omega (arith, made.settled);
-    }
-
-    -- where another batch might be
-    pub had_room : HadRoom (seen_of new)
-    had_room =
-        let room = made.room (omega arith) in
-        let longer = ap length made.grows in
-        let one = length-append (history_of old) (entries_of (row ∷ rows)) in
-        record {
-          few = omega (arith, room.few, longer, one, made.settled);
-          numbered = omega (arith, room.numbered, longer, one);
-        }
-
--- rows that are held can be a batch, if there are any
-holds_light : (batch : Option (List Numbered)) (rows : List Row) → HoldsRows batch rows → batch_weight rows ≤ batch_limit
-holds_light None rows none = subst (λ rows. batch_weight rows ≤ batch_limit) (sym none) (omega arith)
-holds_light (Some part) rows holds = holds.1
-
-module _ (options : Options) (now : ℕ) (body : List ℕ) (outcomes : List Outcome) (old new : Contents (List Numbered)) where
-  abbrev ComesTo : List Row → Type 0
-  ComesTo rows = HasInsertOutcome options now body (seen_of new) (accepted rows outcomes)
-      × Has (λ entry. true) (seen_of old) (seen_of new) (insert_effect (accepted rows outcomes))
-
-  comes_to : (rows : List Row) {batch : Option ℕ} → rows_read outcomes ≡ rows → batch_weight rows ≤ batch_limit
-      → IsIntake options (pos now) body outcomes → CommitsRows rows old new batch → ComesTo rows
-  comes_to [] none light given made = ((given, none), nothing_added old new made)
-  comes_to (row ∷ rows) are light given made =
-      let can : CanBeBatch options now body outcomes = record {
-        given = given;
-        some = subst (λ (rows : List Row). 0 < length rows) (sym are) (omega arith);
-        light = subst (λ (rows : List Row). batch_weight rows ≤ batch_limit) (sym are) light;
-      } in (
-        (can, had_room old new row rows made),
-        subst (Gains (λ entry. true) (seen_of old) (seen_of new)) (sym are) (one_added old new row rows made),
-      )
+  comes_to : (rows : List Row) (batch : Option Batch) (number : Option ℕ) → rows_read outcomes ≡ rows
+      → HoldsRows batch (rows_read outcomes) → InsertsBatch caller batch old new number → ComesTo rows number
+  comes_to [] None number are holds made = ((given, are), made.0, made.1)
+  comes_to [] (Some batch) number are holds made = absurd (omega (arith, holds.0, ap length are))
+  comes_to (row ∷ rows) None number are holds made =
+      absurd (let no : [] ≡ row ∷ rows = sym holds ∙ are in cc)
+  comes_to (row ∷ rows) (Some batch) number are holds made = (
+    (can_be options now body outcomes batch given holds, made.0.room),
+    subst (Gains caller old new) holds.2 made.0.gains,
+    made.1,
+  )
 
   pub inserts : (incoming : Incoming) (insertion : Insertion) → IsIncoming options (pos now) body outcomes incoming
-      → Commits incoming old new insertion
-      → Inserts (λ entry. true) options now body (seen_of old) (seen_of new) insertion
+      → Commits caller incoming old new insertion → Inserts caller options now body old new insertion
   inserts incoming insertion is commits =
-      let made = commits.rows (rows_read outcomes) is.holds in
-      let comes = comes_to (rows_read outcomes) refl (holds_light incoming.batch (rows_read outcomes) is.holds) is.given
-      made in
+      let comes = comes_to (rows_read outcomes) incoming.batch insertion.batch refl is.holds commits.inserts in
       record {
         outcomes = outcomes;
-        given = is.given;
+        given = given;
         has_outcome = comes.0;
         has = comes.1;
         accepted_are = commits.accepted ∙ is.accepted;
-        batch = made.batch_is;
+        batch = comes.2;
         refused = commits.refused ∙ is.refused;
       }
 
-can_be : (options : Options) (now : ℕ) (body : List ℕ) (outcomes : List Outcome) (incoming : Incoming)
-    (batch : Option (List Numbered)) → IsIncoming options (pos now) body outcomes incoming → incoming.batch ≡ batch
-    → (incoming.batch ≡ None → ⊥) → CanBeBatch options now body outcomes
-can_be options now body outcomes incoming None is is_none some = absurd (some is_none)
-can_be options now body outcomes incoming (Some part) is is_some some =
-    let holds = subst (λ batch. HoldsRows batch (rows_read outcomes)) is_some is.holds in
-    record { given = is.given; some = holds.0; light = holds.1 }
+  pub can_insert : (incoming : Incoming) (batch : Option Batch) → incoming.batch ≡ batch → incoming.batch ≢ None
+      → HoldsRows batch (rows_read outcomes) → CanBeBatch options now body outcomes
+  can_insert incoming None is some holds = absurd (some is)
+  can_insert incoming (Some batch) is some holds = can_be options now body outcomes batch given holds
 
--- why rows are not committed
-pub refuses_rows : (options : Options) (now : ℕ) (body : List ℕ) (outcomes : List Outcome) (incoming : Incoming)
-    (held : Contents (List Numbered)) (fault : InsertionFault) → IsIncoming options (pos now) body outcomes incoming
-    → IsUncommitted incoming held fault
-    → RefusesLines (λ entry. true) options now body (seen_of held) (seen_of held) fault
-refuses_rows options now body outcomes incoming held (Large weight) is why = absurd why
-refuses_rows options now body outcomes incoming held (Full limit) is why =
-    (why.1, (follows (seen_of held), (outcomes, can_be options now body outcomes incoming incoming.batch is refl why.0, why.2)))
-refuses_rows options now body outcomes incoming held Spent is why =
-    (follows (seen_of held), (outcomes, can_be options now body outcomes incoming incoming.batch is refl why.0, why.1, why.2))
-refuses_rows options now body outcomes incoming held Memory is why = follows (seen_of held)
+  refuses_for : (why : InsertFault) → CanBeBatch options now body outcomes → IsRefused caller old new why
+      → RefusesLines caller options now body old new (fault_of why)
+  refuses_for (desk.Full held) can is = (is.2, (is.0, (outcomes, can, is.1)))
+  refuses_for desk.Spent can is = (is.0, (outcomes, can, is.1, is.2))
+  refuses_for desk.Memory can is = is
+
+  -- why rows are not inserted
+  pub refuses_rows : (incoming : Incoming) (fault : InsertionFault)
+      → IsIncoming options (pos now) body outcomes incoming → IsUncommitted caller incoming old new fault
+      → RefusesLines caller options now body old new fault
+  refuses_rows incoming fault is (some, (why, same, refused)) =
+      subst (RefusesLines caller options now body old new) (sym same)
+      (refuses_for why (can_insert incoming incoming.batch refl some is.holds) refused)
+
+-- Where there is room it is for the lines, or for memory.
+pub refuses_with_room : (caller : Caller) (options : Options) (now : ℕ) (body : List ℕ) (old new : Seen)
+    (fault : InsertionFault) → HasRoom new → RefusesLines caller options now body old new fault → IsOfLines fault
+refuses_with_room caller options now body old new (Large weight) room why = tt
+refuses_with_room caller options now body old new (Full limit) room why =
+    let full : IsFull new = why.1.1.2 in absurd (omega (arith, room.few, full))
+refuses_with_room caller options now body old new Spent room why =
+    let last : HasLastNumber new = why.1.3 in absurd (omega (arith, room.numbered, last))
+refuses_with_room caller options now body old new Memory room why = tt
 
 -- why lines make no batch
-pub refuses_lines : (options : Options) (now : ℕ) (body : List ℕ) (held : Contents (List Numbered))
+pub refuses_lines : (caller : Caller) (options : Options) (now : ℕ) (body : List ℕ) (seen : Seen)
     (fault : InsertionFault) → IsUnread options (pos now) body fault
-    → RefusesLines (λ entry. true) options now body (seen_of held) (seen_of held) fault
-refuses_lines options now body held (Large weight) unread = (refl, unread)
-refuses_lines options now body held (Full limit) unread = absurd unread
-refuses_lines options now body held Spent unread = absurd unread
-refuses_lines options now body held Memory unread = follows (seen_of held)
+    → RefusesLines caller options now body seen seen fault
+refuses_lines caller options now body seen (Large weight) unread = (refl, unread)
+refuses_lines caller options now body seen (Full limit) unread = absurd unread
+refuses_lines caller options now body seen Spent unread = absurd unread
+refuses_lines caller options now body seen Memory unread = follows_none caller seen

@@ -1,3 +1,4 @@
+mod SeenLemmas
 pub mod GrowLemmas
 pub mod TurnLemmas
 pub mod RequestLemmas
@@ -6,13 +7,11 @@ pub mod StatusLemmas
 mod InsertLemmas
 mod PreparedLemmas
 mod InsertionLemmas
-mod CommitLemmas
 mod AnswerLemmas
 mod QueryLemmas
 mod ResultLemmas
 mod SelectLemmas
 mod SyslogLists
-mod SyslogCommit
 mod SyslogFrames
 mod SyslogStory
 mod SyslogIntake

@@ -1,5 +1,5 @@
 -- Replies to inserts, around the number of their batch.
-use Rattle.std.proofs.Common.{◌≡◌, ◌⊎◌, inl, inr, ℕ, ◌^◌, ◌<◌, Bool, true, false, List, [], ◌∷◌, ◌++◌, length, is_some, refl, ap, sym, ◌∙◌, arith}
+use Rattle.std.proofs.Common.{◌≡◌, ◌⊎◌, inl, inr, ℕ, ◌^◌, ◌<◌, Bool, true, false, List, [], ◌∷◌, ◌++◌, length, is_some, refl, ap, sym, ◌∙◌}
 use Rattle.std.proofs.Common.{append_assoc}
 use Rattle.std.specs.Prelude.{codes, decimal, flat_map, string_bytes}
 use Rattle.log_model.specs.Field.{Field}
@@ -16,8 +16,7 @@ use Rattle.vl_session.specs.Prepared.{IsPreparedFor, content_with}
 use Rattle.vl_session.specs.Said.{first_member, later_member, refused_text}
 use Rattle.vl_session.specs.declared.insert.Incoming.{Incoming}
 use Rattle.vl_session.specs.declared.prepared_reply.NumberedReply.{NumberedReply}
-use Rattle.vl_session.specs.declared.prepared_reply.PreparedReply.{PreparedReply}
-use Rattle.vl_session.specs.declared.prepared_reply.PreparedReply.TheVariants.{Whole, Numbered}
+use Rattle.vl_session.specs.declared.prepared_reply.PreparedReply.TheVariants.{Numbered}
 use Rattle.vl_session.proofs.InsertLemmas.{batch_is, filled_number, line_members}
 
 abbrev pub accepted_text : ℕ → List ℕ

@@ -1,12 +1,9 @@
 -- Queries over what is held.
 use Rattle.std.proofs.lemmas.Int.{ints}
-use Rattle.std.proofs.Common.{arith, ◌≡◌, ◌≢◌, ℕ, ℤ, pos, negsuc, unsigned_abs, ◌≤ℤ◌, List, ◌++◌, length, flat_map, Some, refl, sym, ap, subst, ◌∙◌}
+use Rattle.std.proofs.Common.{arith, ◌≡◌, ◌≢◌, ℕ, ℤ, pos, negsuc, unsigned_abs, ◌≤ℤ◌, List, length, Some, refl, sym, ap, subst, ◌∙◌}
 use Rattle.std.specs.List.{AllByRecursion}
-use Rattle.log_model.specs.Core.{Contents, parts_of}
-use Rattle.log_model.specs.History.{History, Numbered, rows_in, rows_of}
-use Rattle.log_core.specs.History.{history_of}
-use Rattle.log_core.specs.Shared.{contents_of}
-use Rattle.log_core.proofs.History.{rows_of-history}
+use Rattle.log_model.specs.History.{History, rows_of}
+use Rattle.log_model.specs.Row.{Row}
 use Rattle.lq_ast.specs.Evaluation as evaluation
 use Rattle.lq_ast.specs.Evaluation.{evaluate}
 use Rattle.lq_ast.specs.Patterns.{CanBeRead, all_patterns}
@@ -31,25 +28,16 @@ pub same_moment : (now : ℤ) → pos 0 ≤ℤ now → now ≡ pos (unsigned_abs
 same_moment (pos n) from = refl
 same_moment (negsuc n) from = absurd (omega (arith, ints))
 
--- the rows of the parts are those of the history
-pub rows_held : (held : Contents (List Numbered)) → held ≡ contents_of held.unsettled
-    → flat_map rows_in (parts_of held) ≡ rows_of (history_of held)
-rows_held held plain =
-    ap (λ (days : List (List Numbered)). flat_map rows_in (days ++ held.unsettled))
-    (ap (λ (held : Contents (List Numbered)). held.days) plain)
-    ∙ sym (rows_of-history held.unsettled)
-
-pub evaluates : (text : List ℕ) (now : ℤ) (query : Question) (held : Contents (List Numbered))
-    (outcome : evaluation.Outcome) → pos 0 ≤ℤ now → held ≡ contents_of held.unsettled → IsQueryText text query
-    → AllByRecursion CanBeRead (all_patterns query)
-    → evaluate query now (flat_map rows_in (parts_of held)) ≡ outcome
-    → Evaluates text (unsigned_abs now) (history_of held) outcome
-evaluates text now query held outcome from plain spelled readable evaluated = record {
+pub evaluates : (text : List ℕ) (now : ℤ) (query : Question) (rows : List Row) (history : History)
+    (outcome : evaluation.Outcome) → pos 0 ≤ℤ now → rows_of history ≡ rows → IsQueryText text query
+    → AllByRecursion CanBeRead (all_patterns query) → evaluate query now rows ≡ outcome
+    → Evaluates text (unsigned_abs now) history outcome
+evaluates text now query rows history outcome from are spelled readable evaluated = record {
   query = query;
   spelled = spelled;
   readable = readable;
-  evaluated = ap (λ moment. evaluate query moment (rows_of (history_of held))) (sym (same_moment now from))
-      ∙ ap (evaluate query now) (sym (rows_held held plain)) ∙ evaluated;
+  evaluated = ap (λ moment. evaluate query moment (rows_of history)) (sym (same_moment now from))
+      ∙ ap (evaluate query now) are ∙ evaluated;
 }
 
 -- why a text is not asked
@@ -61,26 +49,26 @@ refused_text text now history (refusals.Pattern nth) refuses lasting = refuses
 refused_text text now history refusals.Memory refuses lasting = tt
 
 -- why a query has no answer
-pub failed_run : (text : List ℕ) (now : ℤ) (query : Question) (held : Contents (List Numbered)) (fault : RunFault)
-    → pos 0 ≤ℤ now → held ≡ contents_of held.unsettled → IsQueryText text query
+pub failed_run : (text : List ℕ) (now : ℤ) (query : Question) (rows : List Row) (history : History) (fault : RunFault)
+    → pos 0 ≤ℤ now → rows_of history ≡ rows → IsQueryText text query
     → AllByRecursion CanBeRead (all_patterns query)
-    → FailsOver query now (flat_map rows_in (parts_of held)) fault
-    → FailsQuery text (unsigned_abs now) (history_of held) (fault_of_run fault)
-failed_run text now query held ManyRows from plain spelled readable fails =
-    evaluates text now query held evaluation.many_rows from plain spelled readable fails
-failed_run text now query held (Overflow name) from plain spelled readable fails =
-    evaluates text now query held (evaluation.overflow name) from plain spelled readable fails
-failed_run text now query held Memory from plain spelled readable fails = tt
+    → FailsOver query now rows fault
+    → FailsQuery text (unsigned_abs now) history (fault_of_run fault)
+failed_run text now query rows history ManyRows from are spelled readable fails =
+    evaluates text now query rows history evaluation.many_rows from are spelled readable fails
+failed_run text now query rows history (Overflow name) from are spelled readable fails =
+    evaluates text now query rows history (evaluation.overflow name) from are spelled readable fails
+failed_run text now query rows history Memory from are spelled readable fails = tt
 
 -- the answer to a query
-pub answered_run : (text : List ℕ) (now : ℤ) (query : Question) (held : Contents (List Numbered)) (answer : Answer)
-    → pos 0 ≤ℤ now → held ≡ contents_of held.unsettled → IsQueryText text query
-    → AllByRecursion CanBeRead (all_patterns query) → answer.front ≡ length (history_of held)
-    → IsAnswerOver query now (flat_map rows_in (parts_of held)) answer.lines
-    → IsQueryAnswer text (unsigned_abs now) (history_of held) answer
-answered_run text now query held answer from plain spelled readable front over = record {
+pub answered_run : (text : List ℕ) (now : ℤ) (query : Question) (rows : List Row) (history : History) (answer : Answer)
+    → pos 0 ≤ℤ now → rows_of history ≡ rows → IsQueryText text query
+    → AllByRecursion CanBeRead (all_patterns query) → answer.front ≡ length history
+    → IsAnswerOver query now rows answer.lines
+    → IsQueryAnswer text (unsigned_abs now) history answer
+answered_run text now query rows history answer from are spelled readable front over = record {
   records = over.found;
-  evaluated = evaluates text now query held (evaluation.records over.found) from plain spelled readable over.evaluated;
+  evaluated = evaluates text now query rows history (evaluation.records over.found) from are spelled readable over.evaluated;
   lines = over.printed;
   front = front;
 }

@@ -1,8 +1,8 @@
 -- What a query comes to is one thing.
-use Rattle.std.proofs.Common.{◌≡◌, ◌⊎◌, inl, inr, refl, ℕ, zero, suc, pos, List, [], ◌∷◌, Bool, Result, Ok, Err, sym, ap, subst, ◌∙◌}
+use Rattle.std.proofs.Common.{◌≡◌, ◌⊎◌, inl, inr, refl, ℕ, zero, suc, pos, List, [], ◌∷◌, Result, Ok, Err, sym, ap, subst, ◌∙◌}
 use Rattle.std.specs.Prelude.{slice_get, IsSomeAnd}
 use Rattle.std.specs.List.{AllByRecursion}
-use Rattle.log_model.specs.History.{Entry, History, rows_of}
+use Rattle.log_model.specs.History.{History, rows_of}
 use Rattle.http_reply.specs.Reply.{reply_bytes}
 use Rattle.http_route.specs.Route.{Wanted, delivery_of, wanted_of}
 use Rattle.http_route.specs.declared.refusal.Refusal.{Refusal}
@@ -14,6 +14,7 @@ use Rattle.lq_ast.specs.Records.{Record}
 use Rattle.lq_grammar.specs.Query.{IsQueryText, QueryOf}
 use Rattle.lq_grammar.specs.declared.fault.QueryFault.{QueryFault}
 use Rattle.query_run.specs.Asked.{HasUnreadablePattern, IsReadableQuery, IsUnspelled}
+use Rattle.log_desk.specs.Seen.{Caller}
 use Rattle.vl_session.specs.Answer.{FailsQuery, HasRecords, IsOfEvaluation}
 use Rattle.vl_session.specs.Query.{Evaluates, HasQueryOutcome, QueryOutcome, found, many_rows, overflows, unreadable}
 use Rattle.vl_session.specs.Query.{query_content, query_status, unspelled}
@@ -137,9 +138,9 @@ module _ (only : IsOnlyFound) (text : List ℕ) (now : ℕ) (history : History) 
   only_memory (records, has) faults.Memory fails = refl
 
 -- A select whose query has records is answered with their lines, or for want of memory.
-pub select_answered : HaveOne → (mine : Entry → Bool) (select : Select) → IsSelectServed mine select
+pub select_answered : HaveOne → (caller : Caller) (select : Select) → IsSelectServed caller select
     → IsSelectAnswered select
-select_answered have mine select is = said is.served.answers
+select_answered have caller select is = said is.served.answers
   where
     said : Answers (wanted_of select.asked) select.asked.body select.now select.new
         (delivery_of select.asked select.closes) select.effect select.reply

@@ -61,7 +61,7 @@ pub cut_fault : (fed : List ℕ) (taken : ℕ) (source : Change) (framer new : F
 cut_fault fed taken source framer new old messages (faults.BadLength at) h is within empty gave spent f = absurd f
 cut_fault fed taken source framer new old messages (faults.TooLong at) h is within empty gave spent f = absurd f
 cut_fault fed taken source framer new old messages (faults.Cut at) h is within empty gave spent f =
-    (gave, (spent, h.goes_on, f.1, at_is), f.3 ∙ empty)
+    (gave, (spent, h.goes_on, f.1, at_is, omega (arith, is, within)), f.3 ∙ empty)
   where
     at_is : at ≡ place_in fed framer.rest 0
     at_is = omega (arith, f.2, h.start)

@@ -1,5 +1,5 @@
 -- Messages that are taken up one after another, and a batch after another.
-use Rattle.std.proofs.Common.{◌≡◌, ℕ, ◌<◌, ◌+◌, ◌-◌, ◌*◌, ◌≤◌, true, List, [], ◌∷◌, ◌++◌, length, drop}
+use Rattle.std.proofs.Common.{◌≡◌, ℕ, ◌<◌, ◌+◌, ◌-◌, ◌*◌, ◌≤◌, List, [], ◌∷◌, ◌++◌, length, drop}
 use Rattle.std.proofs.Common.{Option, None, Some}
 use Rattle.std.proofs.Common.{refl, sym, ap, subst, ◌∙◌, arith, append-nil}
 use Rattle.std.proofs.lemmas.List.{length-append}
@@ -7,11 +7,15 @@ use Rattle.log_model.specs.Row.{Batch, Row}
 use Rattle.vl_row.specs.declared.row.RowFault.{RowFault}
 use Rattle.syslog_in.specs.declared.fault.MessageFault.{MessageFault}
 use Rattle.ingest_row.specs.declared.syslog.SyslogKind.TheVariants as kinds
-use Rattle.vl_session.specs.Seen.{Seen}
-use Rattle.vl_session.specs.SyslogSession.{AreBatches, IsOutcome, TakesAll, moment_of, rows_read}
-use Rattle.vl_session.specs.SyslogTaking.{BeginWith, TakesUp, batch_of}
+use Rattle.log_desk.specs.Seen.{Caller, Seen}
+use Rattle.log_desk.specs.declared.fault.InsertFault.{InsertFault}
+use Rattle.log_desk.specs.declared.fault.InsertFault.TheVariants as desk
+use Rattle.vl_session.specs.Seen.{Has, IsRefused, Takes}
+use Rattle.vl_session.specs.SyslogSession.{AreBatches, IsOutcome, TakesAll, end_effect, moment_of, rows_read}
+use Rattle.vl_session.specs.SyslogTaking.{BeginWith, HoldsUp, TakesSome, TakesUp, batch_of, end_of_insert}
 use Rattle.vl_session.specs.Turns.{GaveMoments}
 use Rattle.vl_session.specs.declared.syslog_intake.Counts.{Counts}
+use Rattle.vl_session.specs.declared.syslog_report.SyslogEnd.{SyslogEnd}
 use Rattle.vl_session.proofs.SyslogLists.{batches_append, none_append, one_batch, one_full, rows_append, rows_or_none}
 use Rattle.vl_session.proofs.SyslogLists.{takes_append, zip_append}
 
@@ -40,9 +44,29 @@ rows_same rows outcomes outcome are is =
 
 -- ---- one batch
 
-pub takes_first : (now : ℕ) (messages : List (List ℕ)) (seen : Seen) (counts : Counts)
-    → TakesUp now messages seen seen counts counts [] []
-takes_first now messages seen counts = record {
+-- the rows are one batch
+pub takes_one : (caller : Caller) (old new : Seen) (rows : List Row) → 0 < length rows → Takes caller old new rows
+    → TakesAll caller old (batch_of rows) new
+takes_one caller old new [] some takes = absurd (omega (arith, some))
+takes_one caller old new (row ∷ rows) some takes = (new, takes, refl)
+
+-- why they are not
+pub held_up : (caller : Caller) (rows : List Row) (old new : Seen) (fault : InsertFault) → 0 < length rows
+    → IsRefused caller old new fault → HoldsUp rows new (end_of_insert fault)
+held_up caller rows old new (desk.Full held) some is = (some, is.2, is.1)
+held_up caller rows old new desk.Spent some is = (some, is.1, is.2)
+held_up caller rows old new desk.Memory some is = tt
+
+-- what the refusal did
+pub refused_has : (caller : Caller) (old new : Seen) (fault : InsertFault) → IsRefused caller old new fault
+    → Has caller old new (end_effect (end_of_insert fault))
+refused_has caller old new (desk.Full held) is = is.0
+refused_has caller old new desk.Spent is = is.0
+refused_has caller old new desk.Memory is = is
+
+pub takes_first : (caller : Caller) (now : ℕ) (messages : List (List ℕ)) (seen : Seen) (counts : Counts)
+    → TakesUp caller now messages seen seen counts counts [] []
+takes_first caller now messages seen counts = record {
   given = tt;
   cut = refl;
   full = λ less. omega arith;
@@ -65,15 +89,15 @@ full_more outcomes more batches rows are one full = omega (
   length-append batches (batch_of rows),
 )
 
-pub takes_more : (now at : ℕ) (messages : List (List ℕ)) (old mid new : Seen) (before counts after : Counts)
+pub takes_more : (caller : Caller) (now at : ℕ) (messages : List (List ℕ)) (old mid new : Seen) (before counts after : Counts)
     (outcomes more : List (Option Row)) (batches : List Batch) (rows : List Row)
-    → TakesUp now messages old mid before counts outcomes batches → at ≡ length outcomes
+    → TakesUp caller now messages old mid before counts outcomes batches → at ≡ length outcomes
     → BeginWith now (drop at messages) more → rows ≡ rows_read more → length rows ≤ 256
     → at < length messages → (at + length more < length messages → length rows ≡ 256)
-    → TakesAll (λ entry. true) mid (batch_of rows) new → after.accepted ≡ counts.accepted + length rows
+    → TakesAll caller mid (batch_of rows) new → after.accepted ≡ counts.accepted + length rows
     → after.refused ≡ counts.refused + (length more - length rows)
-    → TakesUp now messages old new before after (outcomes ++ more) (batches ++ batch_of rows)
-takes_more now at messages old mid new before counts after outcomes more batches rows t at_is given are few below last
+    → TakesUp caller now messages old new before after (outcomes ++ more) (batches ++ batch_of rows)
+takes_more caller now at messages old mid new before counts after outcomes more batches rows t at_is given are few below last
     taken accepted refused =
     let full : length (rows_read outcomes) ≡ 256 * length batches = t.full (omega (arith, at_is, below)) in
     let behind : BeginWith now (drop (length outcomes) messages) more =
@@ -85,7 +109,7 @@ takes_more now at messages old mid new before counts after outcomes more batches
           (batches_append (rows_read outcomes) rows batches (batch_of rows) t.cut full (one_batch rows few));
       full = λ less. full_more outcomes more batches rows are
           (last (omega (arith, at_is, less, length-append outcomes more))) full;
-      taken = takes_append (λ entry. true) old mid new batches (batch_of rows) t.taken taken;
+      taken = takes_append caller old mid new batches (batch_of rows) t.taken taken;
       accepted = omega (
         arith,
         t.accepted,
@@ -109,25 +133,40 @@ pub few_rows : (more : List (Option Row)) (rows : List Row) → rows ≡ rows_re
 few_rows more rows are = omega (arith, ap length are, rows_or_none more)
 
 -- so the counts go no further than the messages
-pub few_counted : (now : ℕ) (messages : List (List ℕ)) (old new : Seen) (before after : Counts)
-    (outcomes : List (Option Row)) (batches : List Batch) → TakesUp now messages old new before after outcomes batches
+pub few_counted : (caller : Caller) (now : ℕ) (messages : List (List ℕ)) (old new : Seen) (before after : Counts)
+    (outcomes : List (Option Row)) (batches : List Batch) → TakesUp caller now messages old new before after outcomes batches
     → after.accepted + after.refused ≡ before.accepted + before.refused + length outcomes
-few_counted now messages old new before after outcomes batches t =
+few_counted caller now messages old new before after outcomes batches t =
     omega (arith, t.accepted, t.refused, rows_or_none outcomes)
 
 -- no message came
-pub takes_none : (messages : List (List ℕ)) (seen : Seen) (counts : Counts) (t : Option (List ℕ)) → messages ≡ []
+pub takes_none : (caller : Caller) (messages : List (List ℕ)) (seen : Seen) (counts : Counts) (t : Option (List ℕ)) → messages ≡ []
     → (now : ℕ) × (outcomes : List (Option Row)) × (batches : List Batch) × GaveMoments t t (moment_of messages now)
-    × TakesUp now messages seen seen counts counts outcomes batches × (length outcomes ≡ length messages)
-takes_none messages seen counts t none = (
+    × TakesUp caller now messages seen seen counts counts outcomes batches × (length outcomes ≡ length messages)
+takes_none caller messages seen counts t none = (
   0,
   [],
   [],
   subst (λ l. GaveMoments t t (moment_of l 0)) (sym none) (silent t),
-  takes_first 0 messages seen counts,
+  takes_first caller 0 messages seen counts,
   sym (ap length none),
 )
   where
     silent : (t : Option (List ℕ)) → GaveMoments t t []
     silent None = tt
     silent (Some moments) = sym (append-nil moments)
+
+-- No more could be taken up.
+pub takes_some : (caller : Caller) (now : ℕ) (messages : List (List ℕ)) (old mid new : Seen) (before after : Counts)
+    (outcomes later : List (Option Row)) (batches : List Batch) (end : SyslogEnd)
+    → TakesUp caller now messages old mid before after outcomes batches → Has caller mid new (end_effect end)
+    → BeginWith now (drop (length outcomes) messages) later → HoldsUp (rows_read later) new end
+    → length outcomes < length messages
+    → TakesSome caller now messages old new before after outcomes batches end
+takes_some caller now messages old mid new before after outcomes later batches end t has given held fewer = record {
+  mid = mid;
+  takes = t;
+  has = has;
+  stops = (later, given, held);
+  fewer = fewer;
+}

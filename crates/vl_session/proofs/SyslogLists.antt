@@ -1,16 +1,16 @@
 -- Messages, their rows and batches, one run behind another.
-use Rattle.std.proofs.Common.{◌≡◌, ℕ, suc, zero, ◌+◌, ◌*◌, ◌≤◌, Bool, List, [], ◌∷◌, ◌++◌, length, take, drop, cond}
+use Rattle.std.proofs.Common.{◌≡◌, ℕ, suc, zero, ◌+◌, ◌*◌, ◌≤◌, List, [], ◌∷◌, ◌++◌, length, take, drop, cond}
 use Rattle.std.proofs.Common.{Option, None, Some, refl, sym, ap, subst, ◌∙◌, arith, append-nil}
 use Rattle.std.specs.Prelude.{count_by, is_none, slice_get, flat_map}
 use Rattle.std.specs.List.{AllByRecursion, AllZip}
 use Rattle.std.proofs.lemmas.Grind.{flat_map-append}
-use Rattle.std.proofs.lemmas.List.{take-append-le, drop-append-le, length-drop, length-append}
+use Rattle.std.proofs.lemmas.List.{take-append-le, drop-append-le, length-drop, length-append, take-append-drop}
 use Rattle.std.proofs.lemmas.List.Sums.{sum_by-append}
-use Rattle.log_model.specs.History.{Entry}
 use Rattle.log_model.specs.Field.{weight}
 use Rattle.log_model.specs.Row.{Batch, IsRow, Row, batch_weight}
-use Rattle.vl_session.specs.Seen.{Seen}
-use Rattle.vl_session.specs.SyslogSession.{AreBatches, IsOutcome, TakesAll, rows_read}
+use Rattle.log_desk.specs.Seen.{Caller, Seen}
+use Rattle.vl_session.specs.SyslogSession.{AreBatches, IsOutcome, IsTakenUp, Read, TakesAll, batches_of, outcomes_of}
+use Rattle.vl_session.specs.SyslogSession.{rows_read}
 use Rattle.vl_session.specs.SyslogTaking.{BeginWith, batch_of}
 
 -- ---- what holds of the first elements of a list and those of another
@@ -120,11 +120,11 @@ pub no_batches : (batches : List Batch) → AreBatches [] batches → batches �
 no_batches [] a = refl
 no_batches (batch ∷ batches) a = absurd (omega (arith, a.0, ap length a.1))
 
-pub takes_append : (mine : Entry → Bool) (old mid new : Seen) (batches others : List Batch)
-    → TakesAll mine old batches mid → TakesAll mine mid others new → TakesAll mine old (batches ++ others) new
-takes_append mine old mid new [] others same b = subst (λ seen. TakesAll mine seen others new) same b
-takes_append mine old mid new (batch ∷ batches) others a b =
-    (a.0, a.1, takes_append mine a.0 mid new batches others a.2 b)
+pub takes_append : (caller : Caller) (old mid new : Seen) (batches others : List Batch)
+    → TakesAll caller old batches mid → TakesAll caller mid others new → TakesAll caller old (batches ++ others) new
+takes_append caller old mid new [] others same b = subst (λ seen. TakesAll caller seen others new) same b
+takes_append caller old mid new (batch ∷ batches) others a b =
+    (a.0, a.1, takes_append caller a.0 mid new batches others a.2 b)
 
 -- ---- messages that are read one after another
 
@@ -148,3 +148,22 @@ light_more rows row light is = omega (
   sum_by-append (λ (row : Row). weight row.fields) rows (row ∷ []),
   length-append rows (row ∷ []),
 )
+
+-- Batches, joined, are the rows that they are made of.
+batches_joined : (rows : List Row) (batches : List Batch) → AreBatches rows batches
+    → flat_map (λ batch. batch) batches ≡ rows
+batches_joined rows [] none = sym none
+batches_joined rows (batch ∷ batches) are =
+    ap (λ later. batch ++ later) (batches_joined (drop 256 rows) batches are.2)
+    ∙ ap (λ (first : List Row). first ++ drop 256 rows) are.1 ∙ take-append-drop 256 rows
+
+-- So are those of all reads.
+pub reads_joined : (reads : List Read) → AllByRecursion IsTakenUp reads
+    → flat_map (λ batch. batch) (batches_of reads) ≡ rows_read (outcomes_of reads)
+reads_joined [] each = refl
+reads_joined (read ∷ reads) each =
+    flat_map-append (λ (batch : Batch). batch) read.batches (batches_of reads)
+    ∙ ap (λ (rows : List Row). rows ++ flat_map (λ batch. batch) (batches_of reads))
+    (batches_joined (rows_read read.outcomes) read.batches each.0.cut)
+    ∙ ap (λ (rows : List Row). rows_read read.outcomes ++ rows) (reads_joined reads each.1)
+    ∙ sym (rows_append read.outcomes (outcomes_of reads))

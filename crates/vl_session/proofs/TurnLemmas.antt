@@ -7,10 +7,10 @@ use Rattle.vl_io.specs.Bytes.{Appends}
 use Rattle.vl_io.specs.Change.{IsCut}
 use Rattle.vl_io.specs.Faults.{Rose}
 use Rattle.vl_io.specs.Moments.{Tells}
-use Rattle.log_model.specs.History.{Entry}
 use Rattle.http_in.specs.Message.{Asked}
 use Rattle.vl_session.specs.Reply.{IsServed}
-use Rattle.vl_session.specs.Seen.{Effect, Seen}
+use Rattle.log_desk.specs.Seen.{Caller, Seen}
+use Rattle.vl_session.specs.Seen.{Effect}
 use Rattle.vl_session.specs.Sent.{Serves}
 use Rattle.vl_session.specs.Turns.{AreTurns, GaveMoments, IsDone, IsTurn, Turn, closes_after, replies_of}
 use Rattle.vl_session.specs.declared.report.Done.{Done}
@@ -20,24 +20,24 @@ abbrev pub turn_of : Asked → ℕ → Effect → Seen → List ℕ → Turn
 turn_of asked now effect seen reply =
     record { asked = asked; now = now; effect = effect; seen = seen; reply = reply }
 
-pub served : (mine : Entry → Bool) (asked : Asked) (closes : Bool) (now : ℕ) (old new : Seen) (effect : Effect)
+pub served : (caller : Caller) (asked : Asked) (closes : Bool) (now : ℕ) (old new : Seen) (effect : Effect)
     (reply : List ℕ) (dones dones_new : List Done) (done : Done)
-    → IsServed mine asked closes now old new effect reply
+    → IsServed caller asked closes now old new effect reply
     → closes ≡ closes_after (length dones) asked → done.now ≡ pos now → done.front ≡ length new.history
     → done.settled ≡ new.settled → dones_new ≡ dones ++ done ∷ []
-    → Serves mine asked old new dones dones_new (turn_of asked now effect new reply)
-served mine asked closes now old new effect reply dones dones_new done is same at front settled noted = record {
+    → Serves caller asked old new dones dones_new (turn_of asked now effect new reply)
+served caller asked closes now old new effect reply dones dones_new done is same at front settled noted = record {
   asked_is = refl;
-  served = subst (λ b. IsServed mine asked b now old new effect reply) same is;
+  served = subst (λ b. IsServed caller asked b now old new effect reply) same is;
   seen = refl;
   done = done;
   shown = record { now = at; front = front; settled = settled };
   noted = noted;
 }
 
-pub serves_as : (mine own : Entry → Bool) (asked : Asked) (old new : Seen) (dones dones_new : List Done) (turn : Turn)
-    → mine ≡ own → Serves mine asked old new dones dones_new turn → Serves own asked old new dones dones_new turn
-serves_as mine own asked old new dones dones_new turn same s =
+pub serves_as : (caller other : Caller) (asked : Asked) (old new : Seen) (dones dones_new : List Done) (turn : Turn)
+    → caller ≡ other → Serves caller asked old new dones dones_new turn → Serves other asked old new dones dones_new turn
+serves_as caller other asked old new dones dones_new turn same s =
     subst (λ m. Serves m asked old new dones dones_new turn) same s
 
 pub told_at : (a b : Option (List ℕ)) (now : ℕ) (turn : Turn) → turn.now ≡ now → Tells a b (pos now)
@@ -62,17 +62,17 @@ last_is turn asked t is last = ap (λ (a : Asked). a.last) is ∙ last
 
 -- ---- one turn more
 
-pub AreTurns-more : (mine : Entry → Bool) (before : ℕ) (old mid new : Seen) (turns : List Turn) (turn : Turn)
-    → AreTurns mine before old turns mid → IsTurn mine (before + length turns) mid turn → new ≡ turn.seen
-    → AreTurns mine before old (turns ++ turn ∷ []) new
-AreTurns-more mine before old mid new [] turn a t e =
+pub AreTurns-more : (caller : Caller) (before : ℕ) (old mid new : Seen) (turns : List Turn) (turn : Turn)
+    → AreTurns caller before old turns mid → IsTurn caller (before + length turns) mid turn → new ≡ turn.seen
+    → AreTurns caller before old (turns ++ turn ∷ []) new
+AreTurns-more caller before old mid new [] turn a t e =
     let none : before + length {A = Turn} [] ≡ before = omega arith in
-    (subst (λ n. IsTurn mine n old turn) none (subst (λ s. IsTurn mine (before + length {A = Turn} []) s turn) a t), e)
-AreTurns-more mine before old mid new (first ∷ later) turn a t e =
+    (subst (λ n. IsTurn caller n old turn) none (subst (λ s. IsTurn caller (before + length {A = Turn} []) s turn) a t), e)
+AreTurns-more caller before old mid new (first ∷ later) turn a t e =
     let count : before + length (first ∷ later) ≡ suc before + length later = omega arith in (
       a.0,
-      AreTurns-more mine (suc before) first.seen mid new later turn a.1
-          (subst (λ n. IsTurn mine n mid turn) count t)
+      AreTurns-more caller (suc before) first.seen mid new later turn a.1
+          (subst (λ n. IsTurn caller n mid turn) count t)
           e,
     )
 

@@ -11,6 +11,7 @@ use Rattle.query_run.specs.declared.query.QueryRefusal.{QueryRefusal}
 use Rattle.query_run.specs.declared.query.QueryRefusal.TheVariants as refusals
 use Rattle.vl_session.specs.Query.{Evaluates, HasQueryOutcome, QueryOutcome, found, many_rows, overflows, unreadable}
 use Rattle.vl_session.specs.Query.{unspelled}
+use Rattle.vl_session.specs.Seen.{Effect, asks, looks, nothing}
 use Rattle.vl_session.specs.declared.answer.Answer.{Answer}
 use Rattle.vl_session.specs.declared.answer.AnswerFault.{AnswerFault}
 use Rattle.vl_session.specs.declared.answer.AnswerFault.TheVariants.{Query, RegexRefused, ManyRows, Overflow, Memory}
@@ -42,6 +43,16 @@ IsOfEvaluation (RegexRefused nth) = ⊥
 IsOfEvaluation ManyRows = Unit {0}
 IsOfEvaluation (Overflow name) = Unit {0}
 IsOfEvaluation Memory = Unit {0}
+
+-- ---- what was seen of the log
+
+-- Only a query that can be asked looks at it. Where memory ran out it may have been looked at.
+abbrev pub fault_effect : AnswerFault → Effect
+fault_effect (Query fault) = nothing
+fault_effect (RegexRefused nth) = nothing
+fault_effect ManyRows = looks
+fault_effect (Overflow name) = looks
+fault_effect Memory = asks
 
 -- ---- what other faults are to the caller
 

@@ -1,27 +1,24 @@
--- Lines that were read, on their way into the shared state.
+-- Lines that were read, on their way to the desk.
 use Rattle.std.specs.Prelude.{◌≡◌, ◌≢◌, ℕ, ℤ, ◌+◌, ◌-◌, ◌^◌, ◌<◌, ◌≤◌, List, [], ◌∷◌, ◌++◌, length, min, Option, None, Some}
 use Rattle.std.specs.Prelude.{Bool, codes, decimal, if◌then◌else◌, is_some}
-use Rattle.log_model.specs.Core.{Contents, held_limit}
 use Rattle.log_model.specs.Field.{Field}
-use Rattle.log_model.specs.History.{Numbered, numbered_in}
-use Rattle.log_model.specs.Row.{Row, batch_limit, batch_weight}
-use Rattle.log_core.specs.declared.fault.CommitFault.{CommitFault}
-use Rattle.log_core.specs.declared.fault.CommitFault.TheVariants as commits
-use Rattle.log_core.specs.History.{entries_of, history_of}
+use Rattle.log_model.specs.Row.{Batch, Row, batch_limit, batch_weight}
+use Rattle.log_desk.specs.Seen.{Caller, Seen}
+use Rattle.log_desk.specs.declared.fault.InsertFault.{InsertFault}
+use Rattle.log_desk.specs.declared.fault.InsertFault.TheVariants as desk
 use Rattle.ingest_row.specs.Ingest.{Options}
 use Rattle.ingest_row.specs.Intake.{IsIntake, Outcome, refused_from, rows_read}
-use Rattle.vl_session.specs.Insert.{HasRoom, InsertOutcome, fault_fields, full, large, spent}
-use Rattle.vl_session.specs.Insertion.{batch_number, seen_of}
+use Rattle.vl_session.specs.Insert.{InsertOutcome, fault_fields, full, large, spent}
+use Rattle.vl_session.specs.Seen.{IsRefused, Takes}
 use Rattle.vl_session.specs.declared.insert.Incoming.{Incoming}
 use Rattle.vl_session.specs.declared.insert.Insertion.{Insertion}
 use Rattle.vl_session.specs.declared.insert.InsertionFault.{InsertionFault}
 use Rattle.vl_session.specs.declared.insert.InsertionFault.TheVariants.{Large, Full, Spent, Memory}
 
--- the rows as one part, if there are any
-abbrev pub HoldsRows : Option (List Numbered) → List Row → Type 0
+-- the rows as one batch, if there are any
+abbrev pub HoldsRows : Option Batch → List Row → Type 0
 HoldsRows None rows = rows ≡ []
-HoldsRows (Some part) rows =
-    (0 < length rows) × (batch_weight rows ≤ batch_limit) × (part ≡ numbered_in 0 rows)
+HoldsRows (Some batch) rows = (0 < length rows) × (batch_weight rows ≤ batch_limit) × (batch ≡ rows)
 
 -- The lines of the body have these outcomes.
 pub record IsIncoming (options : Options) (now : ℤ) (body : List ℕ) (outcomes : List Outcome)
@@ -41,33 +38,27 @@ IsUnread options now body (Full held) = ⊥
 IsUnread options now body Spent = ⊥
 IsUnread options now body Memory = Unit {0}
 
--- Rows that are held were committed.
-pub record CommitsRows (rows : List Row) (old new : Contents (List Numbered)) (batch : Option ℕ) : Type 0 where
-  pub grows : history_of new ≡ history_of old ++ entries_of rows
-  pub settled : new.settled ≡ old.settled
-  pub batch_is : batch ≡ batch_number rows (history_of new)
-  pub room : 0 < length rows → HasRoom (seen_of old)
+-- The batch was inserted, if there is one, and this is its number.
+abbrev pub InsertsBatch : Caller → Option Batch → Seen → Seen → Option ℕ → Type 0
+InsertsBatch caller None old new number = (new ≡ old) × (number ≡ None)
+InsertsBatch caller (Some batch) old new number =
+    Takes caller old new batch × (number ≡ Some (length new.history))
 
-pub record Commits (incoming : Incoming) (old new : Contents (List Numbered)) (insertion : Insertion) : Type 0 where
+pub record Commits (caller : Caller) (incoming : Incoming) (old new : Seen) (insertion : Insertion) : Type 0 where
   pub accepted : insertion.accepted ≡ incoming.accepted
   pub refused : insertion.refused ≡ incoming.refused
-  pub rows : (rows : List Row) → HoldsRows incoming.batch rows → CommitsRows rows old new insertion.batch
+  pub inserts : InsertsBatch caller incoming.batch old new insertion.batch
 
--- what a fault of the shared state is to the caller
-abbrev pub fault_of : CommitFault → InsertionFault
-fault_of (commits.Full limit) = Full limit
-fault_of commits.Spent = Spent
-fault_of commits.Memory = Memory
+-- what a fault of the desk is to the caller
+abbrev pub fault_of : InsertFault → InsertionFault
+fault_of (desk.Full limit) = Full limit
+fault_of desk.Spent = Spent
+fault_of desk.Memory = Memory
 
--- why the rows are not committed
-abbrev pub IsUncommitted : Incoming → Contents (List Numbered) → InsertionFault → Type 0
-IsUncommitted incoming held (Large weight) = ⊥
-IsUncommitted incoming held (Full limit) =
-    (incoming.batch ≢ None) × (limit ≡ held_limit) × (length (history_of held) ≡ held.settled + held_limit)
-IsUncommitted incoming held Spent =
-    (incoming.batch ≢ None) × (length (history_of held) < held.settled + held_limit)
-    × (length (history_of held) ≡ 2 ^ 63 - 1)
-IsUncommitted incoming held Memory = Unit {0}
+-- why the rows are not inserted, if there are any
+abbrev pub IsUncommitted : Caller → Incoming → Seen → Seen → InsertionFault → Type 0
+IsUncommitted caller incoming old new fault =
+    (incoming.batch ≢ None) × ((why : InsertFault) × (fault ≡ fault_of why) × IsRefused caller old new why)
 
 -- a field with this value, if it is not empty
 abbrev pub filled : List ℕ → List ℕ → List Field

@@ -1,7 +1,6 @@
 -- What becomes of a body that is to be taken in (VictoriaLogs, "Data ingestion").
 use Rattle.std.specs.Prelude.{◌≡◌, ℕ, ◌+◌, ◌-◌, ◌^◌, ◌<◌, ◌≤◌, pos, List, [], ◌∷◌, ◌++◌, length, map, take, codes}
 use Rattle.std.specs.Prelude.{decimal, flat_map, min}
-use Rattle.log_model.specs.Core.{held_limit}
 use Rattle.log_model.specs.Field.{Field}
 use Rattle.log_model.specs.Print.{line_text}
 use Rattle.log_model.specs.Row.{batch_limit, batch_weight}
@@ -12,7 +11,8 @@ use Rattle.ingest_row.specs.Ingest.{Options}
 use Rattle.ingest_row.specs.Intake.{IsIntake, Outcome, refused_from, rows_read}
 use Rattle.ingest_row.specs.Refusal.{kind_text}
 use Rattle.ingest_row.specs.declared.body.LineFault.{LineFault}
-use Rattle.vl_session.specs.Seen.{Effect, Seen, adds, looks, nothing}
+use Rattle.log_desk.specs.Seen.{Seen}
+use Rattle.vl_session.specs.Seen.{Effect, HadRoom, IsFull, HasLastNumber, adds, looks, nothing}
 
 -- what a body comes to, whose lines have these outcomes
 pub data InsertOutcome : Type 0 where
@@ -33,16 +33,6 @@ pub record CanBeBatch (options : Options) (now : ℕ) (body : List ℕ) (outcome
   pub some : 0 < length (rows_read outcomes)
   pub light : batch_weight (rows_read outcomes) ≤ batch_limit
 
--- One more batch may be added to what has been seen: another may wait to be settled, and there is a number for it.
-pub record HasRoom (seen : Seen) : Type 0 where
-  pub few : length seen.history < seen.settled + held_limit
-  pub numbered : length seen.history < 2 ^ 63 - 1
-
--- The last batch was added where another might be.
-pub record HadRoom (seen : Seen) : Type 0 where
-  pub few : length seen.history ≤ seen.settled + held_limit
-  pub numbered : length seen.history ≤ 2 ^ 63 - 1
-
 -- A body that came in at that moment, and what had been seen once it was served. Of two causes the first counts.
 abbrev pub HasInsertOutcome : Options → ℕ → List ℕ → Seen → InsertOutcome → Type 0
 HasInsertOutcome options now body seen (no_row outcomes) =
@@ -54,10 +44,10 @@ HasInsertOutcome options now body seen (large weight) =
     × (batch_limit < batch_weight (rows_read outcomes))
 HasInsertOutcome options now body seen full =
     (outcomes : List Outcome) × CanBeBatch options now body outcomes
-    × (length seen.history ≡ seen.settled + held_limit)
+    × IsFull seen
 HasInsertOutcome options now body seen spent =
     (outcomes : List Outcome) × CanBeBatch options now body outcomes
-    × (length seen.history < seen.settled + held_limit) × (length seen.history ≡ 2 ^ 63 - 1)
+    × (IsFull seen → ⊥) × HasLastNumber seen
 
 abbrev pub insert_effect : InsertOutcome → Effect
 insert_effect (no_row outcomes) = nothing

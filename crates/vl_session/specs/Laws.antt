@@ -1,20 +1,23 @@
 -- What follows from the definition of a session.
-use Rattle.std.specs.Prelude.{◌≡◌, ℕ, ◌≤◌, Bool, List, ◌++◌, Option, filter}
+use Rattle.std.specs.Prelude.{◌≡◌, ◌⊎◌, ℕ, ◌+◌, ◌<◌, ◌≤◌, true, List, ◌++◌, Option, filter}
+use Rattle.std.specs.List.{AllByRecursion}
 use Rattle.vl_io.specs.Change.{Change}
 use Rattle.log_model.specs.History.{Entry, History, batches_in}
 use Rattle.log_model.specs.Row.{Batch}
 use Rattle.http_in.specs.Message.{Asked}
 use Rattle.http_in.specs.Requests.{AreRequests}
-use Rattle.vl_session.specs.Seen.{Seen}
+use Rattle.log_desk.specs.Seen.{Caller, IsStrange, Seen, is_own}
 use Rattle.vl_session.specs.Session.{IsSession}
+use Rattle.vl_session.specs.SyslogSession.{IsSyslogSession}
 use Rattle.vl_session.specs.Turns.{Turn, asked_in}
 use Rattle.vl_session.specs.declared.report.Done.{Done}
 use Rattle.vl_session.specs.declared.report.End.{End}
 use Rattle.vl_session.specs.declared.report.End.TheVariants as ends
+use Rattle.vl_session.specs.declared.syslog_report.SyslogReport.{SyslogReport}
 
 -- what a session is of: a caller, what it had seen before and then, the objects of the outside, and the report
 pub record Connection : Type 0 where
-  pub mine : Entry → Bool
+  pub caller : Caller
   pub first : Seen
   pub last : Seen
   pub source : Change
@@ -25,7 +28,20 @@ pub record Connection : Type 0 where
   pub end : End
 
 abbrev pub IsServedWhole : Connection → Type 0
-IsServedWhole c = IsSession c.mine c.first c.last c.source c.sink c.moments_old c.moments_new c.dones c.end
+IsServedWhole c = IsSession c.caller c.first c.last c.source c.sink c.moments_old c.moments_new c.dones c.end
+
+-- what a session of syslog is of
+pub record SyslogInput : Type 0 where
+  pub caller : Caller
+  pub first : Seen
+  pub last : Seen
+  pub source : Change
+  pub moments_old : Option (List ℕ)
+  pub moments_new : Option (List ℕ)
+  pub report : SyslogReport
+
+abbrev pub IsTakenWhole : SyslogInput → Type 0
+IsTakenWhole s = IsSyslogSession s.caller s.first s.last s.source s.moments_old s.moments_new s.report
 
 -- the session ended by its input, and not by its own limits or those of its sink
 abbrev pub IsByInput : End → Type 0
@@ -43,9 +59,17 @@ HaveTurns bytes turns =
     (requests : List Asked) (behind : List ℕ) → AreRequests bytes requests behind
     → (more : List Asked) × (asked_in turns ≡ requests ++ more)
 
--- The history goes on, and these are the caller's own batches in it.
-pub record Grows (mine : Entry → Bool) (old new : Seen) (batches : List Batch) : Type 0 where
+-- The caller made the entry, or another caller did.
+abbrev pub IsOfCaller : Caller → Entry → Type 0
+IsOfCaller caller entry = (is_own caller entry ≡ true) ⊎ IsStrange caller entry
+
+-- The history goes on by entries of the caller's own, which are these batches, and of other callers. It took so many
+-- turns at least.
+pub record Grows (caller : Caller) (old new : Seen) (batches : List Batch) (turns : ℕ) : Type 0 where
   pub later : History
   pub longer : new.history ≡ old.history ++ later
-  pub made : batches_in (filter mine later) ≡ batches
+  pub made : batches_in (filter (is_own caller) later) ≡ batches
+  pub makers : AllByRecursion (IsOfCaller caller) later
   pub settled : old.settled ≤ new.settled
+  pub stays : 0 < caller.may_settle → new.settled ≡ old.settled
+  pub took : old.turns + turns ≤ new.turns

@@ -8,10 +8,10 @@ pub mod Sent
 pub mod Insertion
 pub mod Answer
 pub mod Select
-pub mod Laws
 pub mod Said
 pub mod Incoming
 pub mod Prepared
 pub mod Answering
 pub mod SyslogSession
 pub mod SyslogTaking
+pub mod Laws

@@ -1,6 +1,5 @@
 -- The reply to a request, from what had been seen of the log once it was served.
 use Rattle.std.specs.Prelude.{◌≡◌, ◌⊎◌, ℕ, List, [], ◌∷◌, length, codes, decimal, Result, Ok, Err, Bool}
-use Rattle.log_model.specs.History.{Entry}
 use Rattle.log_model.specs.Print.{line_text}
 use Rattle.http_in.specs.Message.{Asked}
 use Rattle.http_reply.specs.Reply.{no_memory_bytes, reply_bytes}
@@ -13,7 +12,8 @@ use Rattle.http_route.specs.declared.refusal.Refusal.{Refusal}
 use Rattle.ingest_row.specs.Ingest.{Options}
 use Rattle.vl_session.specs.Insert.{HasInsertOutcome, InsertOutcome, insert_content, insert_effect, insert_status}
 use Rattle.vl_session.specs.Query.{HasQueryOutcome, QueryOutcome, query_content, query_effect, query_status}
-use Rattle.vl_session.specs.Seen.{Effect, Has, Seen, looks, nothing}
+use Rattle.log_desk.specs.Seen.{Caller, Seen}
+use Rattle.vl_session.specs.Seen.{Effect, Has, asks, looks, nothing}
 
 -- so many batches there are, and so many of them are settled
 abbrev pub status_text : ℕ → ℕ → List ℕ
@@ -53,13 +53,12 @@ Answers (Err refusal) body now seen delivery effect reply =
 
 -- The fixed reply where memory ran out. The log may have been looked at, and nothing was added.
 abbrev pub AnswersNothing : Delivery → Effect → List ℕ → Type 0
-AnswersNothing delivery effect reply =
-    ((effect ≡ nothing) ⊎ (effect ≡ looks)) × (reply ≡ no_memory_bytes delivery)
+AnswersNothing delivery effect reply = (effect ≡ asks) × (reply ≡ no_memory_bytes delivery)
 
 -- A request that was whole at the moment `now` was served with this effect, and this is the reply, behind which the
 -- connection ends or goes on.
-pub record IsServed (mine : Entry → Bool) (asked : Asked) (closes : Bool) (now : ℕ) (old new : Seen) (effect : Effect)
+pub record IsServed (caller : Caller) (asked : Asked) (closes : Bool) (now : ℕ) (old new : Seen) (effect : Effect)
     (reply : List ℕ) : Type 0 where
-  pub has : Has mine old new effect
+  pub has : Has caller old new effect
   pub answers : Answers (wanted_of asked) asked.body now new (delivery_of asked closes) effect reply
       ⊎ AnswersNothing (delivery_of asked closes) effect reply

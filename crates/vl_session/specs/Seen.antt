@@ -1,18 +1,17 @@
--- What a caller of the log has seen of it, and how that grows.
-use Rattle.std.specs.Prelude.{◌≡◌, ℕ, ◌≤◌, Bool, true, List, [], ◌∷◌, ◌++◌, filter}
-use Rattle.log_model.specs.History.{Entry, History, entry_rows}
+-- What serving a request does to what its caller has seen of the log.
+use Rattle.std.specs.Prelude.{◌≡◌, ℕ, ◌+◌, ◌-◌, ◌^◌, ◌<◌, ◌≤◌, List, [], ◌∷◌, length}
+use Rattle.log_model.specs.Core.{held_limit}
 use Rattle.log_model.specs.Row.{Batch}
+use Rattle.log_desk.specs.Seen.{Caller, Follows, Gains, Seen}
+use Rattle.log_desk.specs.declared.fault.InsertFault.{InsertFault}
+use Rattle.log_desk.specs.declared.fault.InsertFault.TheVariants.{Full, Spent, Memory}
 
--- a front of the history, and how many of its batches were settled
-pub record Seen : Type 0 where
-  pub history : History
-  pub settled : ℕ
-
--- what serving a request does to the log
 pub data Effect : Type 0 where
   -- The log is not asked.
   nothing : Effect
-  -- It is looked at, and all of its history is then seen.
+  -- It may have been looked at.
+  asks : Effect
+  -- It is looked at in a turn, which shows all of its history.
   looks : Effect
   -- This batch is added, and the history up to it is then seen.
   adds : Batch → Effect
@@ -20,28 +19,55 @@ pub data Effect : Type 0 where
 -- the batch that it adds
 abbrev pub added : Effect → List Batch
 added nothing = []
+added asks = []
 added looks = []
 added (adds batch) = batch ∷ []
 
--- Nothing was added that is the caller's own, where `mine` says which entries are. Others may have added theirs.
-pub record Follows (mine : Entry → Bool) (old new : Seen) : Type 0 where
-  pub others : History
-  pub longer : new.history ≡ old.history ++ others
-  pub not_mine : filter mine others ≡ []
-  pub settled : old.settled ≤ new.settled
+-- how many turns it takes at least
+abbrev pub turns_of : Effect → ℕ
+turns_of nothing = 0
+turns_of asks = 0
+turns_of looks = 1
+turns_of (adds batch) = 1
 
--- One entry is the caller's own, with this batch, and it is the last.
-pub record Gains (mine : Entry → Bool) (old new : Seen) (batch : Batch) : Type 0 where
-  pub others : History
-  pub entry : Entry
-  pub longer : new.history ≡ old.history ++ (others ++ entry ∷ [])
-  pub not_mine : filter mine others ≡ []
-  pub is_mine : mine entry ≡ true
-  pub rows : entry_rows entry ≡ batch
-  pub settled : old.settled ≤ new.settled
+-- A turn was taken, in which the caller added nothing.
+abbrev pub Looks : Caller → Seen → Seen → Type 0
+Looks caller old new = Follows caller old new × (old.turns < new.turns)
 
 -- what was seen before such an effect, and after it
-abbrev pub Has : (Entry → Bool) → Seen → Seen → Effect → Type 0
-Has mine old new nothing = new ≡ old
-Has mine old new looks = Follows mine old new
-Has mine old new (adds batch) = Gains mine old new batch
+abbrev pub Has : Caller → Seen → Seen → Effect → Type 0
+Has caller old new nothing = new ≡ old
+Has caller old new asks = Follows caller old new
+Has caller old new looks = Looks caller old new
+Has caller old new (adds batch) = Gains caller old new batch
+
+-- ---- one batch
+
+-- The last batch was added where another might be.
+pub record HadRoom (seen : Seen) : Type 0 where
+  pub few : length seen.history ≤ seen.settled + held_limit
+  pub numbered : length seen.history ≤ 2 ^ 63 - 1
+
+-- Another batch may be inserted: it may wait to be settled, and there is a number for it.
+pub record HasRoom (seen : Seen) : Type 0 where
+  pub few : length seen.history < seen.settled + held_limit
+  pub numbered : length seen.history < 2 ^ 63 - 1
+
+-- A batch was inserted, for which there was room, and it is the last of what has been seen.
+pub record Takes (caller : Caller) (old new : Seen) (batch : Batch) : Type 0 where
+  pub gains : Gains caller old new batch
+  pub room : HadRoom new
+
+-- as many batches wait to be settled as may
+abbrev pub IsFull : Seen → Type 0
+IsFull seen = length seen.history ≡ seen.settled + held_limit
+
+-- the last batch has the last number that there is
+abbrev pub HasLastNumber : Seen → Type 0
+HasLastNumber seen = length seen.history ≡ 2 ^ 63 - 1
+
+-- Why a batch is not inserted: the first of these that applies. Want of memory is free.
+abbrev pub IsRefused : Caller → Seen → Seen → InsertFault → Type 0
+IsRefused caller old new (Full held) = Looks caller old new × IsFull new × (held ≡ held_limit)
+IsRefused caller old new Spent = Looks caller old new × (IsFull new → ⊥) × HasLastNumber new
+IsRefused caller old new Memory = Follows caller old new

@@ -1,6 +1,5 @@
 -- Selects that are answered.
 use Rattle.std.specs.Prelude.{◌≡◌, ◌⊎◌, ℕ, Bool, List, Ok}
-use Rattle.log_model.specs.History.{Entry}
 use Rattle.log_model.specs.Print.{lines_text}
 use Rattle.http_in.specs.Message.{Asked}
 use Rattle.http_reply.specs.Reply.{reply_bytes}
@@ -10,7 +9,8 @@ use Rattle.http_route.specs.Route.{delivery_of, query, wanted_of}
 use Rattle.lq_ast.specs.Records.{Record}
 use Rattle.vl_session.specs.Query.{HasQueryOutcome, found}
 use Rattle.vl_session.specs.Reply.{AnswersNothing, IsServed}
-use Rattle.vl_session.specs.Seen.{Effect, Seen}
+use Rattle.log_desk.specs.Seen.{Caller, Seen}
+use Rattle.vl_session.specs.Seen.{Effect}
 
 -- a request that wants the answer to a query, how it was served, and the records of that query
 pub record Select : Type 0 where
@@ -25,8 +25,8 @@ pub record Select : Type 0 where
   pub records : List Record
 
 -- The request was served, it wants the answer to this query, and over what was seen then the query has these records.
-pub record IsSelectServed (mine : Entry → Bool) (select : Select) : Type 0 where
-  pub served : IsServed mine select.asked select.closes select.now select.old select.new select.effect select.reply
+pub record IsSelectServed (caller : Caller) (select : Select) : Type 0 where
+  pub served : IsServed caller select.asked select.closes select.now select.old select.new select.effect select.reply
   pub wanted : wanted_of select.asked ≡ Ok (query select.text)
   pub has_records : HasQueryOutcome select.text select.now select.new.history (found select.records)
 

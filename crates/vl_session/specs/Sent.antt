@@ -1,14 +1,13 @@
 -- What one step of a session does: it comes to a request or ends, and it serves a request.
-use Rattle.std.specs.Prelude.{◌≡◌, ℕ, Bool, false, true, List, [], ◌∷◌, ◌++◌, length, MatchResult, Option, None, Result}
+use Rattle.std.specs.Prelude.{◌≡◌, ℕ, false, true, List, [], ◌∷◌, ◌++◌, length, MatchResult, Option, None, Result}
 use Rattle.std.specs.Prelude.{string_bytes}
 use Rattle.vl_io.specs.Bytes.{Consumes}
 use Rattle.vl_io.specs.Change.{Change, HasFailed, IsCut, IsSpent, IsUntold, Took}
-use Rattle.log_model.specs.History.{Entry}
 use Rattle.http_in.specs.Faults.{IsInside}
 use Rattle.http_in.specs.Message.{Asked}
 use Rattle.http_in.specs.Reading.{FindsRequest, Holds, Reading}
 use Rattle.http_in.specs.declared.fault.RequestFault.{RequestFault}
-use Rattle.vl_session.specs.Seen.{Seen}
+use Rattle.log_desk.specs.Seen.{Caller, Seen}
 use Rattle.vl_session.specs.Session.{StopsReading, fault_bytes}
 use Rattle.vl_session.specs.Turns.{IsDone, IsTurn, Turn}
 use Rattle.vl_session.specs.declared.log.Reply.{Reply}
@@ -50,10 +49,10 @@ EndsRefused sink fault ends.SinkFault = IsCut sink [] (fault_bytes fault)
 EndsRefused sink fault other = ⊥
 
 -- A request was served, as the turn before which so many came, and noted.
-pub record Serves (mine : Entry → Bool) (asked : Asked) (old new : Seen) (dones_old dones_new : List Done)
+pub record Serves (caller : Caller) (asked : Asked) (old new : Seen) (dones_old dones_new : List Done)
     (turn : Turn) : Type 0 where
   pub asked_is : turn.asked ≡ asked
-  pub served : IsTurn mine (length dones_old) old turn
+  pub served : IsTurn caller (length dones_old) old turn
   pub seen : new ≡ turn.seen
   pub done : Done
   pub shown : IsDone turn done

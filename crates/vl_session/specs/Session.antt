@@ -1,15 +1,14 @@
 -- One session of HTTP: what a connection comes to.
-use Rattle.std.specs.Prelude.{◌≡◌, ◌⊎◌, ℕ, ◌<◌, ◌≤◌, Bool, true, false, List, [], ◌∷◌, ◌++◌, length, Option, Some}
+use Rattle.std.specs.Prelude.{◌≡◌, ◌⊎◌, ℕ, ◌<◌, ◌≤◌, true, false, List, [], ◌∷◌, ◌++◌, length, Option, Some}
 use Rattle.std.specs.Prelude.{unwrap_or}
 use Rattle.std.specs.List.{AllZip}
 use Rattle.vl_io.specs.Change.{Change, Gave, HasFailed, IsCut, IsSpent, Took}
-use Rattle.log_model.specs.History.{Entry}
 use Rattle.http_in.specs.Faults.{IsInside}
 use Rattle.http_in.specs.Reading.{Explains, lasting}
 use Rattle.http_in.specs.Requests.{AreRequests, asked_to_close}
 use Rattle.http_in.specs.declared.fault.RequestFault.{RequestFault}
 use Rattle.http_route.specs.Refusal.{fault_page}
-use Rattle.vl_session.specs.Seen.{Seen}
+use Rattle.log_desk.specs.Seen.{Caller, Seen}
 use Rattle.vl_session.specs.Turns.{AreTurns, GaveMoments, IsDone, Turn, asked_in, moments_of, replies_of, turn_limit}
 use Rattle.vl_session.specs.declared.report.Done.{Done}
 use Rattle.vl_session.specs.declared.report.End.{End}
@@ -52,20 +51,20 @@ Ends source sink turns start rest (ends.BadInput fault) =
 Ends source sink turns start rest ends.Memory = StaysOpen turns × Took sink (replies_of turns)
 
 -- The source gave these bytes. They begin with the requests of these turns, and `rest` follows those.
-pub record IsServing (mine : Entry → Bool) (first last : Seen) (source : Change)
+pub record IsServing (caller : Caller) (first last : Seen) (source : Change)
     (moments_old moments_new : Option (List ℕ)) (turns : List Turn) (rest : List ℕ) : Type 0 where
   pub used : List ℕ
   pub gave : Gave source (used ++ rest)
   pub requests : AreRequests (used ++ rest) (asked_in turns) rest
-  pub ran : AreTurns mine 0 first turns last
+  pub ran : AreTurns caller 0 first turns last
   pub told : GaveMoments moments_old moments_new (moments_of turns)
 
 -- One session of a caller that had seen `first` before, and `last` then.
-pub record IsSession (mine : Entry → Bool) (first last : Seen) (source sink : Change)
+pub record IsSession (caller : Caller) (first last : Seen) (source sink : Change)
     (moments_old moments_new : Option (List ℕ)) (dones : List Done) (end : End) : Type 0 where
   pub turns : List Turn
   pub few : length turns ≤ turn_limit
   pub rest : List ℕ
-  pub serving : IsServing mine first last source moments_old moments_new turns rest
+  pub serving : IsServing caller first last source moments_old moments_new turns rest
   pub done : AllZip IsDone turns dones
   pub ends : Ends source sink turns (length serving.used) rest end

@@ -1,17 +1,17 @@
 -- One session of syslog: what a stream of messages comes to (RFC 5424, in the frames of RFC 6587).
-use Rattle.std.specs.Prelude.{◌≡◌, ◌⊎◌, ℕ, ◌+◌, ◌-◌, ◌*◌, ◌^◌, ◌<◌, ◌≤◌, pos, Bool, true, false, List, [], ◌∷◌, ◌++◌}
+use Rattle.std.specs.Prelude.{◌≡◌, ◌⊎◌, ℕ, ◌+◌, ◌-◌, ◌*◌, ◌<◌, ◌≤◌, pos, true, false, List, [], ◌∷◌, ◌++◌}
 use Rattle.std.specs.Prelude.{length, take, drop, flat_map, count_by, Option, None, Some, is_none}
 use Rattle.std.specs.List.{AllByRecursion, AllZip}
 use Rattle.vl_io.specs.Change.{Change, Gave, HasFailed, IsSpent}
 use Rattle.log_model.specs.Core.{held_limit}
-use Rattle.log_model.specs.History.{Entry}
 use Rattle.log_model.specs.Row.{Batch, Row}
 use Rattle.syslog_in.specs.Framer.{place_in}
 use Rattle.syslog_in.specs.Framing.{AreFrames, CanGoOn, HasBadLength, IsTooLong, begins_length, unless_empty}
 use Rattle.syslog_in.specs.declared.fault.FrameFault.{FrameFault}
 use Rattle.syslog_in.specs.declared.fault.FrameFault.TheVariants as faults
 use Rattle.ingest_row.specs.Syslog.{IsRowOfSyslog}
-use Rattle.vl_session.specs.Seen.{Follows, Gains, Seen}
+use Rattle.log_desk.specs.Seen.{Caller, Seen}
+use Rattle.vl_session.specs.Seen.{Effect, Has, HasLastNumber, IsFull, Takes, asks, looks, nothing}
 use Rattle.vl_session.specs.Turns.{GaveMoments}
 use Rattle.vl_session.specs.declared.syslog_report.SyslogEnd.{SyslogEnd}
 use Rattle.vl_session.specs.declared.syslog_report.SyslogEnd.TheVariants as ends
@@ -48,17 +48,11 @@ AreBatches rows [] = rows ≡ []
 AreBatches rows (batch ∷ batches) =
     (0 < length batch) × (batch ≡ take batch_rows rows) × AreBatches (drop batch_rows rows) batches
 
--- A batch was taken in, for which there was room, and it is the last of what has been seen.
-pub record Takes (mine : Entry → Bool) (old new : Seen) (batch : Batch) : Type 0 where
-  pub gains : Gains mine old new batch
-  pub few : length new.history ≤ new.settled + held_limit
-  pub numbered : length new.history ≤ 2 ^ 63 - 1
-
 -- These batches were taken in, one after another. Entries of others may lie between them.
-abbrev pub TakesAll : (Entry → Bool) → Seen → List Batch → Seen → Type 0
-TakesAll mine old [] new = new ≡ old
-TakesAll mine old (batch ∷ batches) new =
-    (next : Seen) × Takes mine old next batch × TakesAll mine next batches new
+abbrev pub TakesAll : Caller → Seen → List Batch → Seen → Type 0
+TakesAll caller old [] new = new ≡ old
+TakesAll caller old (batch ∷ batches) new =
+    (next : Seen) × Takes caller old next batch × TakesAll caller next batches new
 
 -- ---- reads
 
@@ -107,22 +101,31 @@ pub record GivesPiece (fed : List ℕ) (read : Read) : Type 0 where
   pub left : List ℕ
   pub rest : List ℕ
   pub is_before : AreFrames fed before left
+  pub goes_on : CanGoOn left
   pub is_after : AreFrames (fed ++ read.bytes) (before ++ read.messages) rest
 
 -- It said that the input ended behind these bytes, which makes a message of the rest, if there is one.
-pub record GivesEnd (fed : List ℕ) (read : Read) : Type 0 where
+pub record GivesEnd (source : Change) (fed : List ℕ) (read : Read) : Type 0 where
   pub none : read.bytes ≡ []
+  pub spent : IsSpent source
   pub before : List (List ℕ)
   pub rest : List ℕ
   pub is_before : AreFrames fed before rest
+  pub goes_on : CanGoOn rest
   pub whole : begins_length rest ≡ false
   pub is_last : read.messages ≡ unless_empty rest
 
--- These reads came one after another, behind these bytes. None follows the input's end.
-abbrev pub AreReads : List ℕ → List Read → Type 0
-AreReads fed [] = Unit {0}
-AreReads fed (read ∷ reads) =
-    (GivesPiece fed read ⊎ (GivesEnd fed read × (reads ≡ []))) × AreReads (fed ++ read.bytes) reads
+-- All its messages were taken up.
+abbrev pub IsWhole : Read → Type 0
+IsWhole read = length read.outcomes ≡ length read.messages
+
+-- These reads came one after another, behind these bytes. None follows the input's end, nor one of which messages were
+-- left.
+abbrev pub AreReads : Change → List ℕ → List Read → Type 0
+AreReads source fed [] = Unit {0}
+AreReads source fed (read ∷ reads) =
+    (GivesPiece fed read ⊎ (GivesEnd source fed read × (reads ≡ []))) × (0 < length reads → IsWhole read)
+    × AreReads source (fed ++ read.bytes) reads
 
 -- what became of the messages of a read
 pub record IsTakenUp (read : Read) : Type 0 where
@@ -133,11 +136,11 @@ pub record IsTakenUp (read : Read) : Type 0 where
       → length (rows_read read.outcomes) ≡ batch_rows * length read.batches
 
 -- What became of the messages of these reads, and of what had been seen.
-pub record AreTakenUp (mine : Entry → Bool) (first last : Seen) (moments_old moments_new : Option (List ℕ))
+pub record AreTakenUp (caller : Caller) (first last : Seen) (moments_old moments_new : Option (List ℕ))
     (accepted refused : ℕ) (reads : List Read) : Type 0 where
   pub told : GaveMoments moments_old moments_new (moments_of reads)
   pub each : AllByRecursion IsTakenUp reads
-  pub taken : TakesAll mine first (batches_of reads) last
+  pub taken : TakesAll caller first (batches_of reads) last
   pub accepted_is : accepted ≡ length (rows_read (outcomes_of reads))
   pub refused_is : refused ≡ count_by is_none (outcomes_of reads)
 
@@ -161,6 +164,7 @@ IsBadFrame source bytes rest (faults.BadLength at) =
 IsBadFrame source bytes rest (faults.TooLong at) = IsTooLong rest × (at ≡ place_in bytes rest 0)
 IsBadFrame source bytes rest (faults.Cut at) =
     IsSpent source × CanGoOn rest × (begins_length rest ≡ true) × (at ≡ place_in bytes rest 0)
+    × (length bytes < session_limit)
 IsBadFrame source bytes rest (faults.Ended first at) = ⊥
 IsBadFrame source bytes rest faults.Memory = ⊥
 
@@ -173,22 +177,31 @@ pub record IsHeldUp (reads : List Read) : Type 0 where
   pub given : AllZip (IsOutcome read.now) (take (length outcomes) (drop (length read.outcomes) read.messages)) outcomes
   pub some : 0 < length (rows_read outcomes)
 
+-- what the end did to what had been seen: where a batch is refused there was a turn
+abbrev pub end_effect : SyslogEnd → Effect
+end_effect ends.Closed = nothing
+end_effect ends.Limit = nothing
+end_effect ends.SourceFault = nothing
+end_effect (ends.BadFrame fault) = nothing
+end_effect (ends.Full held) = looks
+end_effect ends.Spent = looks
+end_effect ends.Memory = asks
+
 -- Why the session ends, where its source gave these bytes, these messages were taken up, and `last` has been seen.
 abbrev pub Ends : Change → List Read → List ℕ → Seen → SyslogEnd → Type 0
 Ends source reads bytes last ends.Closed =
     (whole : List (List ℕ)) × (rest : List ℕ) × AreAll bytes whole rest × (begins_length rest ≡ false)
-    × (messages_of reads ≡ whole ++ unless_empty rest) × IsSpent source
+    × (messages_of reads ≡ whole ++ unless_empty rest) × IsSpent source × (length bytes < session_limit)
 Ends source reads bytes last ends.Limit =
     (rest : List ℕ) × AreAll bytes (messages_of reads) rest × (length bytes ≡ session_limit)
 Ends source reads bytes last ends.SourceFault =
-    (rest : List ℕ) × AreAll bytes (messages_of reads) rest × HasFailed source
+    (rest : List ℕ) × AreAll bytes (messages_of reads) rest × HasFailed source × (length bytes < session_limit)
 Ends source reads bytes last (ends.BadFrame fault) =
     (rest : List ℕ) × AreFrames bytes (messages_of reads) rest × IsBadFrame source bytes rest fault
 Ends source reads bytes last (ends.Full held) =
-    IsFront bytes (messages_of reads) × IsHeldUp reads × (held ≡ held_limit)
-    × (length last.history ≡ last.settled + held_limit)
+    IsFront bytes (messages_of reads) × IsHeldUp reads × (held ≡ held_limit) × IsFull last
 Ends source reads bytes last ends.Spent =
-    IsFront bytes (messages_of reads) × IsHeldUp reads × (length last.history ≡ 2 ^ 63 - 1)
+    IsFront bytes (messages_of reads) × IsHeldUp reads × (IsFull last → ⊥) × HasLastNumber last
 Ends source reads bytes last ends.Memory = IsFront bytes (messages_of reads)
 
 -- For want of memory, the last piece that the source gave may not have been looked at.
@@ -202,16 +215,16 @@ IsUnread ends.Spent left = left ≡ []
 IsUnread ends.Memory left = length left ≤ read_limit
 
 -- One session of a caller that had seen `first` before, and `last` then.
-pub record IsSyslogSession (mine : Entry → Bool) (first last : Seen) (source : Change)
+pub record IsSyslogSession (caller : Caller) (first last : Seen) (source : Change)
     (moments_old moments_new : Option (List ℕ)) (report : SyslogReport) : Type 0 where
   pub reads : List Read
   pub left : List ℕ
   pub unread : IsUnread report.end left
   pub gave : Gave source (bytes_of reads ++ left)
   pub few : length (bytes_of reads ++ left) ≤ session_limit
-  pub are_reads : AreReads [] reads
+  pub are_reads : AreReads source [] reads
   pub mid : Seen
-  pub taken : AreTakenUp mine first mid moments_old moments_new report.accepted report.refused reads
+  pub taken : AreTakenUp caller first mid moments_old moments_new report.accepted report.refused reads
   -- behind its last batch
-  pub others : Follows mine mid last
+  pub has : Has caller mid last (end_effect report.end)
   pub ended : Ends source reads (bytes_of reads ++ left) last report.end

@@ -1,18 +1,19 @@
 -- How a session of syslog takes its input, a read at a time.
-use Rattle.std.specs.Prelude.{◌≡◌, ℕ, ◌*◌, ◌+◌, ◌-◌, ◌^◌, ◌<◌, ◌≤◌, true, List, [], ◌∷◌, ◌++◌, length, take, drop}
+use Rattle.std.specs.Prelude.{◌≡◌, ℕ, ◌*◌, ◌+◌, ◌-◌, ◌<◌, ◌≤◌, List, [], ◌∷◌, ◌++◌, length, take, drop}
 use Rattle.std.specs.Prelude.{count_by, Option, None, Some, is_none}
 use Rattle.std.specs.List.{AllZip}
 use Rattle.vl_io.specs.Change.{Change, Gave, HasFailed, IsSpent}
-use Rattle.log_core.specs.declared.fault.CommitFault.{CommitFault}
-use Rattle.log_core.specs.declared.fault.CommitFault.TheVariants as commits
+use Rattle.log_desk.specs.declared.fault.InsertFault.{InsertFault}
+use Rattle.log_desk.specs.declared.fault.InsertFault.TheVariants as desk
 use Rattle.log_model.specs.Core.{held_limit}
 use Rattle.log_model.specs.Row.{Batch, Row}
 use Rattle.syslog_in.specs.Framer.{Completes, Ends, Framing, HasTaken}
 use Rattle.syslog_in.specs.declared.fault.FrameFault.{FrameFault}
 use Rattle.syslog_in.specs.declared.fault.FrameFault.TheVariants as faults
-use Rattle.vl_session.specs.Seen.{Seen}
+use Rattle.log_desk.specs.Seen.{Caller, Seen}
+use Rattle.vl_session.specs.Seen.{Has, HasLastNumber, IsFull}
 use Rattle.vl_session.specs.SyslogSession.{AreBatches, IsBadFrame, IsOutcome, TakesAll, batch_rows}
-use Rattle.vl_session.specs.SyslogSession.{read_limit, rows_read}
+use Rattle.vl_session.specs.SyslogSession.{end_effect, read_limit, rows_read}
 use Rattle.vl_session.specs.SyslogSession.{session_limit}
 use Rattle.vl_session.specs.declared.syslog_intake.Chunk.{Chunk}
 use Rattle.vl_session.specs.declared.syslog_intake.Counts.{Counts}
@@ -20,11 +21,11 @@ use Rattle.vl_session.specs.declared.syslog_report.SyslogEnd.{SyslogEnd}
 use Rattle.vl_session.specs.declared.syslog_report.SyslogEnd.TheVariants as ends
 use Rattle.vl_session.specs.declared.syslog_report.SyslogReport.{SyslogReport}
 
--- what a fault of the shared state is to the session
-abbrev pub end_of_commit : CommitFault → SyslogEnd
-end_of_commit (commits.Full held) = ends.Full held
-end_of_commit commits.Spent = ends.Spent
-end_of_commit commits.Memory = ends.Memory
+-- what a fault of the desk is to the session
+abbrev pub end_of_insert : InsertFault → SyslogEnd
+end_of_insert (desk.Full held) = ends.Full held
+end_of_insert desk.Spent = ends.Spent
+end_of_insert desk.Memory = ends.Memory
 
 -- what a fault of the frames is to it
 abbrev pub end_of_frame : FrameFault → SyslogEnd
@@ -59,17 +60,18 @@ HoldsUp rows seen ends.Limit = ⊥
 HoldsUp rows seen ends.SourceFault = ⊥
 HoldsUp rows seen (ends.BadFrame fault) = ⊥
 HoldsUp rows seen (ends.Full held) =
-    (0 < length rows) × (held ≡ held_limit) × (length seen.history ≡ seen.settled + held_limit)
-HoldsUp rows seen ends.Spent = (0 < length rows) × (length seen.history ≡ 2 ^ 63 - 1)
+    (0 < length rows) × (held ≡ held_limit) × IsFull seen
+HoldsUp rows seen ends.Spent =
+    (0 < length rows) × (IsFull seen → ⊥) × HasLastNumber seen
 HoldsUp rows seen ends.Memory = Unit {0}
 
--- The first of these messages were taken up, and have these outcomes. The caller is the only one.
-pub record TakesUp (now : ℕ) (messages : List (List ℕ)) (old new : Seen) (before after : Counts)
+-- The first of these messages were taken up, and have these outcomes.
+pub record TakesUp (caller : Caller) (now : ℕ) (messages : List (List ℕ)) (old new : Seen) (before after : Counts)
     (outcomes : List (Option Row)) (batches : List Batch) : Type 0 where
   pub given : BeginWith now messages outcomes
   pub cut : AreBatches (rows_read outcomes) batches
   pub full : length outcomes < length messages → length (rows_read outcomes) ≡ batch_rows * length batches
-  pub taken : TakesAll (λ entry. true) old batches new
+  pub taken : TakesAll caller old batches new
   pub accepted : after.accepted ≡ before.accepted + length (rows_read outcomes)
   pub refused : after.refused ≡ before.refused + count_by is_none outcomes
 
@@ -78,6 +80,15 @@ abbrev pub StopsAt : ℕ → List (List ℕ) → List (Option Row) → Seen → 
 StopsAt now messages outcomes seen end =
     (later : List (Option Row)) × BeginWith now (drop (length outcomes) messages) later
     × HoldsUp (rows_read later) seen end
+
+-- Some of these messages were taken up, but not all, and this is what the end did behind that.
+pub record TakesSome (caller : Caller) (now : ℕ) (messages : List (List ℕ)) (old new : Seen) (before after : Counts)
+    (outcomes : List (Option Row)) (batches : List Batch) (end : SyslogEnd) : Type 0 where
+  pub mid : Seen
+  pub takes : TakesUp caller now messages old mid before after outcomes batches
+  pub has : Has caller mid new (end_effect end)
+  pub stops : StopsAt now messages outcomes new end
+  pub fewer : length outcomes < length messages
 
 -- ---- reads
 

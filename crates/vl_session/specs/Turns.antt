@@ -1,14 +1,14 @@
 -- The turns of a session: its requests, one after another, and what became of each.
 use Rattle.std.specs.Prelude.{◌≡◌, ℕ, suc, ◌+◌, ◌==◌, Bool, ◌||◌, List, [], ◌∷◌, ◌++◌, length, map, flat_map, pos}
 use Rattle.std.specs.Prelude.{Option, None, Some}
-use Rattle.log_model.specs.History.{Entry}
 use Rattle.log_model.specs.Row.{Batch}
 use Rattle.http_in.specs.Message.{Asked}
 use Rattle.vl_session.specs.Reply.{IsServed}
-use Rattle.vl_session.specs.Seen.{Effect, Seen, added}
+use Rattle.log_desk.specs.Seen.{Caller, Seen}
+use Rattle.vl_session.specs.Seen.{Effect, added, turns_of}
 use Rattle.vl_session.specs.declared.report.Done.{Done}
 
--- the requests of one connection
+-- the most requests of one connection
 abbrev pub turn_limit : ℕ
 turn_limit = 1000
 
@@ -26,15 +26,15 @@ abbrev pub closes_after : ℕ → Asked → Bool
 closes_after before asked = asked.last || (before + 1 == turn_limit)
 
 -- This turn came behind so many others.
-abbrev pub IsTurn : (Entry → Bool) → ℕ → Seen → Turn → Type 0
-IsTurn mine before old turn =
-    IsServed mine turn.asked (closes_after before turn.asked) turn.now old turn.seen turn.effect turn.reply
+abbrev pub IsTurn : Caller → ℕ → Seen → Turn → Type 0
+IsTurn caller before old turn =
+    IsServed caller turn.asked (closes_after before turn.asked) turn.now old turn.seen turn.effect turn.reply
 
 -- These turns came one after another, where so many came before. What had been seen was `old`, and is `new` then.
-abbrev pub AreTurns : (Entry → Bool) → ℕ → Seen → List Turn → Seen → Type 0
-AreTurns mine before old [] new = new ≡ old
-AreTurns mine before old (turn ∷ turns) new =
-    IsTurn mine before old turn × AreTurns mine (suc before) turn.seen turns new
+abbrev pub AreTurns : Caller → ℕ → Seen → List Turn → Seen → Type 0
+AreTurns caller before old [] new = new ≡ old
+AreTurns caller before old (turn ∷ turns) new =
+    IsTurn caller before old turn × AreTurns caller (suc before) turn.seen turns new
 
 abbrev pub asked_in : List Turn → List Asked
 asked_in turns = map (λ turn. turn.asked) turns
@@ -42,6 +42,11 @@ asked_in turns = map (λ turn. turn.asked) turns
 -- the batches of the inserts that were accepted
 abbrev pub accepted_in : List Turn → List Batch
 accepted_in turns = flat_map (λ turn. added turn.effect) turns
+
+-- how many turns at the desk they took at least
+abbrev pub turns_taken : List Turn → ℕ
+turns_taken [] = 0
+turns_taken (turn ∷ turns) = turns_of turn.effect + turns_taken turns
 
 abbrev pub moments_of : List Turn → List ℕ
 moments_of turns = map (λ turn. turn.now) turns

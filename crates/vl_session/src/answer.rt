@@ -1,15 +1,20 @@
-//! Queries over the shared state.
-ghost use Rattle.std.specs.Prelude.{◌≡◌, ◌≤ℤ◌, IfErr, IfOk, pos, unsigned_abs};
-ghost use Rattle.log_core.specs.History.{history_of};
+//! Queries over what the desk holds.
+ghost use Rattle.std.specs.Prelude.{◌≡◌, ◌≤ℤ◌, IfErr, IfOk, OnOk, pos, unsigned_abs};
+ghost use Rattle.turn_lock.specs.Passes.{IsPassOf};
+ghost use Rattle.log_desk.specs.Seen.{caller_of, seen_of};
 ghost use Rattle.query_run.specs.Asked.{IsReadableQuery};
-ghost use Rattle.vl_session.specs.Answer.{FailsQuery, HasRecords, IsOfEvaluation, IsQueryAnswer};
+ghost use Rattle.vl_session.specs.Answer.{FailsQuery, HasRecords, IsOfEvaluation, IsQueryAnswer, fault_effect};
+ghost use Rattle.vl_session.specs.Seen.{Has, Looks};
 
+use crate::access::Access;
 use crate::law::select_law;
-use log_core::Shelf;
+use log_core::history_law;
+use log_desk::{Desk, Pass};
 use lq_grammar::QueryFault;
 use query_run::{QueryRefusal, RunFault, answer, read_query};
 use std::alloc::{AllocError, Global};
-use vl_row::{RowList, Text};
+use std::sync::Wait;
+use vl_row::Text;
 
 /// The answer to a query.
 #[derive(Drop)]
@@ -63,49 +68,69 @@ impl From<RunFault> for AnswerFault {
     }
 }
 
-/// Answers a query at the moment `now`, in nanoseconds since the start of 1970, over all that the shared state holds
-/// then.
-pub fn answer_query(
+/// Answers a query at the moment `now`, in nanoseconds since the start of 1970, over all batches of the history that
+/// the pass has then seen.
+///
+/// A text that spells no query, or has a pattern that cannot be read, is refused without a look at the log.
+pub fn answer_query<R: Wait>(
+    rt: &R,
     alloc: Global,
-    shelf: &Shelf<RowList>,
+    desk: &Desk,
+    pass: &mut Pass,
     text: &str,
     now: i64,
 ) -> Result<Answer, AnswerFault>
+    requires pass { IsPassOf desk.now pass.old }
     requires moment { pos 0 ≤ℤ now }
-    ensures answered { IfOk result (IsQueryAnswer text.now (unsigned_abs now) (history_of shelf.now)) }
-    ensures refused { IfErr result (FailsQuery text.now (unsigned_abs now) (history_of shelf.now)) }
+    ensures answered { IfOk result (IsQueryAnswer text.now (unsigned_abs now) (seen_of pass.new).history) }
+    ensures refused { IfErr result (FailsQuery text.now (unsigned_abs now) (seen_of pass.new).history) }
 
     // A query that can be asked fails in its evaluation alone, and not there where that has records, unless memory runs
     // out.
     ensures asked { IsReadableQuery text.now → IfErr result IsOfEvaluation }
-    ensures complete { HasRecords text.now (unsigned_abs now) (history_of shelf.now)
+    ensures complete { HasRecords text.now (unsigned_abs now) (seen_of pass.new).history
         → IfErr result (λ fault. fault ≡ AnswerFault.Memory) }
+
+    // An answer takes a turn, and what was seen then begins with what was seen before.
+    ensures looks { OnOk result (Looks (caller_of pass.old) (seen_of pass.old) (seen_of pass.new)) }
+    ensures effect { IfErr result (λ fault. Has (caller_of pass.old) (seen_of pass.old) (seen_of pass.new)
+        (fault_effect fault)) }
+    ensures pass { IsPassOf desk.now pass.new }
+    ensures caller { caller_of pass.new ≡ caller_of pass.old }
 {
     select_law();
-    answer_text(alloc, shelf, text, now)
+    let access = Access { rt, alloc, desk };
+    answer_text(&access, pass, text, now)
 }
 
 /// The answer to a query, or why there is none.
-fn answer_text(
-    alloc: Global,
-    shelf: &Shelf<RowList>,
+pub(crate) fn answer_text<R: Wait>(
+    access: &Access<'_, R>,
+    pass: &mut Pass,
     text: &str,
     now: i64,
 ) -> Result<Answer, AnswerFault>
+    requires pass { IsPassOf access.now.desk.now pass.old }
     requires moment { pos 0 ≤ℤ now }
-    ensures answered { IfOk result (IsQueryAnswer text.now (unsigned_abs now) (history_of shelf.now)) }
-    ensures refused { IfErr result (FailsQuery text.now (unsigned_abs now) (history_of shelf.now)) }
+    ensures answered { IfOk result (IsQueryAnswer text.now (unsigned_abs now) (seen_of pass.new).history) }
+    ensures refused { IfErr result (FailsQuery text.now (unsigned_abs now) (seen_of pass.new).history) }
+    ensures looks { OnOk result (Looks (caller_of pass.old) (seen_of pass.old) (seen_of pass.new)) }
+    ensures effect { IfErr result (λ fault. Has (caller_of pass.old) (seen_of pass.old) (seen_of pass.new)
+        (fault_effect fault)) }
+    ensures pass { IsPassOf access.now.desk.now pass.new }
+    ensures caller { caller_of pass.new ≡ caller_of pass.old }
 {
-    let front = shelf.count();
-    let search = match read_query(alloc, text) {
+    let search = match read_query(access.alloc, text) {
         Ok(search) => search,
         Err(refusal) => return Err(AnswerFault::from(refusal)),
     };
-    let snapshot = match shelf.look() {
+    let snapshot = match access.desk.look(access.rt, pass) {
         Ok(snapshot) => snapshot,
         Err(AllocError) => return Err(AnswerFault::Memory),
     };
-    match answer(alloc, &search, now, &snapshot) {
+    history_law(&snapshot);
+    let front = snapshot.front();
+    match answer(access.alloc, &search, now, &snapshot) {
         Ok(lines) => Ok(Answer { front, lines }),
         Err(fault) => Err(AnswerFault::from(fault)),
     }

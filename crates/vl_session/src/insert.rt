@@ -1,14 +1,18 @@
-//! Lines of JSON taken into the shared state.
-ghost use Rattle.std.specs.Prelude.{◌≡◌, ◌≤ℤ◌, IfErr, IfOk, List, OnErr, pos, true, unsigned_abs};
+//! Lines of JSON taken in by the desk.
+ghost use Rattle.std.specs.Prelude.{◌≡◌, ◌≤ℤ◌, IfErr, IfOk, List, pos, unsigned_abs};
 ghost use Rattle.ingest_row.specs.Intake.{Outcome};
-ghost use Rattle.log_model.specs.Row.{Row};
-ghost use Rattle.vl_session.specs.Incoming.{Commits, HoldsRows, IsIncoming, IsUncommitted, IsUnread};
-ghost use Rattle.vl_session.specs.Insertion.{Inserts, RefusesLines, seen_of};
+ghost use Rattle.turn_lock.specs.Passes.{IsPassOf};
+ghost use Rattle.vl_session.specs.Incoming.{Commits, IsIncoming, IsUncommitted, IsUnread};
+ghost use Rattle.log_desk.specs.Seen.{caller_of, seen_of};
+ghost use Rattle.vl_session.specs.Insertion.{Inserts, IsOfLines, RefusesLines};
+ghost use Rattle.vl_session.specs.Seen.{HasRoom};
 
+use crate::access::Access;
 use ingest_row::{LineFault, Options, batch_of_body};
-use log_core::{CommitFault, Shelf};
+use log_desk::{Desk, InsertFault, Pass};
 use std::alloc::{AllocError, Global};
-use vl_row::{Batch, BatchFault, Items, RowList};
+use std::sync::Wait;
+use vl_row::{Batch, BatchFault, Items};
 
 /// What became of a body of lines.
 #[derive(Drop)]
@@ -44,46 +48,55 @@ impl From<AllocError> for InsertionFault {
     }
 }
 
-impl From<CommitFault> for InsertionFault {
+impl From<InsertFault> for InsertionFault {
     ghost use Rattle.vl_session.specs.Incoming.{fault_of};
 
     ghost from_gives = { λ fault refused. refused ≡ fault_of fault };
 
-    fn from(fault: CommitFault) -> InsertionFault {
+    fn from(fault: InsertFault) -> InsertionFault {
         match fault {
-            CommitFault::Full { held } => InsertionFault::Full { held },
-            CommitFault::Spent => InsertionFault::Spent,
-            CommitFault::Memory => InsertionFault::Memory,
+            InsertFault::Full { held } => InsertionFault::Full { held },
+            InsertFault::Spent => InsertionFault::Spent,
+            InsertFault::Memory => InsertionFault::Memory,
         }
     }
 }
 
 /// Takes in the lines of a body that came at the moment `now`, in nanoseconds since the start of 1970. Their rows
 /// become one batch. Where no line gives a row there is no batch.
-pub fn insert_lines(
+///
+/// All memory is taken before the batch is inserted.
+pub fn insert_lines<R: Wait>(
+    rt: &R,
     alloc: Global,
-    shelf: &mut Shelf<RowList>,
+    desk: &Desk,
+    pass: &mut Pass,
     options: &Options,
     now: i64,
     body: &[u8],
 ) -> Result<Insertion, InsertionFault>
+    requires pass { IsPassOf desk.now pass.old }
     requires moment { pos 0 ≤ℤ now }
-    ensures inserted { IfOk result (Inserts (λ _. true) options.now (unsigned_abs now) body.now
-        (seen_of shelf.old) (seen_of shelf.new)) }
-    ensures refused { IfErr result (RefusesLines (λ _. true) options.now (unsigned_abs now) body.now
-        (seen_of shelf.old) (seen_of shelf.new)) }
-    ensures same { OnErr result (shelf.new ≡ shelf.old) }
-    ensures settled { shelf.new.settled ≡ shelf.old.settled }
+    ensures inserted { IfOk result (Inserts (caller_of pass.old) options.now (unsigned_abs now) body.now
+        (seen_of pass.old) (seen_of pass.new)) }
+    ensures refused { IfErr result (RefusesLines (caller_of pass.old) options.now (unsigned_abs now) body.now
+        (seen_of pass.old) (seen_of pass.new)) }
+
+    // Where there is room for another batch, lines are refused for their weight alone, or for want of memory.
+    ensures complete { HasRoom (seen_of pass.new) → IfErr result IsOfLines }
+    ensures pass { IsPassOf desk.now pass.new }
+    ensures caller { caller_of pass.new ≡ caller_of pass.old }
 {
+    let access = Access { rt, alloc, desk };
     let incoming = Incoming::read(alloc, options, now, body)?;
-    incoming.commit(alloc, shelf)
+    incoming.commit(&access, pass)
 }
 
 /// What a body gives, before it is committed.
 #[derive(Drop)]
 pub(crate) struct Incoming {
     pub(crate) accepted: u64,
-    pub(crate) batch: Option<RowList>,
+    pub(crate) batch: Option<Batch>,
     pub(crate) refused: Items<LineFault>,
 }
 
@@ -107,7 +120,7 @@ impl Incoming {
         match Batch::try_of(rows) {
             Ok(batch) => Ok(Incoming {
                 accepted,
-                batch: Some(RowList::from(batch)),
+                batch: Some(batch),
                 refused,
             }),
             Err((BatchFault::NoRows, _)) => Ok(Incoming {
@@ -119,37 +132,37 @@ impl Incoming {
         }
     }
 
-    /// Commits the rows as one batch, if there are any.
-    pub(crate) fn commit(
+    /// Inserts the rows as one batch, if there are any.
+    pub(crate) fn commit<R: Wait>(
         self,
-        alloc: Global,
-        shelf: &mut Shelf<RowList>,
+        access: &Access<'_, R>,
+        pass: &mut Pass,
     ) -> Result<Insertion, InsertionFault>
-        requires holds { (rows : List Row) × HoldsRows self.batch rows }
-        ensures committed { IfOk result (Commits self shelf.old shelf.new) }
-        ensures refused { IfErr result (IsUncommitted self shelf.old) }
-        ensures same { OnErr result (shelf.new ≡ shelf.old) }
-        ensures settled { shelf.new.settled ≡ shelf.old.settled }
+        requires pass { IsPassOf access.now.desk.now pass.old }
+        ensures committed { IfOk result (Commits (caller_of pass.old) self (seen_of pass.old) (seen_of pass.new)) }
+        ensures refused { IfErr result (IsUncommitted (caller_of pass.old) self (seen_of pass.old) (seen_of pass.new)) }
+        ensures pass { IsPassOf access.now.desk.now pass.new }
+        ensures caller { caller_of pass.new ≡ caller_of pass.old }
     {
         let Incoming {
             accepted,
             batch,
             refused,
         } = self;
-        let Some(part) = batch else {
+        let Some(batch) = batch else {
             return Ok(Insertion {
                 accepted,
                 batch: None,
                 refused,
             });
         };
-        match shelf.commit(alloc, part) {
+        match access.insert(pass, batch) {
             Ok(number) => Ok(Insertion {
                 accepted,
                 batch: Some(number),
                 refused,
             }),
-            Err((fault, _)) => Err(InsertionFault::from(fault)),
+            Err(fault) => Err(InsertionFault::from(fault)),
         }
     }
 }

@@ -1,13 +1,18 @@
 //! What follows from the definitions of sessions. These functions do nothing: their contracts are the laws.
-ghost use Rattle.std.specs.Prelude.{◌≡◌, ℕ, ◌++◌, Bool, List};
-ghost use Rattle.log_model.specs.History.{Entry, History};
+ghost use Rattle.std.specs.Prelude.{◌≡◌, ℕ, ◌+◌, ◌++◌, List, [], ◌∷◌, flat_map, length};
+ghost use Rattle.log_model.specs.History.{History, batches_in};
+ghost use Rattle.log_model.specs.Row.{Batch};
 ghost use Rattle.lq_ast.specs.Records.{Record};
 ghost use Rattle.query_run.specs.Asked.{IsReadableQuery};
+ghost use Rattle.log_desk.specs.Seen.{Caller, Seen};
 ghost use Rattle.vl_session.specs.Answer.{FailsQuery, IsOfEvaluation};
 ghost use Rattle.vl_session.specs.Laws.{Connection, Grows, HaveTurns, IsByInput, IsServedWhole};
+ghost use Rattle.vl_session.specs.Laws.{IsTakenWhole, SyslogInput};
 ghost use Rattle.vl_session.specs.Query.{HasQueryOutcome, QueryOutcome, found};
 ghost use Rattle.vl_session.specs.Select.{IsSelectAnswered, IsSelectServed, Select};
-ghost use Rattle.vl_session.specs.Turns.{accepted_in};
+ghost use Rattle.vl_session.specs.Seen.{turns_of};
+ghost use Rattle.vl_session.specs.SyslogSession.{batches_of, end_effect, outcomes_of, rows_read};
+ghost use Rattle.vl_session.specs.Turns.{accepted_in, turns_taken};
 ghost use Rattle.vl_session.specs.declared.answer.AnswerFault.{AnswerFault};
 
 use lq_grammar::query_law;
@@ -20,16 +25,35 @@ pub fn select_law()
         → HasQueryOutcome text now history other → other ≡ found records }
     ensures asked { (text : List ℕ) (now : ℕ) (history : History) → IsReadableQuery text → (fault : AnswerFault)
         → FailsQuery text now history fault → IsOfEvaluation fault }
-    ensures select { (mine : Entry → Bool) (select : Select) → IsSelectServed mine select → IsSelectAnswered select }
+    ensures select { (caller : Caller) (select : Select) → IsSelectServed caller select → IsSelectAnswered select }
 {
     query_law();
 }
 
 /// Where a session ends by its input, every request of it has its turn. The entries that are the caller's own are the
-/// batches of its accepted inserts, in their order.
+/// batches of its accepted inserts, in their order. The caller took a turn at the desk for each reply that tells of
+/// what is held.
 pub fn session_law()
     ensures requests { (c : Connection) (session : IsServedWhole c) → IsByInput c.end
         → HaveTurns (session.serving.used ++ session.rest) session.turns }
     ensures entries { (c : Connection) (session : IsServedWhole c)
-        → Grows c.mine c.first c.last (accepted_in session.turns) }
+        → Grows c.caller c.first c.last (accepted_in session.turns) (turns_taken session.turns) }
+{}
+
+/// The entries of a session of syslog that are the caller's own are its batches, in order. Joined, these are the rows
+/// of the readable messages.
+pub fn syslog_law()
+    ensures entries { (s : SyslogInput) (session : IsTakenWhole s)
+        → Grows s.caller s.first s.last (batches_of session.reads)
+        (length (batches_of session.reads) + turns_of (end_effect s.report.end)) }
+    ensures rows { (s : SyslogInput) (session : IsTakenWhole s)
+        → flat_map (λ batch. batch) (batches_of session.reads) ≡ rows_read (outcomes_of session.reads) }
+{}
+
+/// On a desk that is made for one pass, nobody else adds to the history: what a session adds is the batches of its
+/// accepted inserts, and what a session of syslog adds is its batches.
+pub fn alone_law()
+    ensures { (caller : Caller) (old new : Seen) (batches : List Batch) (turns : ℕ) → caller.lock.passes ≡ 1
+        → caller.numbers ≡ 0 ∷ [] → Grows caller old new batches turns
+        → batches_in new.history ≡ batches_in old.history ++ batches }
 {}

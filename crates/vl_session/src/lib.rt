@@ -1,7 +1,9 @@
 //! Sessions of HTTP and of syslog over a log: what is replied, what is taken in, and what one connection comes to.
 #![tactic(auto)]
 
+mod access;
 mod answer;
+mod desk_log;
 mod insert;
 mod insert_reply;
 mod law;
@@ -14,7 +16,6 @@ mod request;
 mod send;
 mod serve;
 mod session;
-mod shelf_log;
 mod syslog_inflow;
 mod syslog_intake;
 mod syslog_report;
@@ -23,7 +24,7 @@ mod turn;
 
 pub use answer::{Answer, AnswerFault, answer_query};
 pub use insert::{Insertion, InsertionFault, insert_lines};
-pub use law::{select_law, session_law};
+pub use law::{alone_law, select_law, session_law, syslog_law};
 pub use log::{Log, Reply};
 pub use pages::{health_reply, status_reply};
 pub use report::{Done, End, Report};

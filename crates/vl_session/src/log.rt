@@ -1,9 +1,9 @@
 //! What a session asks of the log.
-ghost use Rattle.std.specs.Prelude.{◌≡◌, ◌<◌, ◌^◌, ℕ, Bool, length};
-ghost use Rattle.log_model.specs.History.{Entry};
+ghost use Rattle.std.specs.Prelude.{◌≡◌, ◌<◌, ◌^◌, ℕ, length};
 ghost use Rattle.http_in.specs.Reading.{asked_by};
+ghost use Rattle.log_desk.specs.Seen.{Caller, Seen};
 ghost use Rattle.vl_session.specs.Reply.{IsServed};
-ghost use Rattle.vl_session.specs.Seen.{Effect, Seen};
+ghost use Rattle.vl_session.specs.Seen.{Effect};
 ghost use Rattle.vl_session.specs.Sent.{bytes_of};
 
 use http_in::Request;
@@ -25,8 +25,11 @@ pub trait Log {
     // What the caller has seen.
     ghost seen: { Self → Seen };
 
-    // Which entries are the caller's own.
-    ghost mine: { Self → Entry → Bool };
+    // Who the caller is.
+    ghost caller: { Self → Caller };
+
+    // The caller may ask.
+    ghost may_ask: { Self → Type 0 };
 
     // The name of what the caller was lent, if it was lent anything.
     ghost name: { Self → ℕ };
@@ -34,10 +37,12 @@ pub trait Log {
     /// Serves a request that was whole at the moment `now`, in nanoseconds since the start of 1970, and gives the
     /// reply, behind which the connection ends or goes on.
     fn serve(&mut self, request: &Request, now: u64, closes: bool) -> Reply
-        requires { now < 2 ^ 63 }
-        ensures served { (effect : Effect) × IsServed (mine self.old) (asked_by request.now) closes now (seen self.old)
-            (seen self.new) effect (bytes_of result) }
-        ensures own { mine self.new ≡ mine self.old }
+        requires may_ask { may_ask self.old }
+        requires moment { now < 2 ^ 63 }
+        ensures served { (effect : Effect) × IsServed (caller self.old) (asked_by request.now) closes now
+            (seen self.old) (seen self.new) effect (bytes_of result) }
+        ensures may_ask { may_ask self.new }
+        ensures same { caller self.new ≡ caller self.old }
         ensures lent { name self.new ≡ name self.old };
 
     /// How many batches the caller has seen.

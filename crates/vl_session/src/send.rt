@@ -1,5 +1,5 @@
 //! Replies to the sink.
-ghost use Rattle.std.specs.Prelude.{◌≡◌, ◌<◌, ℕ, OnErr, OnOk, length, take};
+ghost use Rattle.std.specs.Prelude.{◌<◌, ℕ, OnErr, OnOk, length, take};
 ghost use Rattle.vl_io.specs.Bytes.{Appends};
 ghost use Rattle.vl_io.specs.Faults.{HasCause};
 ghost use Rattle.vl_session.specs.Sent.{bytes_of};

@@ -1,33 +1,43 @@
-//! Sessions over the shared state.
-ghost use Rattle.std.specs.Prelude.{true};
+//! Sessions over the desk.
+ghost use Rattle.std.specs.Prelude.{◌≡◌};
 ghost use Rattle.vl_io.specs.Change.{change_of};
-ghost use Rattle.vl_session.specs.Insertion.{seen_of};
+ghost use Rattle.turn_lock.specs.Passes.{IsPassOf};
+ghost use Rattle.log_desk.specs.Seen.{caller_of, seen_of};
 ghost use Rattle.vl_session.specs.Session.{IsSession};
 
+use crate::access::Access;
+use crate::desk_log::DeskLog;
 use crate::report::Report;
 use crate::session::serve_requests;
-use crate::shelf_log::ShelfLog;
-use log_core::Shelf;
+use log_desk::{Desk, Pass};
 use std::alloc::Global;
+use std::sync::Wait;
 use vl_io::{Clock, Sink, Source};
-use vl_row::RowList;
 
-/// Serves the requests of one connection (RFC 9112) over the shared state, which has no other caller meanwhile. It ends
-/// where a request asks to close, the input ends, something fails, or 1,000 requests were served.
+/// Serves the requests of one connection (RFC 9112). It ends where a request asks to close, the input ends, something
+/// fails, or 1,000 requests were served.
 ///
-/// Each reply is the one that its request has over what was seen once it was served, or says that memory ran out. The
-/// entries that the history gains are the batches of the inserts that were accepted, in their order.
-pub fn serve_session<S: Source, K: Sink, C: Clock>(
+/// Whatever other callers of the desk do meanwhile, there is one history. Each reply is the one that its request has
+/// over a front of it, which holds all that the pass had seen before, or says that memory ran out. A query's reply is
+/// the lines of its evaluation over all rows of that front. The entries that the pass adds to the history are the
+/// batches of the inserts that were accepted, in their order.
+pub fn serve_session<R: Wait, S: Source, K: Sink, C: Clock>(
+    rt: &R,
     alloc: Global,
-    shelf: &mut Shelf<RowList>,
+    desk: &Desk,
+    pass: &mut Pass,
     src: &mut S,
     sink: &mut K,
     clock: &mut C,
 ) -> Report
-    ensures session { IsSession (λ _. true) (seen_of shelf.old) (seen_of shelf.new)
+    requires { IsPassOf desk.now pass.old }
+    ensures session { IsSession (caller_of pass.old) (seen_of pass.old) (seen_of pass.new)
         (change_of S.left S.faults src.old src.new) (change_of K.written K.faults sink.old sink.new)
         (C.moments clock.old) (C.moments clock.new) result.turns result.end }
+    ensures pass { IsPassOf desk.now pass.new }
+    ensures caller { caller_of pass.new ≡ caller_of pass.old }
 {
-    let mut log = ShelfLog { alloc, shelf };
+    let access = Access { rt, alloc, desk };
+    let mut log = DeskLog { access, pass };
     serve_requests(alloc, &mut log, src, sink, clock)
 }

@@ -21,10 +21,12 @@ pub fn serve_requests<L: Log, S: Source, K: Sink, C: Clock>(
     sink: &mut K,
     clock: &mut C,
 ) -> Report
-    ensures session { IsSession (L.mine log.old) (L.seen log.old) (L.seen log.new)
+    requires { L.may_ask log.old }
+    ensures session { IsSession (L.caller log.old) (L.seen log.old) (L.seen log.new)
         (change_of S.left S.faults src.old src.new) (change_of K.written K.faults sink.old sink.new)
         (C.moments clock.old) (C.moments clock.new) result.turns result.end }
-    ensures own { L.mine log.new ≡ L.mine log.old }
+    ensures may_ask { L.may_ask log.new }
+    ensures same { L.caller log.new ≡ L.caller log.old }
     ensures lent { L.name log.new ≡ L.name log.old }
 {
     let Served { turns, end } = serve_turns(alloc, log, src, sink, clock);
@@ -48,10 +50,12 @@ fn serve_turns<L: Log, S: Source, K: Sink, C: Clock>(
     sink: &mut K,
     clock: &mut C,
 ) -> Served
-    ensures session { IsSession (L.mine log.old) (L.seen log.old) (L.seen log.new)
+    requires { L.may_ask log.old }
+    ensures session { IsSession (L.caller log.old) (L.seen log.old) (L.seen log.new)
         (change_of S.left S.faults src.old src.new) (change_of K.written K.faults sink.old sink.new)
         (C.moments clock.old) (C.moments clock.new) result.turns.items result.end }
-    ensures own { L.mine log.new ≡ L.mine log.old }
+    ensures may_ask { L.may_ask log.new }
+    ensures same { L.caller log.new ≡ L.caller log.old }
     ensures lent { L.name log.new ≡ L.name log.old }
 {
     let mut reader = Reader::new(alloc);

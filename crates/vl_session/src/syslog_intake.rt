@@ -1,19 +1,23 @@
-//! Messages of syslog taken into the shared state.
-ghost use Rattle.std.specs.Prelude.{◌≡◌, ℕ, ◌+◌, ◌*◌, ◌^◌, ◌<◌, ◌≤◌, IfErr, IfOk, IfSome, List, OnErr, OnOk, Option};
-ghost use Rattle.std.specs.Prelude.{length, true, vec_len};
+//! Messages of syslog taken in by the desk.
+ghost use Rattle.std.specs.Prelude.{◌≡◌, ℕ, ◌+◌, ◌*◌, ◌^◌, ◌<◌, ◌≤◌, IfErr, IfOk, IfSome, List, OnOk, Option};
+ghost use Rattle.std.specs.Prelude.{length, vec_len};
 ghost use Rattle.log_model.specs.Row.{Batch as Rows, IsRow, Row as Event, batch_weight};
-ghost use Rattle.vl_session.specs.Insertion.{seen_of};
-ghost use Rattle.vl_session.specs.SyslogSession.{IsOutcome, TakesAll, batch_rows, moment_of};
-ghost use Rattle.vl_session.specs.SyslogTaking.{HoldsUp, IsChunk, StopsAt, TakesUp, batch_of};
+ghost use Rattle.turn_lock.specs.Passes.{IsPassOf};
+ghost use Rattle.log_desk.specs.Seen.{caller_of, seen_of};
+ghost use Rattle.vl_session.specs.Seen.{Has};
+ghost use Rattle.vl_session.specs.SyslogSession.{IsOutcome, TakesAll, batch_rows, end_effect, moment_of};
+ghost use Rattle.vl_session.specs.SyslogTaking.{HoldsUp, IsChunk, TakesSome, TakesUp, batch_of};
 ghost use Rattle.vl_session.specs.Turns.{GaveMoments};
 
+use crate::access::Access;
 use crate::syslog_report::SyslogEnd;
 use ingest_row::{SyslogKind, row_of_syslog};
-use log_core::Shelf;
+use log_desk::Pass;
 use std::alloc::{AllocError, Global};
+use std::sync::Wait;
 use syslog_in::Frames;
 use vl_io::Clock;
-use vl_row::{Batch, BatchFault, Row, RowList};
+use vl_row::{Batch, BatchFault, Row};
 
 /// The most rows of a batch. So many rows are never too much for one.
 const BATCH_ROWS: usize = 256;
@@ -35,57 +39,61 @@ struct Chunk {
 
 /// Takes in the messages that a read completed. The clock is asked once, if there are any. Messages that an end keeps
 /// back are not counted.
-pub(crate) fn take_in<C: Clock>(
-    alloc: Global,
-    shelf: &mut Shelf<RowList>,
+pub(crate) fn take_in<R: Wait, C: Clock>(
+    access: &Access<'_, R>,
+    pass: &mut Pass,
     messages: &Frames,
     clock: &mut C,
     counts: &mut Counts,
 ) -> Result<(), SyslogEnd>
+    requires pass { IsPassOf access.now.desk.now pass.old }
     requires room { counts.old.accepted + counts.old.refused + length messages.now < 2 ^ 64 }
     ensures all { OnOk result ((now : ℕ) × (outcomes : List (Option Event)) × (batches : List Rows)
         × GaveMoments (C.moments clock.old) (C.moments clock.new) (moment_of messages.now now)
-        × TakesUp now messages.now (seen_of shelf.old) (seen_of shelf.new) counts.old counts.new outcomes batches
-        × (length outcomes ≡ length messages.now)) }
+        × TakesUp (caller_of pass.old) now messages.now (seen_of pass.old) (seen_of pass.new) counts.old counts.new
+        outcomes batches × (length outcomes ≡ length messages.now)) }
     ensures some { IfErr result (λ end. (now : ℕ) × (outcomes : List (Option Event)) × (batches : List Rows)
         × GaveMoments (C.moments clock.old) (C.moments clock.new) (moment_of messages.now now)
-        × TakesUp now messages.now (seen_of shelf.old) (seen_of shelf.new) counts.old counts.new outcomes batches
-        × StopsAt now messages.now outcomes (seen_of shelf.new) end
-        × (length outcomes < length messages.now)) }
+        × TakesSome (caller_of pass.old) now messages.now (seen_of pass.old) (seen_of pass.new) counts.old counts.new
+        outcomes batches end) }
+    ensures pass { IsPassOf access.now.desk.now pass.new }
+    ensures caller { caller_of pass.new ≡ caller_of pass.old }
 {
     if messages.is_empty() {
         return Ok(());
     }
     let now = clock.now().unsigned_abs();
-    take_batches(alloc, shelf, messages, now, counts)
+    take_batches(access, pass, messages, now, counts)
 }
 
 /// Takes in messages that came in at this moment, a batch at a time.
-fn take_batches(
-    alloc: Global,
-    shelf: &mut Shelf<RowList>,
+fn take_batches<R: Wait>(
+    access: &Access<'_, R>,
+    pass: &mut Pass,
     messages: &Frames,
     now: u64,
     counts: &mut Counts,
 ) -> Result<(), SyslogEnd>
+    requires pass { IsPassOf access.now.desk.now pass.old }
     requires moment { now < 2 ^ 63 }
     requires room { counts.old.accepted + counts.old.refused + length messages.now < 2 ^ 64 }
     ensures all { OnOk result ((outcomes : List (Option Event)) × (batches : List Rows)
-        × TakesUp now messages.now (seen_of shelf.old) (seen_of shelf.new) counts.old counts.new outcomes batches
-        × (length outcomes ≡ length messages.now)) }
+        × TakesUp (caller_of pass.old) now messages.now (seen_of pass.old) (seen_of pass.new) counts.old counts.new
+        outcomes batches × (length outcomes ≡ length messages.now)) }
     ensures some { IfErr result (λ end. (outcomes : List (Option Event)) × (batches : List Rows)
-        × TakesUp now messages.now (seen_of shelf.old) (seen_of shelf.new) counts.old counts.new outcomes batches
-        × StopsAt now messages.now outcomes (seen_of shelf.new) end
-        × (length outcomes < length messages.now)) }
+        × TakesSome (caller_of pass.old) now messages.now (seen_of pass.old) (seen_of pass.new) counts.old counts.new
+        outcomes batches end) }
+    ensures pass { IsPassOf access.now.desk.now pass.new }
+    ensures caller { caller_of pass.new ≡ caller_of pass.old }
 {
     let mut at = 0;
     'batches: while at < messages.len() {
-        let Chunk { rows, end } = match read_chunk(alloc, now, messages, at) {
+        let Chunk { rows, end } = match read_chunk(access.alloc, now, messages, at) {
             Ok(chunk) => chunk,
             Err(AllocError) => return Err(SyslogEnd::Memory),
         };
         let accepted = rows.len();
-        match commit_rows(alloc, shelf, rows) {
+        match insert_rows(access, pass, rows) {
             Ok(()) => {}
             Err(end) => return Err(end),
         }
@@ -135,21 +143,30 @@ fn read_row(alloc: Global, now: u64, message: &[u8]) -> Result<Option<Row>, Allo
     }
 }
 
-/// Commits rows as one batch, if there are any.
-fn commit_rows(alloc: Global, shelf: &mut Shelf<RowList>, rows: Vec<Row>) -> Result<(), SyslogEnd>
+/// Inserts rows as one batch, if there are any.
+fn insert_rows<R: Wait>(
+    access: &Access<'_, R>,
+    pass: &mut Pass,
+    rows: Vec<Row>,
+) -> Result<(), SyslogEnd>
+    requires pass { IsPassOf access.now.desk.now pass.old }
     requires few { vec_len rows ≤ batch_rows }
     requires light { batch_weight rows.items ≤ 262_144 * vec_len rows }
-    ensures ok { OnOk result (TakesAll (λ entry. true) (seen_of shelf.old) (batch_of rows.items) (seen_of shelf.new)) }
-    ensures refused { IfErr result (HoldsUp rows.items (seen_of shelf.old)) }
-    ensures same { OnErr result (shelf.new ≡ shelf.old) }
+    ensures ok { OnOk result (TakesAll (caller_of pass.old) (seen_of pass.old) (batch_of rows.items)
+        (seen_of pass.new)) }
+    ensures refused { IfErr result (HoldsUp rows.items (seen_of pass.new)) }
+    ensures has { IfErr result (λ end. Has (caller_of pass.old) (seen_of pass.old) (seen_of pass.new)
+        (end_effect end)) }
+    ensures pass { IsPassOf access.now.desk.now pass.new }
+    ensures caller { caller_of pass.new ≡ caller_of pass.old }
 {
     let batch = match Batch::try_of(rows) {
         Ok(batch) => batch,
         Err((BatchFault::NoRows, _)) => return Ok(()),
         Err((BatchFault::Large { .. }, _)) => unreachable!(),
     };
-    if let Err((fault, _)) = shelf.commit(alloc, RowList::from(batch)) {
-        return Err(SyslogEnd::from(fault));
+    match access.insert(pass, batch) {
+        Ok(_) => Ok(()),
+        Err(fault) => Err(SyslogEnd::from(fault)),
     }
-    Ok(())
 }

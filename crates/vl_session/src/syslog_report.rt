@@ -1,8 +1,7 @@
 //! What a session of syslog reports.
 ghost use Rattle.std.specs.Prelude.{◌≡◌};
 
-use log_core::CommitFault;
-use std::alloc::AllocError;
+use log_desk::InsertFault;
 use syslog_in::FrameFault;
 
 /// What a session of syslog did.
@@ -38,26 +37,16 @@ pub enum SyslogEnd {
     Memory,
 }
 
-impl From<AllocError> for SyslogEnd {
-    ghost use Rattle.vl_session.specs.declared.syslog_report.SyslogEnd.TheVariants.{Memory};
+impl From<InsertFault> for SyslogEnd {
+    ghost use Rattle.vl_session.specs.SyslogTaking.{end_of_insert};
 
-    ghost from_gives = { λ _ end. end ≡ Memory };
+    ghost from_gives = { λ fault end. end ≡ end_of_insert fault };
 
-    fn from(_: AllocError) -> SyslogEnd {
-        SyslogEnd::Memory
-    }
-}
-
-impl From<CommitFault> for SyslogEnd {
-    ghost use Rattle.vl_session.specs.SyslogTaking.{end_of_commit};
-
-    ghost from_gives = { λ fault end. end ≡ end_of_commit fault };
-
-    fn from(fault: CommitFault) -> SyslogEnd {
+    fn from(fault: InsertFault) -> SyslogEnd {
         match fault {
-            CommitFault::Full { held } => SyslogEnd::Full { held },
-            CommitFault::Spent => SyslogEnd::Spent,
-            CommitFault::Memory => SyslogEnd::Memory,
+            InsertFault::Full { held } => SyslogEnd::Full { held },
+            InsertFault::Spent => SyslogEnd::Spent,
+            InsertFault::Memory => SyslogEnd::Memory,
         }
     }
 }

@@ -12,7 +12,7 @@ use crate::send::put_reply;
 use http_in::Request;
 use vl_io::{Clock, Failed, Sink};
 
-/// The requests of one connection.
+/// The most requests of one connection.
 pub(crate) const TURN_LIMIT: usize = 1_000;
 
 /// Serves one request, notes it in the list, which has room for it, and writes the reply.
@@ -23,13 +23,15 @@ pub(crate) fn take_turn<L: Log, K: Sink, C: Clock>(
     sink: &mut K,
     clock: &mut C,
 ) -> Result<(), End>
+    requires may_ask { L.may_ask log.old }
     requires room { vec_len turns.old < vec_capacity turns.old }
     requires few { vec_len turns.old < turn_limit }
-    ensures turn { (turn : Turn) × Serves (L.mine log.old) (asked_by request.now) (L.seen log.old) (L.seen log.new)
+    ensures turn { (turn : Turn) × Serves (L.caller log.old) (asked_by request.now) (L.seen log.old) (L.seen log.new)
         turns.old.items turns.new.items turn
         × Tells (C.moments clock.old) (C.moments clock.new) (pos turn.now)
         × GoesOn turn (change_of K.written K.faults sink.old sink.new) result }
-    ensures own { L.mine log.new ≡ L.mine log.old }
+    ensures may_ask { L.may_ask log.new }
+    ensures same { L.caller log.new ≡ L.caller log.old }
     ensures lent { L.name log.new ≡ L.name log.old }
     ensures faults { K.faults sink.old ≤ K.faults sink.new }
 {
@@ -44,12 +46,14 @@ pub(crate) fn take_turn<L: Log, K: Sink, C: Clock>(
 
 /// Serves one request, and notes it in the list, which has room for it.
 fn serve<L: Log>(log: &mut L, request: &Request, turns: &mut Vec<Done>, now: u64) -> Reply
+    requires may_ask { L.may_ask log.old }
     requires room { vec_len turns.old < vec_capacity turns.old }
     requires few { vec_len turns.old < turn_limit }
     requires moment { now < 2 ^ 63 }
-    ensures served { (turn : Turn) × Serves (L.mine log.old) (asked_by request.now) (L.seen log.old) (L.seen log.new)
+    ensures served { (turn : Turn) × Serves (L.caller log.old) (asked_by request.now) (L.seen log.old) (L.seen log.new)
         turns.old.items turns.new.items turn × (turn.now ≡ now) × (turn.reply ≡ bytes_of result) }
-    ensures own { L.mine log.new ≡ L.mine log.old }
+    ensures may_ask { L.may_ask log.new }
+    ensures same { L.caller log.new ≡ L.caller log.old }
     ensures lent { L.name log.new ≡ L.name log.old }
 {
     let closes = closes_after(turns.len(), request.last);

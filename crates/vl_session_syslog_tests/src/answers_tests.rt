@@ -1,14 +1,15 @@
 //! What sessions come to.
 use crate::sessions_tests::{Setting, Told, tell};
 use crate::spelling_tests::bytes_of;
-use std::alloc::{AllocError, Global};
+use std::alloc::{AllocError, AllocGlobal, Global};
 use std::fmt::Write;
+use std::sync::Wait;
 use vl_session::SyslogEnd;
 
 /// The longest input that is also cut and of which each read fails.
 const SHORT: usize = 200;
 
-pub fn answer(alloc: Global, line: &str) -> Result<String, AllocError> {
+pub fn answer<R: AllocGlobal + Wait>(rt: &R, line: &str) -> Result<String, AllocError> {
     let (name, rest) = line.split_once(" / ").unwrap_or((line, ""));
     let (query, rest) = rest.split_once(" / ").unwrap_or((rest, ""));
     let (piece, case) = rest.split_once(" / ").unwrap_or((rest, ""));
@@ -16,14 +17,14 @@ pub fn answer(alloc: Global, line: &str) -> Result<String, AllocError> {
         piece: piece.parse().unwrap_or(0),
         failing_read: None,
     };
-    let bytes = input(alloc, case)?;
-    let whole = tell(alloc, &bytes, query, setting)?;
-    let mut answer = format!(in alloc; "{name}: ")?;
+    let bytes = input(rt.alloc(), case)?;
+    let whole = tell(rt, &bytes, query, setting)?;
+    let mut answer = format!(in rt.alloc(); "{name}: ")?;
     push_told(&whole, &mut answer)?;
     write!(answer, ", {} batches:{}", whole.batches, whole.lines)?;
     if bytes.len() <= SHORT {
-        push_cut(alloc, &bytes, query, &whole, &mut answer)?;
-        push_reads(alloc, &bytes, query, &mut answer)?;
+        push_cut(rt, &bytes, query, &whole, &mut answer)?;
+        push_reads(rt, &bytes, query, &mut answer)?;
     }
     Ok(answer)
 }
@@ -52,8 +53,8 @@ fn input(alloc: Global, case: &str) -> Result<Vec<u8>, AllocError> {
 }
 
 /// Reads a byte at a time.
-fn push_cut(
-    alloc: Global,
+fn push_cut<R: AllocGlobal + Wait>(
+    rt: &R,
     bytes: &[u8],
     query: &str,
     whole: &Told,
@@ -63,7 +64,7 @@ fn push_cut(
         piece: 1,
         failing_read: None,
     };
-    let told = tell(alloc, bytes, query, cut)?;
+    let told = tell(rt, bytes, query, cut)?;
     if told.report != whole.report || told.lines.as_str() != whole.lines.as_str() {
         answer.push_str("; a byte at a time: ")?;
         push_told(&told, answer)?;
@@ -74,8 +75,8 @@ fn push_cut(
 
 /// Lets each read fail in turn. The session is then the one whose input ended there, but for how it ends, and for a
 /// message that the end would make.
-fn push_reads(
-    alloc: Global,
+fn push_reads<R: AllocGlobal + Wait>(
+    rt: &R,
     bytes: &[u8],
     query: &str,
     answer: &mut String,
@@ -85,12 +86,12 @@ fn push_reads(
             piece: 1,
             failing_read: Some(call as u64),
         };
-        let told = tell(alloc, bytes, query, failing)?;
+        let told = tell(rt, bytes, query, failing)?;
         let closing = Setting {
             piece: 1,
             failing_read: None,
         };
-        let closed = tell(alloc, &bytes[..call], query, closing)?;
+        let closed = tell(rt, &bytes[..call], query, closing)?;
         if !is_stopped(&told, &closed) {
             write!(answer, "; read {call} fails: ")?;
             push_told(&told, answer)?;

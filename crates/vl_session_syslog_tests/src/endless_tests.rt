@@ -3,10 +3,10 @@ ghost use Rattle.std.specs.Prelude.{◌≤◌, IfOk, None, length};
 ghost use Rattle.vl_io.specs.Bytes.{ReadConsumes};
 ghost use Rattle.vl_io.specs.Faults.{HasCause};
 
-use log_core::Shelf;
-use std::alloc::{AllocError, Global};
+use log_desk::Desk;
+use std::alloc::{AllocError, AllocGlobal};
+use std::sync::Wait;
 use vl_io::{Failed, MemClock, Source};
-use vl_row::RowList;
 use vl_session::syslog_session;
 
 /// Each read fills the buffer with one line.
@@ -33,10 +33,11 @@ impl Source for SameLine {
 }
 
 /// A session over it.
-pub fn endless_input(alloc: Global) -> Result<String, AllocError> {
+pub fn endless_input<R: AllocGlobal + Wait>(rt: &R) -> Result<String, AllocError> {
+    let alloc = rt.alloc();
     let mut clock = MemClock::of(alloc, &[5])?;
-    let mut shelf: Shelf<RowList> = Shelf::fresh(alloc)?;
-    let report = syslog_session(alloc, &mut shelf, &mut SameLine, &mut clock);
+    let (desk, mut pass) = Desk::fresh(rt, alloc, 1)?;
+    let report = syslog_session(rt, alloc, &desk, &mut pass, &mut SameLine, &mut clock);
     format!(in alloc;
         "no end: accepted {}, refused {}, {:?}",
         report.accepted, report.refused, report.end

@@ -1,6 +1,6 @@
 //! Reads a case on each line, in parts with ` / ` between them: what it shows, a query, how many bytes a read gives at
 //! most, or 0, how often the input has the bytes that follow, those, and the bytes behind them. Takes the input in over
-//! an empty shelf, and writes how many messages were taken in and refused, how the session ended, how many batches
+//! an empty desk, and writes how many messages were taken in and refused, how the session ended, how many batches
 //! there are then, and what the query answers.
 //!
 //! A short input is also read a byte at a time, and so that each of its reads fails in turn; where that is not what it
@@ -22,10 +22,10 @@ use std::io;
 
 fn main(rt: HostRuntime) -> io::Result<()> {
     for line in rt.lines(rt.alloc()) {
-        let answer = answer(rt.alloc(), line?.as_str())?;
+        let answer = answer(&rt, line?.as_str())?;
         println!(rt; "{answer}")?;
     }
-    let answer = endless_input(rt.alloc())?;
+    let answer = endless_input(&rt)?;
     println!(rt; "{answer}")?;
     Ok(())
 }

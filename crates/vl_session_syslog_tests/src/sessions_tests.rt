@@ -1,11 +1,12 @@
-//! One session over a shelf that is empty before.
+//! One session over a desk that is empty before.
+ghost use Rattle.turn_lock.specs.Passes.{IsPassOf};
 ghost use Rattle.std.specs.Prelude.{◌<◌, All, IfOk};
 
-use log_core::Shelf;
-use std::alloc::{AllocError, Global};
+use log_desk::{Desk, Pass};
+use std::alloc::{AllocError, AllocGlobal, Global};
 use std::fmt::Write;
+use std::sync::Wait;
 use vl_io::{MemClock, MemSource};
-use vl_row::RowList;
 use vl_session::{SyslogReport, answer_query, syslog_session};
 
 /// How the input comes.
@@ -24,35 +25,39 @@ pub struct Told {
     pub lines: String,
 }
 
-pub fn tell(
-    alloc: Global,
+pub fn tell<R: AllocGlobal + Wait>(
+    rt: &R,
     bytes: &[u8],
     query: &str,
     setting: Setting,
 ) -> Result<Told, AllocError> {
+    let alloc = rt.alloc();
     let pieces = pieces(alloc, bytes.len(), setting.piece)?;
     let reads = listed(alloc, setting.failing_read)?;
     let mut source = MemSource::of(alloc, bytes, &pieces, &reads)?;
     let mut clock = MemClock::of(alloc, &[5, 6, 7])?;
-    let mut shelf: Shelf<RowList> = Shelf::fresh(alloc)?;
-    let report = syslog_session(alloc, &mut shelf, &mut source, &mut clock);
+    let (desk, mut pass) = Desk::fresh(rt, alloc, 1)?;
+    let report = syslog_session(rt, alloc, &desk, &mut pass, &mut source, &mut clock);
     let mut lines = String::new(alloc);
-    push_lines(alloc, &shelf, query, &mut lines)?;
+    push_lines(rt, &desk, &mut pass, query, &mut lines)?;
     Ok(Told {
         report,
-        batches: shelf.count(),
+        batches: pass.front(),
         lines,
     })
 }
 
 /// The lines that answer the query, each behind a blank.
-fn push_lines(
-    alloc: Global,
-    shelf: &Shelf<RowList>,
+fn push_lines<R: AllocGlobal + Wait>(
+    rt: &R,
+    desk: &Desk,
+    pass: &mut Pass,
     query: &str,
     out: &mut String,
-) -> Result<(), AllocError> {
-    let Ok(answer) = answer_query(alloc, shelf, query, 9) else {
+) -> Result<(), AllocError>
+    requires { IsPassOf desk.now pass.old }
+{
+    let Ok(answer) = answer_query(rt, rt.alloc(), desk, pass, query, 9) else {
         return out.push_str(" no answer");
     };
     for line in answer.lines.as_str().lines() {

@@ -1,7 +1,8 @@
 //! What connections come to.
 use crate::sessions_tests::{Setting, Told, tell};
 use crate::spelling_tests::bytes_of;
-use std::alloc::{AllocError, Global};
+use std::alloc::{AllocError, AllocGlobal, Global};
+use std::sync::Wait;
 use vl_session::End;
 
 /// The longest connection that is also cut and of which each read fails.
@@ -10,16 +11,16 @@ const SHORT: usize = 200;
 /// More writes than any case has.
 const WRITES: u64 = 8;
 
-pub fn answer(alloc: Global, line: &str) -> Result<String, AllocError> {
+pub fn answer<R: AllocGlobal + Wait>(rt: &R, line: &str) -> Result<String, AllocError> {
     let (name, case) = line.split_once(" | ").unwrap_or((line, ""));
-    let bytes = connection(alloc, case)?;
-    let whole = tell(alloc, &bytes, Setting::default())?;
-    let mut answer = format!(in alloc; "{name} | {}", whole.text)?;
+    let bytes = connection(rt.alloc(), case)?;
+    let whole = tell(rt, &bytes, Setting::default())?;
+    let mut answer = format!(in rt.alloc(); "{name} | {}", whole.text)?;
     if bytes.len() <= SHORT {
-        push_cut(alloc, &bytes, &whole, &mut answer)?;
-        push_reads(alloc, &bytes, &whole, &mut answer)?;
+        push_cut(rt, &bytes, &whole, &mut answer)?;
+        push_reads(rt, &bytes, &whole, &mut answer)?;
     }
-    push_writes(alloc, &bytes, &whole, &mut answer)?;
+    push_writes(rt, &bytes, &whole, &mut answer)?;
     Ok(answer)
 }
 
@@ -38,8 +39,8 @@ fn connection(alloc: Global, case: &str) -> Result<Vec<u8>, AllocError> {
 }
 
 /// Reads a byte at a time.
-fn push_cut(
-    alloc: Global,
+fn push_cut<R: AllocGlobal + Wait>(
+    rt: &R,
     bytes: &[u8],
     whole: &Told,
     answer: &mut String,
@@ -48,7 +49,7 @@ fn push_cut(
         by_bytes: true,
         ..Setting::default()
     };
-    let told = tell(alloc, bytes, cut)?;
+    let told = tell(rt, bytes, cut)?;
     if told.text.as_str() != whole.text.as_str() {
         answer.push_str("; a byte at a time: ")?;
         answer.push_str(told.text.as_str())?;
@@ -57,8 +58,8 @@ fn push_cut(
 }
 
 /// Lets each read fail in turn. The session ends there, as it would where the input ended there, but for how it ends.
-fn push_reads(
-    alloc: Global,
+fn push_reads<R: AllocGlobal + Wait>(
+    rt: &R,
     bytes: &[u8],
     whole: &Told,
     answer: &mut String,
@@ -69,8 +70,8 @@ fn push_reads(
             failing_read: Some(call as u64),
             ..Setting::default()
         };
-        let told = tell(alloc, bytes, failing)?;
-        if !is_stopped(alloc, &bytes[..call], whole, &told)? {
+        let told = tell(rt, bytes, failing)?;
+        if !is_stopped(rt, &bytes[..call], whole, &told)? {
             answer.push_str("; a read fails: ")?;
             answer.push_str(told.text.as_str())?;
         }
@@ -79,18 +80,23 @@ fn push_reads(
 }
 
 /// Whether a session is the one whose source failed behind these bytes, or ended before that.
-fn is_stopped(alloc: Global, read: &[u8], whole: &Told, told: &Told) -> Result<bool, AllocError> {
+fn is_stopped<R: AllocGlobal + Wait>(
+    rt: &R,
+    read: &[u8],
+    whole: &Told,
+    told: &Told,
+) -> Result<bool, AllocError> {
     if told.text.as_str() == whole.text.as_str() && told.end != End::SourceFault {
         return Ok(true);
     }
-    let before = tell(alloc, read, Setting::default())?;
+    let before = tell(rt, read, Setting::default())?;
     let same = told.written.as_slice() == before.written.as_slice();
     Ok(same && told.end == End::SourceFault)
 }
 
 /// Lets each write fail in turn.
-fn push_writes(
-    alloc: Global,
+fn push_writes<R: AllocGlobal + Wait>(
+    rt: &R,
     bytes: &[u8],
     whole: &Told,
     answer: &mut String,
@@ -100,7 +106,7 @@ fn push_writes(
             failing_write: Some(call),
             ..Setting::default()
         };
-        let told = tell(alloc, bytes, failing)?;
+        let told = tell(rt, bytes, failing)?;
         let same = told.text.as_str() == whole.text.as_str();
         let front = whole.written.as_slice().starts_with(&told.written);
         if !same && (told.end != End::SinkFault || !front) {

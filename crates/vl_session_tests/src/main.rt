@@ -1,5 +1,5 @@
 //! Reads a case on each line: what it shows, how often the connection has the bytes that follow, those, and the
-//! bytes behind them. Serves it over an empty shelf, and writes what was written, the moments of the first turns
+//! bytes behind them. Serves it over an empty desk, and writes what was written, the moments of the first turns
 //! with how many batches had been seen and were settled then, and how the session ended. A short connection is also
 //! read a byte at a time, and so that each of its reads fails in turn, and each is served so that each write does;
 //! where that is not what it is to be, it is written too.
@@ -19,7 +19,7 @@ use std::io;
 
 fn main(rt: HostRuntime) -> io::Result<()> {
     for line in rt.lines(rt.alloc()) {
-        let answer = answer(rt.alloc(), line?.as_str())?;
+        let answer = answer(&rt, line?.as_str())?;
         println!(rt; "{answer}")?;
     }
     Ok(())

@@ -1,12 +1,12 @@
-//! One session over a shelf that is empty before.
+//! One session over a desk that is empty before.
 ghost use Rattle.std.specs.Prelude.{◌<◌, All, IfOk};
 
 use crate::spelling_tests::push_spelled;
-use log_core::Shelf;
-use std::alloc::{AllocError, Global};
+use log_desk::Desk;
+use std::alloc::{AllocError, AllocGlobal, Global};
 use std::fmt::Write;
+use std::sync::Wait;
 use vl_io::{MemClock, MemSink, MemSource};
-use vl_row::RowList;
 use vl_session::{End, Report, serve_session};
 
 /// How many turns are shown.
@@ -28,15 +28,28 @@ pub struct Told {
     pub end: End,
 }
 
-pub fn tell(alloc: Global, bytes: &[u8], setting: Setting) -> Result<Told, AllocError> {
+pub fn tell<R: AllocGlobal + Wait>(
+    rt: &R,
+    bytes: &[u8],
+    setting: Setting,
+) -> Result<Told, AllocError> {
+    let alloc = rt.alloc();
     let pieces = pieces(alloc, bytes.len(), setting.by_bytes)?;
     let reads = listed(alloc, setting.failing_read)?;
     let writes = listed(alloc, setting.failing_write)?;
     let mut source = MemSource::of(alloc, bytes, &pieces, &reads)?;
     let mut sink = MemSink::of(alloc, &writes)?;
     let mut clock = MemClock::of(alloc, &[5, 6, 7])?;
-    let mut shelf: Shelf<RowList> = Shelf::fresh(alloc)?;
-    let report = serve_session(alloc, &mut shelf, &mut source, &mut sink, &mut clock);
+    let (desk, mut pass) = Desk::fresh(rt, alloc, 1)?;
+    let report = serve_session(
+        rt,
+        alloc,
+        &desk,
+        &mut pass,
+        &mut source,
+        &mut sink,
+        &mut clock,
+    );
     let written = Vec::from_slice(alloc, sink.bytes())?;
     let text = shown(alloc, &written, &report)?;
     Ok(Told {

@@ -1,24 +1,28 @@
 -- What has been seen, as a history of batches.
-use Rattle.std.proofs.Common.{◌≡◌, ℕ, ◌+◌, ◌<◌, ◌≤◌, pos, Bool, true, List, [], ◌∷◌, ◌++◌, length, refl, sym, ap, subst, ◌∙◌, arith}
-use Rattle.std.specs.Prelude.{filter}
+use Rattle.std.proofs.Common.{◌≡◌, ℕ, ◌+◌, ◌≤◌, List, [], ◌∷◌, ◌++◌, length, refl, sym, ap, subst, ◌∙◌, arith}
 use Rattle.std.proofs.lemmas.List.{length-map, map-append}
 use Rattle.log_model.specs.Core.{held_limit}
-use Rattle.log_model.specs.History.{Entry, History, batches_in, entry_rows}
+use Rattle.log_model.specs.History.{History, batches_in, entry_rows}
 use Rattle.log_model.specs.Row.{Batch, Row, batch_limit, batch_weight}
 use Rattle.ingest_row.specs.Ingest.{Options, plain}
 use Rattle.ingest_row.specs.Intake.{Outcome, rows_read}
 use Rattle.vl_session.specs.Insert.{HasInsertOutcome, insert_effect}
-use Rattle.vl_session.specs.Insertion.{Inserts, accepted}
-use Rattle.vl_session.specs.Seen.{Gains, Has, Seen}
+use Rattle.log_desk.proofs.SeenLaws.{none_beside_one}
+use Rattle.vl_session.specs.Insertion.{accepted}
+use Rattle.log_desk.specs.Seen.{Caller, Follows, Gains, Seen}
+use Rattle.vl_session.specs.Seen.{Has}
 use Rattle.vl_session.specs.declared.insert.Insertion.{Insertion}
-use Rattle.vl_top.specs.Groups.{batch_of}
+use Rattle.vl_top.specs.Alone.{InsertsAlone, IsAlone}
 use Rattle.vl_top.specs.Load.{AddsRows, IsHeld, TakesGroup}
 use Rattle.vl_top.proofs.GroupLemmas.{append_nil}
 
--- All entries are the one caller's own.
-all_own : (history : History) → filter (λ (entry : Entry). true) history ≡ [] → history ≡ []
-all_own [] none = refl
-all_own (entry ∷ history) none = absurd cc
+-- Nobody else added anything.
+pub same_history : (caller : Caller) → IsAlone caller → (old new : Seen) → Follows caller old new
+    → new.history ≡ old.history
+same_history caller alone old new follows =
+    follows.longer
+    ∙ ap (λ (others : History). old.history ++ others)
+    (none_beside_one caller follows.others alone.one_pass alone.first follows.strange) ∙ append_nil old.history
 
 as_many : (seen : Seen) (batches : List Batch) → IsHeld seen batches → length batches ≡ length seen.history
 as_many seen batches held = sym (ap length held.entered) ∙ length-map seen.history entry_rows
@@ -31,21 +35,21 @@ pub held_all : (seen : Seen) (batches : List Batch) → IsHeld seen batches
 held_all seen batches held full = omega (arith, held.settled, full, as_many seen batches held)
 
 -- the batches with one entry more, which comes right behind them
-batches-gained : (old new : Seen) (rows : List Row) → Gains (λ entry. true) old new rows
+batches-gained : (caller : Caller) (old new : Seen) (rows : List Row) → IsAlone caller → Gains caller old new rows
     → batches_in new.history ≡ batches_in old.history ++ rows ∷ []
-batches-gained old new rows gains =
+batches-gained caller old new rows alone gains =
     let last : gains.others ++ gains.entry ∷ [] ≡ gains.entry ∷ [] =
-    ap (λ (others : History). others ++ gains.entry ∷ []) (all_own gains.others gains.not_mine) in
+    ap (λ (others : History). others ++ gains.entry ∷ []) (none_beside_one caller gains.others alone.one_pass alone.first gains.strange) in
     ap batches_in gains.longer
     ∙ ap (λ (later : History). batches_in (old.history ++ later)) last
     ∙ map-append entry_rows old.history (gains.entry ∷ [])
     ∙ ap (λ rows. batches_in old.history ++ rows ∷ []) gains.rows
 
-module _ (options : Options) (now : ℕ) (body : List ℕ) (outcomes : List Outcome) (old new : Seen)
-    (same : new.settled ≡ old.settled) where
+module _ (caller : Caller) (alone : IsAlone caller) (options : Options) (now : ℕ) (body : List ℕ)
+    (outcomes : List Outcome) (old new : Seen) where
   adds : (rows : List Row) → rows_read outcomes ≡ rows
       → HasInsertOutcome options now body new (accepted rows outcomes)
-      → Has (λ entry. true) old new (insert_effect (accepted rows outcomes)) → AddsRows old new rows
+      → Has caller old new (insert_effect (accepted rows outcomes)) → AddsRows old new rows
   adds [] none comes stays = (
     omega arith,
     λ batches held. subst (λ seen. IsHeld seen (batches ++ [])) (sym stays)
@@ -54,10 +58,10 @@ module _ (options : Options) (now : ℕ) (body : List ℕ) (outcomes : List Outc
   adds (row ∷ rows) are comes gains = (
     subst (λ rows. batch_weight rows ≤ batch_limit) are comes.0.light,
     λ batches held.
-        let gained : Gains (λ entry. true) old new (row ∷ rows) = subst (Gains (λ entry. true) old new) are gains in
+        let gained : Gains caller old new (row ∷ rows) = subst (Gains caller old new) are gains in
         let entered : batches_in new.history ≡ batches ++ (row ∷ rows) ∷ [] =
-        batches-gained old new (row ∷ rows) gained ∙ ap (λ bs. bs ++ (row ∷ rows) ∷ []) held.entered in
-        let settled : new.settled ≡ 0 = same ∙ held.settled in
+        batches-gained caller old new (row ∷ rows) alone gained ∙ ap (λ bs. bs ++ (row ∷ rows) ∷ []) held.entered in
+        let settled : new.settled ≡ 0 = gained.stays (omega (arith, alone.settles)) ∙ held.settled in
         record {
           entered = entered;
           few = omega (
@@ -72,11 +76,10 @@ module _ (options : Options) (now : ℕ) (body : List ℕ) (outcomes : List Outc
   )
 
 -- A group was taken in.
-pub takes : (now : ℕ) (body : List ℕ) (old new : Seen) (insertion : Insertion) → new.settled ≡ old.settled
-    → (inserts : Inserts (λ entry. true) plain now body old new insertion)
-    → TakesGroup now body inserts.outcomes old new
-takes now body old new insertion same inserts = record {
+pub takes : (now : ℕ) (body : List ℕ) (old new : Seen) (insertion : Insertion)
+    → (inserts : InsertsAlone plain now body old new insertion) → TakesGroup now body inserts.2.outcomes old new
+takes now body old new insertion (caller, alone, inserts) = record {
   intake = inserts.given;
-  adds = adds plain now body inserts.outcomes old new same (rows_read inserts.outcomes) refl inserts.has_outcome
-      inserts.has;
+  adds = adds caller alone plain now body inserts.outcomes old new (rows_read inserts.outcomes) refl
+      inserts.has_outcome inserts.has;
 }

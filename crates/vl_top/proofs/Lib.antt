@@ -9,3 +9,4 @@ pub mod RunLemmas
 pub mod RefusalLemmas
 pub mod RefusedLemmas
 pub mod WeightLemmas
+mod AnswerLemmas

@@ -12,10 +12,10 @@ use Rattle.log_model.specs.Line.{lines_of}
 use Rattle.log_model.specs.Row.{batch_limit, batch_weight}
 use Rattle.log_model.proofs.Lines.{lines_le, lines_of-none}
 use Rattle.ingest_row.specs.Intake.{Outcome, rows_read}
-use Rattle.vl_session.specs.Seen.{Seen}
+use Rattle.log_desk.specs.Seen.{Seen}
 use Rattle.vl_top.specs.Groups.{AreGroups, BeginsWith, CanBeHeld, EndsLine, HasOutcome, HaveOutcomes, batches_of, outcomes_in, refusals_from, refusals_of}
 use Rattle.vl_top.specs.Program as model
-use Rattle.vl_top.specs.Program.{AreFew, HaveNoGroup, IsBeyond, IsCause, StopsBehind}
+use Rattle.vl_top.specs.Program.{AreFew, HaveNoGroup, IsBeyond}
 use Rattle.vl_top.specs.Groups.{input_limit}
 use Rattle.vl_top.specs.Load.{IsHeld, IsLoaded, IsTooMuch, StopsGroup, StopsLoad, StopsUntold, TakesGroup}
 use Rattle.vl_top.specs.Interrupt.{limit_of, interrupt_at}

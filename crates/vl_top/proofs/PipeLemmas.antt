@@ -1,5 +1,5 @@
 -- From the input to the answer.
-use Rattle.std.proofs.Common.{◌<◌, ◌≡◌, inl, inr, ℕ, pos, ◌≤◌, List, [], ◌++◌, take, Option, refl, sym, ap, subst, ◌∙◌, arith}
+use Rattle.std.proofs.Common.{◌<◌, ◌≡◌, inl, inr, ℕ, pos, ◌≤◌, List, [], ◌++◌, take, Option, refl, sym, subst, arith}
 use Rattle.vl_io.specs.Bytes.{Appends}
 use Rattle.vl_io.specs.Change.{Change, Gave, IsCut, IsTold, Took}
 use Rattle.vl_io.specs.Lines.{is_feed}
@@ -9,7 +9,7 @@ use Rattle.log_model.specs.History.{rows_of}
 use Rattle.lq_ast.specs.Question.{Question}
 use Rattle.lq_ast.specs.Evaluation.{evaluate}
 use Rattle.query_run.specs.Asked.{IsReadableQuery}
-use Rattle.vl_session.specs.Seen.{Seen}
+use Rattle.log_desk.specs.Seen.{Seen}
 use Rattle.vl_top.specs.Groups.{refusals_of}
 use Rattle.vl_top.specs.Program as model
 use Rattle.vl_top.specs.Program.{AreFew, IsAnswer, IsTakenIn, overflow_text, overflowing, said_of_query, stop_text}

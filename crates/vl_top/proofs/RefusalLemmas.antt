@@ -1,12 +1,12 @@
 -- The names of refused lines, as a body has them and as the program writes them.
-use Rattle.std.proofs.Common.{◌≡◌, ℕ, ℤ, suc, pos, negsuc, ◌+◌, ◌<◌, ◌≤◌, ◌≤ℤ◌, ◌^◌, List, [], ◌∷◌, ◌++◌, length, Option, refl, sym, ap, subst, ◌∙◌, arith, unsigned_abs, string_bytes}
+use Rattle.std.proofs.Common.{◌≡◌, ℕ, ℤ, suc, pos, negsuc, ◌+◌, ◌<◌, ◌≤◌, ◌≤ℤ◌, ◌^◌, List, [], ◌∷◌, ◌++◌, length, Option, refl, sym, ap, subst, ◌∙◌, arith, unsigned_abs}
 use Rattle.std.specs.List.{AllByRecursion, AllZip}
 use Rattle.std.proofs.lemmas.Int.{ints}
 use Rattle.log_model.specs.Line.{lines_of}
 use Rattle.log_model.proofs.Lines.{lines_le}
 use Rattle.ingest_row.specs.Intake.{Outcome, passed_over, read, refused, refused_from}
 use Rattle.ingest_row.specs.declared.body.LineFault.{LineFault}
-use Rattle.vl_session.specs.Seen.{Seen}
+use Rattle.log_desk.specs.Seen.{Seen}
 use Rattle.vl_top.specs.Groups.{HasOutcome, names_after, refusal_text, refusals_from}
 use Rattle.vl_top.specs.Load.{RefusesGroup, StopsGroup}
 use Rattle.vl_top.specs.declared.interrupt.Interrupt.{Interrupt}

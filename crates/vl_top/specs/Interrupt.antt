@@ -7,7 +7,7 @@ use Rattle.vl_top.specs.declared.interrupt.Overflow.TheVariants.{ManyRows, Total
 use Rattle.vl_top.specs.declared.interrupt.Limit.{Limit}
 use Rattle.vl_top.specs.declared.interrupt.Limit.TheVariants.{Long, Large, Full}
 use Rattle.vl_top.specs.declared.interrupt.Interrupt.{Interrupt}
-use Rattle.vl_top.specs.declared.interrupt.Interrupt.TheVariants.{Unreadable, Beyond, NoAnswer, NoMemory}
+use Rattle.vl_top.specs.declared.interrupt.Interrupt.TheVariants.{Unreadable, Beyond, NoMemory}
 
 abbrev pub limit_of : Limit → model.Limit
 limit_of Long = model.long

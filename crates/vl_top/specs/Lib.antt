@@ -1,3 +1,4 @@
+pub mod Alone
 pub mod Groups
 pub mod Interrupt
 pub mod Load

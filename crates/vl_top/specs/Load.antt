@@ -1,11 +1,11 @@
--- What becomes of an input on its way into the shelf.
+-- What becomes of an input on its way to the desk.
 use Rattle.std.specs.Prelude.{◌≡◌, ℕ, ◌+◌, ◌<◌, ◌≤◌, List, [], ◌++◌, length}
 use Rattle.vl_io.specs.Change.{Change, IsCut, IsSpent, IsUntold, Took}
 use Rattle.log_model.specs.Core.{held_limit}
 use Rattle.log_model.specs.History.{batches_in}
 use Rattle.log_model.specs.Row.{Batch, Row, batch_limit, batch_weight}
 use Rattle.ingest_row.specs.Intake.{Outcome, rows_read}
-use Rattle.vl_session.specs.Seen.{Seen}
+use Rattle.log_desk.specs.Seen.{Seen}
 use Rattle.vl_top.specs.Groups.{BeginsWith, CanBeHeld, HaveOutcomes, batch_of, batches_of, refusals_from, refusals_of}
 use Rattle.vl_top.specs.Program as model
 use Rattle.vl_top.specs.Program.{StopsBehind}
@@ -16,7 +16,7 @@ use Rattle.vl_top.specs.declared.interrupt.Limit.TheVariants.{Long, Large, Full}
 use Rattle.vl_top.specs.declared.interrupt.Interrupt.{Interrupt}
 use Rattle.vl_top.specs.declared.interrupt.Interrupt.TheVariants.{Unreadable, Unwritable, Beyond, NoAnswer, NoMemory}
 
--- What has been seen is a history of these batches, as many as may wait to be settled, and none is settled.
+-- What has been seen is a history of these batches, no more than may wait to be settled, and none is settled.
 pub record IsHeld (seen : Seen) (batches : List Batch) : Type 0 where
   pub entered : batches_in seen.history ≡ batches
   pub few : length batches ≤ held_limit

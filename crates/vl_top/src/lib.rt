@@ -8,6 +8,7 @@ ghost use Rattle.vl_top.specs.Run.{IsNotAsked, IsRun};
 mod command;
 mod interrupt;
 mod load;
+mod lone_desk;
 mod names;
 mod pipe;
 mod refusal;
@@ -20,13 +21,14 @@ use query_run::read_query;
 use report::report_refused;
 pub use report::{report_no_memory, report_usage};
 pub use status::Status;
+use std::sync::Wait;
 use vl_io::{Clock, Sink, Source};
 
 /// Does what the words ask for, and answers the status that the process ends with.
 ///
 /// `pipe QUERY` reads the query, then the source to its end in groups of 1,000 lines, and writes the lines of the
 /// records that its pipes make of the rows that hold.
-pub fn run<R: AllocGlobal, S: Source, O: Sink, E: Sink, C: Clock>(
+pub fn run<R: AllocGlobal + Wait, S: Source, O: Sink, E: Sink, C: Clock>(
     rt: &R,
     words: &[&str],
     src: &mut S,
@@ -56,7 +58,7 @@ pub fn run<R: AllocGlobal, S: Source, O: Sink, E: Sink, C: Clock>(
     };
     let alloc = rt.alloc();
     match read_query(alloc, text) {
-        Ok(_search) => run_pipe(alloc, text, src, out, err, clock).number(),
+        Ok(_search) => run_pipe(rt, text, src, out, err, clock).number(),
         Err(refusal) => report_refused(alloc, refusal, err).number(),
     }
 }

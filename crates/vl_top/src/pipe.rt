@@ -2,24 +2,24 @@
 ghost use Rattle.std.specs.Prelude.{◌≡◌, ◌≢◌, ◌≤◌, ◌≤ℤ◌, ℕ, OnOk, IfErr, IfOk, pos, unsigned_abs};
 ghost use Rattle.vl_io.specs.Change.{change_of};
 ghost use Rattle.vl_io.specs.Moments.{FirstTold};
-ghost use Rattle.log_core.specs.History.{history_of};
 ghost use Rattle.query_run.specs.Asked.{IsReadableQuery};
 ghost use Rattle.vl_top.specs.Pipe.{EndsPipe, ForText, HasLines, HasNoLines, StopsPipe};
 ghost use Rattle.vl_top.specs.Run.{IsAnswered};
 
 use crate::interrupt::{Interrupt, Overflow};
 use crate::load::load;
+use crate::lone_desk::LoneDesk;
 use crate::report::report_interrupt;
 use crate::status::Status;
-use log_core::Shelf;
-use std::alloc::Global;
+use std::alloc::AllocGlobal;
+use std::sync::Wait;
 use vl_io::{Clock, Failed, Sink, Source, put_all};
-use vl_row::{RowList, Text};
-use vl_session::{AnswerFault, answer_query};
+use vl_row::Text;
+use vl_session::AnswerFault;
 
 /// Loads the input and writes the answer, or says why not.
-pub fn run_pipe<S: Source, O: Sink, E: Sink, C: Clock>(
-    alloc: Global,
+pub fn run_pipe<R: AllocGlobal + Wait, S: Source, O: Sink, E: Sink, C: Clock>(
+    rt: &R,
     text: &str,
     src: &mut S,
     out: &mut O,
@@ -33,15 +33,15 @@ pub fn run_pipe<S: Source, O: Sink, E: Sink, C: Clock>(
     ensures untouched { result ≢ Status.Done → result ≢ Status.WriteFault → out.new ≡ out.old }
 {
     let now = clock.now();
-    match pipe(alloc, text, now, src, out, err) {
+    match pipe(rt, text, now, src, out, err) {
         Ok(()) => Status::Done,
-        Err(interrupt) => report_interrupt(alloc, interrupt, err),
+        Err(interrupt) => report_interrupt(rt.alloc(), interrupt, err),
     }
 }
 
 /// Loads the input, and writes the answer.
-fn pipe<S: Source, O: Sink, E: Sink>(
-    alloc: Global,
+fn pipe<R: AllocGlobal + Wait, S: Source, O: Sink, E: Sink>(
+    rt: &R,
     text: &str,
     now: i64,
     src: &mut S,
@@ -59,9 +59,9 @@ fn pipe<S: Source, O: Sink, E: Sink>(
     ensures untouched { IfErr result (λ interrupt. interrupt ≢ Interrupt.Unwritable → out.new ≡ out.old) }
     ensures faults { E.faults err.old ≤ E.faults err.new }
 {
-    let mut shelf = Shelf::fresh(alloc)?;
-    load(alloc, now, src, err, &mut shelf)?;
-    let lines = answer_lines(alloc, &shelf, text, now)?;
+    let mut desk = LoneDesk::fresh(rt, rt.alloc())?;
+    load(&mut desk, now, src, err)?;
+    let lines = answer_lines(&mut desk, text, now)?;
     match put_all(out, lines.as_str().as_bytes()) {
         Ok(()) => Ok(()),
         Err(Failed) => Err(Interrupt::Unwritable),
@@ -69,18 +69,17 @@ fn pipe<S: Source, O: Sink, E: Sink>(
 }
 
 /// The lines of the answer to a query that can be asked.
-fn answer_lines(
-    alloc: Global,
-    shelf: &Shelf<RowList>,
+fn answer_lines<R: Wait>(
+    desk: &mut LoneDesk<'_, R>,
     text: &str,
     now: i64,
 ) -> Result<Text, Interrupt>
     requires readable { IsReadableQuery text.now }
     requires moment { pos 0 ≤ℤ now }
-    ensures answered { IfOk result (HasLines text.now (unsigned_abs now) (history_of shelf.now)) }
-    ensures unanswered { IfErr result (HasNoLines text.now (unsigned_abs now) (history_of shelf.now)) }
+    ensures answered { IfOk result (HasLines text.now (unsigned_abs now) desk.old.history) }
+    ensures unanswered { IfErr result (HasNoLines text.now (unsigned_abs now) desk.old.history) }
 {
-    match answer_query(alloc, shelf, text, now) {
+    match desk.answer_query(text, now) {
         Ok(answer) => Ok(answer.lines),
         Err(AnswerFault::ManyRows) => Err(Interrupt::NoAnswer(Overflow::ManyRows)),
         Err(AnswerFault::Overflow { name }) => Err(Interrupt::NoAnswer(Overflow::Total(name))),

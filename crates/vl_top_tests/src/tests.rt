@@ -1,5 +1,6 @@
 //! The program over objects in memory. The expected texts are worked by hand from the rules in `docs/`.
-use std::alloc::{AllocError, Global};
+use std::alloc::{AllocError, AllocGlobal, Global};
+use std::sync::Wait;
 use std::test::Fail;
 use vl_io::{MemClock, MemSink, MemSource};
 use vl_top::run;
@@ -28,8 +29,8 @@ pub(crate) struct Wanted<'a> {
 
 /// Whether a run ends so, on a clock that stands at 5 ns, and then at 7, and a source that gives its input in small
 /// pieces first.
-pub(crate) fn ends(
-    rt: &HostRuntime,
+pub(crate) fn ends<R: AllocGlobal + Wait>(
+    rt: &R,
     words: &[&str],
     input: &[u8],
     failing: Failing<'_>,
@@ -190,7 +191,7 @@ fn printed(alloc: Global, messages: &str) -> Result<String, AllocError> {
     Ok(text)
 }
 
-fn selects(rt: &HostRuntime, query: &str, messages: &str) -> Result<bool, AllocError> {
+fn selects<R: AllocGlobal + Wait>(rt: &R, query: &str, messages: &str) -> Result<bool, AllocError> {
     let out = printed(rt.alloc(), messages)?;
     let wanted = Wanted {
         status: 0,
@@ -407,7 +408,7 @@ fn surrounded(alloc: Global, line: &[u8]) -> Result<Vec<u8>, AllocError> {
 }
 
 /// Whether such a line between two good ones is refused so, and nothing else is lost.
-fn is_named(rt: &HostRuntime, line: &[u8], named: &str) -> Result<bool, AllocError> {
+fn is_named<R: AllocGlobal + Wait>(rt: &R, line: &[u8], named: &str) -> Result<bool, AllocError> {
     let input = surrounded(rt.alloc(), line)?;
     let wanted = Wanted {
         status: 0,
@@ -426,7 +427,11 @@ fn a_line_that_is_no_row_is_named_and_nothing_else_is_lost(rt: HostRuntime) -> R
 }
 
 /// Whether a line of so many brackets is refused so.
-fn brackets_are_named(rt: &HostRuntime, bracket: u8, named: &str) -> Result<bool, AllocError> {
+fn brackets_are_named<R: AllocGlobal + Wait>(
+    rt: &R,
+    bracket: u8,
+    named: &str,
+) -> Result<bool, AllocError> {
     let deep = vec![in rt.alloc(); bracket; 100_000]?;
     is_named(rt, &deep, named)
 }
@@ -549,7 +554,7 @@ fn spread(alloc: Global, first: &str, feeds: usize, last: &str) -> Result<Vec<u8
 
 /// Whether a source that fails at this read, behind a whole group, has the refused lines of the group named before the
 /// fault is told.
-fn names_first(rt: &HostRuntime, read: u64) -> Result<bool, AllocError> {
+fn names_first<R: AllocGlobal + Wait>(rt: &R, read: u64) -> Result<bool, AllocError> {
     let input = spread(rt.alloc(), "x", 1_000, "y\n")?;
     let failing = Failing {
         reads: &[read],
@@ -579,7 +584,7 @@ fn repeated(alloc: Global, text: &str, times: usize) -> Result<Vec<u8>, AllocErr
 }
 
 /// Whether so many lines `{"_msg":"error"}` give as many rows, and nothing else.
-fn all_are_answered(rt: &HostRuntime, lines: usize) -> Result<bool, AllocError> {
+fn all_are_answered<R: AllocGlobal + Wait>(rt: &R, lines: usize) -> Result<bool, AllocError> {
     let input = repeated(rt.alloc(), "{\"_msg\":\"error\"}\n", lines)?;
     let row =
         "{\"_msg\":\"error\",\"_stream\":\"{}\",\"_stream_id\":\"44136fa355b3678a1146ad16f7e8649e\",\
@@ -589,7 +594,11 @@ fn all_are_answered(rt: &HostRuntime, lines: usize) -> Result<bool, AllocError> 
 }
 
 /// Whether the rows with the word `error` of this input are these, and nothing else is written.
-fn is_answered(rt: &HostRuntime, input: &[u8], out: &[u8]) -> Result<bool, AllocError> {
+fn is_answered<R: AllocGlobal + Wait>(
+    rt: &R,
+    input: &[u8],
+    out: &[u8],
+) -> Result<bool, AllocError> {
     let Ok(out) = str::from_utf8(out) else {
         return Ok(false);
     };
@@ -608,7 +617,11 @@ fn groups_are_answered_in_their_order(rt: HostRuntime) -> Result<(), Fail> {
 }
 
 /// Groups with a row each, so many, and whether the run ends with this status and this text.
-fn held(rt: &HostRuntime, groups: usize, wanted: Wanted<'_>) -> Result<bool, AllocError> {
+fn held<R: AllocGlobal + Wait>(
+    rt: &R,
+    groups: usize,
+    wanted: Wanted<'_>,
+) -> Result<bool, AllocError> {
     let group = spread(rt.alloc(), "{\"a\":\"b\"}", 1_000, "")?;
     let Ok(text) = str::from_utf8(group.as_slice()) else {
         return Ok(false);
@@ -635,7 +648,11 @@ fn a_4097th_batch_is_refused(rt: HostRuntime) -> Result<(), Fail> {
 }
 
 /// Lines with one field of 262,144 bytes, its name counted, so many, and whether the run ends so.
-fn weighs(rt: &HostRuntime, lines: usize, wanted: Wanted<'_>) -> Result<bool, AllocError> {
+fn weighs<R: AllocGlobal + Wait>(
+    rt: &R,
+    lines: usize,
+    wanted: Wanted<'_>,
+) -> Result<bool, AllocError> {
     let mut line = Vec::from_slice(rt.alloc(), b"{\"a\":\"")?;
     line.extend_from_slice(&repeated(rt.alloc(), "b", 262_143)?)?;
     line.extend_from_slice(b"\"}\n")?;

@@ -1,4 +1,4 @@
-use Rattle.std.proofs.Common.{rules, ◌≡◌, ◌++◌, ◌<◌, ◌^◌}
+use Rattle.std.proofs.Common.{rules, ◌<◌, ◌^◌}
 use Rattle.vl_session.proofs.InsertLemmas.{named_plain}
 use Rattle.vl_session.proofs.insert_reply.push_named.Goals as goal
 

@@ -8,4 +8,4 @@ pub returns-clause-asked : goal.returns-clause-asked
 returns-clause-asked c text now history = only_evaluation c.query_law.ensures.one text now history
 
 pub returns-clause-select : goal.returns-clause-select
-returns-clause-select c mine select = select_answered c.query_law.ensures.one mine select
+returns-clause-select c caller select = select_answered c.query_law.ensures.one caller select

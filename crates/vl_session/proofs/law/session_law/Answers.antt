@@ -1,4 +1,3 @@
-use Rattle.std.proofs.Common.{length}
 use Rattle.vl_session.proofs.GrowLemmas.{turns_grow}
 use Rattle.vl_session.proofs.RequestLemmas.{all_served}
 use Rattle.vl_session.proofs.law.session_law.Goals as goal
@@ -9,4 +8,4 @@ returns-clause-requests _ c session by requests behind are =
     session.serving.requests are
 
 pub returns-clause-entries : goal.returns-clause-entries
-returns-clause-entries _ c session = turns_grow c.mine 0 c.first c.last session.turns session.serving.ran
+returns-clause-entries _ c session = turns_grow c.caller 0 c.first c.last session.turns session.serving.ran

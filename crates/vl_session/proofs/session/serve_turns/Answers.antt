@@ -7,7 +7,8 @@ use Rattle.vl_session.proofs.session.serve_turns.Goals as goal
 pub turns-init : goal.turns-init
 turns-init g c = record {
   going = going_first _ _ _ _ _ _ _ _ _ c.new-turns.ensures.items c.new-reader.ensures.holds;
-  own = refl;
+  may_ask = c.requires;
+  same = refl;
   lent = refl;
   faultless = c.new-reader.ensures.fresh;
   few = omega (arith, c.new-turns.ensures.len);
@@ -43,7 +44,7 @@ returns-in-Err-take_turn-clause-session g c =
     omega (arith, c.turns-test.true, c.len.ensures, c.turns.turns.ok.0, ap length c.in-Ok.ensures.items) in
     ends_turn _ _ _ _ _ _ _ _ _ _ _ _ _ _ _ _ _ _ _ _ _ _ _ t.0 _ _ stays few
     (going_moved _ _ _ _ _ _ _ _ _ _ _ _ _ _ _ c.in-Ok.ensures.items found.silent before.going) found.found
-    (serves_as _ _ _ _ _ _ _ _ before.own t.1) t.2 t.3
+    (serves_as _ _ _ _ _ _ _ _ before.same t.1) t.2 t.3
 
 pub turns-preserved : goal.turns-preserved
 turns-preserved g c =
@@ -53,8 +54,9 @@ turns-preserved g c =
     record {
       going = going_more _ _ _ _ _ _ _ _ _ _ _ _ _ _ _ _ _ (g.K.Sink.faults c.next_request.new.sink) _ _ _ _ _ t.0 _
           (going_moved _ _ _ _ _ _ _ _ _ _ _ _ _ _ _ c.in-Ok.ensures.items found.silent before.going) found.found
-          (serves_as _ _ _ _ _ _ _ _ before.own t.1) t.2 t.3.0 t.3.1;
-      own = c.in-Ok-take_turn.ensures.own ∙ before.own;
+          (serves_as _ _ _ _ _ _ _ _ before.same t.1) t.2 t.3.0 t.3.1;
+      may_ask = c.in-Ok-take_turn.ensures.may_ask;
+      same = c.in-Ok-take_turn.ensures.same ∙ before.same;
       lent = c.in-Ok-take_turn.ensures.lent ∙ before.lent;
       faultless = found.found.faultless;
       few = omega (

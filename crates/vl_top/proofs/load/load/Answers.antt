@@ -1,7 +1,6 @@
 use Rattle.std.proofs.Common.{◌≤◌, length, Ok, Err, unsigned_abs, FitsSigned, w64, ap, sym, subst, ◌∙◌}
 use Rattle.std.proofs.lemmas.Int.{to_z-of_z}
 use Rattle.log_model.specs.Line.{lines_of}
-use Rattle.vl_session.specs.Insertion.{seen_of}
 use Rattle.vl_top.specs.Load.{StopsLoad}
 use Rattle.vl_top.proofs.LoadLemmas.{if_err, less_left, lines_at_most, loaded, loading_more, loading_starts, still_open, stops_at_group, stops_reading, stops_unread}
 use Rattle.vl_top.proofs.load.load.Goals as goal
@@ -17,7 +16,7 @@ pub loop-reader-init : goal.loop-reader-init
 loop-reader-init g c =
     let fits : FitsSigned w64 c.args.now = c.ranges.now in
     simp to_z-of_z (loading_starts
-    (unsigned_abs c.args.now) _ _ _ _ c.in_ok-reader.reader (seen_of c.args.shelf.now) c.in_ok-reader.ensures c.requires.fresh)
+    (unsigned_abs c.args.now) _ _ _ _ c.in_ok-reader.reader c.args.desk.now c.in_ok-reader.ensures c.requires.fresh)
 
 pub returns-in_err-advance-clause-stopped : goal.returns-in_err-advance-clause-stopped
 returns-in_err-advance-clause-stopped g c =
@@ -26,7 +25,7 @@ returns-in_err-advance-clause-stopped g c =
     let advance = c.in_err-advance.ensures in
     if_err c.from_residual-in_err-advance.result _ _ c.from_residual-in_err-advance.ensures.1
     (λ interrupt is. subst (StopsLoad _ _ _) (sym is)
-    (stops_reading (unsigned_abs c.args.now) _ _ _ _ _ _ _ _ _ _ c.loop-reader.reader (seen_of c.loop-reader.shelf) c.loop-reader.lines l
+    (stops_reading (unsigned_abs c.args.now) _ _ _ _ _ _ _ _ _ _ c.loop-reader.reader c.loop-reader.desk c.loop-reader.lines l
     (still_open c.loop-reader.reader.ended _ _ (λ same. cc) advance.idle) c.in_err-advance.field-0.0
     (λ is_long. advance.long (ap Err is_long))
     (λ not_long. advance.short (λ is_long. not_long (let same = is_long in cc)))
@@ -48,8 +47,8 @@ returns-in_err-take_group-clause-stopped g c =
     let stopped = rw c.group.ensures at (simp to_z-of_z at c.in_err-take_group.ensures.stopped) in
     if_err c.from_residual-in_err-take_group.result _ _ c.from_residual-in_err-take_group.ensures.1
     (λ interrupt is. subst (StopsLoad _ _ _) (sym is)
-    (stops_at_group (unsigned_abs c.args.now) _ _ _ _ _ _ _ _ _ _ _ _ c.loop-reader.reader c.advance.new.self (seen_of c.loop-reader.shelf)
-    (seen_of c.take_group.new.shelf) c.loop-reader.lines
+    (stops_at_group (unsigned_abs c.args.now) _ _ _ _ _ _ _ _ _ _ _ _ c.loop-reader.reader c.advance.new.self c.loop-reader.desk
+    c.take_group.new.desk c.loop-reader.lines
     l goes_on (advance.read.0, advance.read.1, advance.read.2) advance.ahead (advance.group (ap Ok c.if-branch.true))
     (advance.ended goes_on) c.in_err-take_group.field-0.0 stopped))
 
@@ -66,8 +65,8 @@ loop-reader-preserved g c =
     let goes_on = still_open c.loop-reader.reader.ended _ _ (λ same. let yes = c.if-branch.true in cc) advance.idle in
     let taken = rw c.group.ensures at (simp to_z-of_z at c.in_ok-take_group.ensures.taken) in
     simp to_z-of_z (
-    loading_more (unsigned_abs c.args.now) _ _ _ _ _ _ _ _ _ _ _ _ c.loop-reader.reader c.advance.new.self (seen_of c.loop-reader.shelf)
-    (seen_of c.take_group.new.shelf) c.loop-reader.lines
+    loading_more (unsigned_abs c.args.now) _ _ _ _ _ _ _ _ _ _ _ _ c.loop-reader.reader c.advance.new.self c.loop-reader.desk
+    c.take_group.new.desk c.loop-reader.lines
     l goes_on (advance.read.0, advance.read.1, advance.read.2) advance.ahead (advance.group (ap Ok c.if-branch.true))
     (advance.ended goes_on)
     advance.faults c.in_ok-take_group.ensures.faults (taken.0, taken.1, taken.2)
@@ -78,5 +77,5 @@ returns-clause-loaded g c =
     let fits : FitsSigned w64 c.args.now = c.ranges.now in
     let l = simp to_z-of_z at c.loop-reader.invariant in
     let advance = c.in_ok-advance.ensures in
-    loaded (unsigned_abs c.args.now) _ _ _ _ _ _ _ _ _ _ c.loop-reader.reader (seen_of c.loop-reader.shelf) c.loop-reader.lines l c.advance.new.self (advance.read.0, advance.read.1, advance.read.2)
+    loaded (unsigned_abs c.args.now) _ _ _ _ _ _ _ _ _ _ c.loop-reader.reader c.loop-reader.desk c.loop-reader.lines l c.advance.new.self (advance.read.0, advance.read.1, advance.read.2)
     (advance.over (ap Ok c.if-branch.false)) advance.ended (λ ended. ap g.S.Source.left (advance.idle ended).0)

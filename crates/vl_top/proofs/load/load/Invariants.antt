@@ -1,6 +1,5 @@
 use Rattle.std.proofs.Common.{◌-◌, ◌+◌, length, unsigned_abs}
 use Rattle.vl_io.specs.Change.{change_of}
-use Rattle.vl_session.specs.Insertion.{seen_of}
 use Rattle.vl_top.proofs.LoadLemmas.{Loading}
 use Rattle.vl_top.proofs.load.load.Given as goal
 
@@ -8,7 +7,7 @@ abbrev pub invariant-loop-reader : goal.invariant-loop-reader
 invariant-loop-reader g l =
     Loading (unsigned_abs l.now) (change_of g.S.Source.left g.S.Source.faults l.initial.src l.src)
     (change_of g.E.Sink.written g.E.Sink.faults l.initial.err l.err)
-    l.reader (seen_of l.shelf) l.lines
+    l.reader l.desk l.lines
 
 abbrev pub decreases-loop-reader : goal.decreases-loop-reader
 decreases-loop-reader g l = l.reader.limit - (l.reader.passed + length l.reader.group)

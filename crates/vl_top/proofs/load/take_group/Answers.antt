@@ -1,6 +1,5 @@
-use Rattle.std.proofs.Common.{◌≡◌, ◌+◌, sym, subst, unsigned_abs, FitsSigned, w64, to_z, of_z, ◌∙◌, string_bytes}
+use Rattle.std.proofs.Common.{sym, subst, unsigned_abs, FitsSigned, w64, ◌∙◌}
 use Rattle.std.proofs.lemmas.Int.{to_z-of_z}
-use Rattle.vl_session.specs.Insertion.{seen_of}
 use Rattle.vl_top.specs.Load.{StopsGroup}
 use Rattle.vl_top.proofs.LoadLemmas.{if_err}
 use Rattle.vl_top.proofs.RefusalLemmas.{names, numbers, stops_refused}
@@ -11,7 +10,7 @@ returns-in_err-insertion-clause-stopped g c =
     let fits : FitsSigned w64 c.args.now = c.ranges.now in
     if_err c.from_residual.result _ _ c.from_residual.ensures.1
     (λ interrupt is. subst (StopsGroup _ _ _ _ _ _) (sym is)
-    (stops_refused (unsigned_abs c.args.now) c.args.body.now c.args.lines_before (seen_of c.args.shelf.now) _ _ _ _
+    (stops_refused (unsigned_abs c.args.now) c.args.body.now c.args.lines_before c.args.desk.now _ _ _ _
     c.in_err-insertion.field-0.0 (simp to_z-of_z at c.in_err-insertion.ensures.refused)))
 
 pub names_after-requires : goal.names_after-requires

@@ -1,13 +1,13 @@
 use Rattle.std.proofs.Common.{◌≡◌, ℕ, Option, Some, None, IfSome, inl, ◌∙◌}
 use Rattle.std.specs.Option.{unwrap_or}
-use Rattle.vl_session.proofs.shelf_log.take_in.Goals as goal
+use Rattle.vl_session.proofs.desk_log.take_in.Goals as goal
 
 unwrapped : (batch : Option ℕ) (number : ℕ) → number ≡ unwrap_or batch 0 → IfSome batch (λ batch. number ≡ batch)
 unwrapped None number is = tt
 unwrapped (Some batch) number is = is
 
 pub returns-in-Ok-clause-taken : goal.returns-in-Ok-clause-taken
-returns-in-Ok-clause-taken c =
+returns-in-Ok-clause-taken g c =
     inl (record {
       insertion = c.in-Ok.insertion;
       commits = c.in-Ok.ensures.committed;

@@ -1,0 +1,23 @@
+-- A caller that is the only one of its desk.
+use Rattle.std.specs.Prelude.{◌≡◌, ℕ, List, [], ◌∷◌}
+use Rattle.ingest_row.specs.Ingest.{Options}
+use Rattle.log_desk.specs.Seen.{Caller, Seen}
+use Rattle.vl_session.specs.Insertion.{Inserts, RefusesLines}
+use Rattle.vl_session.specs.declared.insert.Insertion.{Insertion}
+use Rattle.vl_session.specs.declared.insert.InsertionFault.{InsertionFault}
+
+-- Its desk is made for one pass, which is the first.
+pub record IsAlone (caller : Caller) : Type 0 where
+  pub one_pass : caller.lock.passes ≡ 1
+  pub first : caller.numbers ≡ 0 ∷ []
+  pub settles : caller.may_settle ≡ 1
+
+-- such a caller had lines taken in
+abbrev pub InsertsAlone : Options → ℕ → List ℕ → Seen → Seen → Insertion → Type 0
+InsertsAlone options now body old new insertion =
+    (caller : Caller) × IsAlone caller × Inserts caller options now body old new insertion
+
+-- it had none taken in, for this reason
+abbrev pub RefusesAlone : Options → ℕ → List ℕ → Seen → Seen → InsertionFault → Type 0
+RefusesAlone options now body old new fault =
+    (caller : Caller) × IsAlone caller × RefusesLines caller options now body old new fault
