@@ -9,23 +9,31 @@ use crate::adapters::{InputSource, OutputSink, SystemClock};
 use crate::outside::{Doors, Failed, Visit, VisitKind};
 use std::alloc::{AllocError, Global};
 use std::io;
-use std::io::ErrorKind;
-use std::net::{Net, TcpListener, TcpStream};
+use std::io::{ErrorKind, Read};
+use std::net::{Net, Shutdown, TcpListener, TcpStream};
 use std::rt::Clock as SystemTimer;
-use std::time::Duration;
+use std::time::{Duration, Instant};
 
-/// A visit over a connection. Its two halves share the connection, which is closed once both are dropped.
+/// A visit over a connection, which its two halves share.
 pub type TcpVisit<R> = Visit<InputSource<TcpStream>, OutputSink<TcpStream>, SystemClock<R>>;
 
 /// How long a visitor that speaks HTTP may send or take nothing, in seconds.
 const LONGEST_SILENCE: u64 = 60;
 
+/// How long a visitor that speaks HTTP may go on sending once its visit is over, in seconds.
+const LONGEST_FAREWELL: u64 = 2;
+
 /// Doors over a TCP listener. A call waits until a visitor comes, and never answers that none is left.
+///
+/// A visitor that speaks HTTP may still be sending when its visit is over. Closing the connection then could take the
+/// last reply away from it (RFC 9112, 9.6). So the next call first ends what is sent, and reads what still comes.
 #[derive(Debug, Drop)]
 pub struct TcpDoors<R> {
     rt: R,
     listener: Option<TcpListener>,
     kind: VisitKind,
+    // The connection of the visit that was given last.
+    last: Option<TcpStream>,
     faults: u64,
 }
 
@@ -40,6 +48,7 @@ impl<R: SystemTimer + Copy> TcpDoors<R> {
             rt,
             listener,
             kind,
+            last: None,
             faults: 0,
         }
     }
@@ -91,8 +100,12 @@ impl<R: SystemTimer + Copy + Drop> Doors for TcpDoors<R> {
         ensures same_listener { has_listener self.new ≡ has_listener self.old }
         ensures same_kind { kind_of self.new ≡ kind_of self.old }
     {
+        if let Some(stream) = self.last.take() {
+            let _ = say_farewell(&self.rt, stream);
+        }
         if let Some(listener) = &self.listener {
-            if let Some(visit) = accepted(self.rt, listener, self.kind) {
+            if let Some((visit, connection)) = accepted(self.rt, listener, self.kind) {
+                self.last = connection;
                 return Ok(Some(visit));
             }
         }
@@ -101,20 +114,24 @@ impl<R: SystemTimer + Copy + Drop> Doors for TcpDoors<R> {
     }
 }
 
-/// The next connection that can be served. One that its peer gave up before is passed over. There is none where the
-/// listener fails.
+/// The next connection that can be served, and a handle on it for when its visit is over. One that its peer gave up
+/// before is passed over. There is none where the listener fails.
 fn accepted<R: SystemTimer + Copy>(
     rt: R,
     listener: &TcpListener,
     kind: VisitKind,
-) -> Option<TcpVisit<R>>
-    ensures { IfSome result (λ visit. visit.kind ≡ kind) }
+) -> Option<(TcpVisit<R>, Option<TcpStream>)>
+    ensures { IfSome result (λ given. given.0.kind ≡ kind) }
 {
     for connection in listener.incoming() {
         match connection {
             Ok(stream) => {
+                let handle = match kind {
+                    VisitKind::Http => stream.try_clone().ok(),
+                    VisitKind::Syslog => None,
+                };
                 if let Ok(visit) = visit_over(rt, stream, kind) {
-                    return Some(visit);
+                    return Some((visit, handle));
                 }
             }
             Err(fault) if fault.kind() == ErrorKind::ConnectionAborted => {}
@@ -122,6 +139,22 @@ fn accepted<R: SystemTimer + Copy>(
         }
     }
     None
+}
+
+/// Sends no more, and passes over what the peer still sends, until it closes, is silent for a second or has had its
+/// time.
+fn say_farewell<R: SystemTimer>(rt: &R, mut stream: TcpStream) -> io::Result<()> {
+    stream.shutdown(Shutdown::Write)?;
+    stream.set_read_timeout(Some(Duration::from_secs(1)))?;
+    let start = Instant::now(rt)?;
+    let longest = Duration::from_secs(LONGEST_FAREWELL);
+    let mut passed_over = [0; 4096];
+    for _ in 0..u64::MAX {
+        if stream.read(&mut passed_over)? == 0 || start.elapsed(rt)? >= longest {
+            break;
+        }
+    }
+    Ok(())
 }
 
 /// The visit over a connection. What is written to it is sent at once.

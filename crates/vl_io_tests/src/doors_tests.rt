@@ -3,6 +3,7 @@
 use std::alloc::{AllocError, Global};
 use std::io::Write;
 use std::net::{TcpListener, TcpStream};
+use std::rt::Clock as SystemTimer;
 use std::test::Fail;
 use std::{io, thread};
 use vl_io::{
@@ -107,20 +108,32 @@ fn echo<R: Drop>(alloc: Global, mut visit: TcpVisit<R>) -> Result<(), ReadFault>
     Ok(())
 }
 
+/// Takes the next visit, and sends its first line back.
+fn serve_next<R: SystemTimer + Copy + Drop>(
+    alloc: Global,
+    doors: &mut TcpDoors<R>,
+) -> Result<(), ReadFault> {
+    match doors.next() {
+        Ok(Some(visit)) if visit.kind == VisitKind::Http => echo(alloc, visit),
+        _ => Err(ReadFault::Failed),
+    }
+}
+
 #[test]
 fn a_listener_gives_its_connections(rt: HostRuntime) -> Result<(), Fail> {
     let listener = TcpListener::bind(&rt, "127.0.0.1:0")?;
     let address = listener.local_addr()?;
     let mut doors = TcpDoors::new(&rt, Some(listener), VisitKind::Http);
-    for line in ["first\n", "second\n"] {
-        let mut peer = TcpStream::connect(&rt, address)?;
-        peer.write_all(line.as_bytes())?;
-        let Ok(Some(visit)) = doors.next() else {
-            panic!(rt; "no visit");
-        };
-        assert!(rt; visit.kind == VisitKind::Http);
-        echo(rt.alloc(), visit)?;
-        // Both halves are dropped, so the connection ends.
+    let mut first = TcpStream::connect(&rt, address)?;
+    let mut second = TcpStream::connect(&rt, address)?;
+    first.write_all(b"first\n")?;
+    second.write_all(b"second\n")?;
+    serve_next(rt.alloc(), &mut doors)?;
+    // What comes when the visit is over takes nothing away from its peer.
+    first.write_all(b"late\n")?;
+    serve_next(rt.alloc(), &mut doors)?;
+    drop(doors);
+    for (peer, line) in [(first, "first\n"), (second, "second\n")] {
         assert_eq!(rt; io::read_to_string(rt.alloc(), peer)?.as_str(), line);
     }
     Ok(())
