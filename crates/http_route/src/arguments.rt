@@ -1,11 +1,12 @@
 //! The arguments of a query.
-ghost use Rattle.std.specs.Prelude.{◌≡◌, option_map, is_some, IfOk, IfErr, Ok, Err};
+ghost use Rattle.std.specs.Prelude.{◌≡◌, is_some, IfOk, IfErr, Ok, Err};
 ghost use Rattle.std.specs.List.{find};
 ghost use Rattle.ingest_row.specs.Asked.{argument};
 ghost use Rattle.http_route.specs.Refusal.{argument_name};
 ghost use Rattle.http_route.specs.Route.{query_asked};
 
 use crate::refusal::{Argument, Refusal};
+use ingest_row::argument;
 use vl_row::Field;
 
 /// Arguments of VictoriaLogs that are not served: a query says with its pipes what they say.
@@ -26,18 +27,6 @@ pub(crate) fn query_text(args: &[Field]) -> Result<&str, Refusal>
         (Some(_), Some(argument)) => Err(Refusal::BadArgument(argument)),
         (Some(text), None) => Ok(text),
     }
-}
-
-/// The value of the first argument of this name.
-fn argument<'a>(args: &'a [Field], name: &str) -> Option<&'a str>
-    ensures { option_map (λ text. text.now) result ≡ argument args.now name.now }
-{
-    for field in args {
-        if name == field.name() {
-            return Some(field.value());
-        }
-    }
-    None
 }
 
 /// The first of these that is among the arguments.

@@ -16,4 +16,5 @@ pub use fault::OptionFault;
 pub use kind::LineKind;
 pub use line::row_of_line;
 pub use options::Options;
+pub use read::argument;
 pub use syslog::{SyslogKind, row_of_syslog};

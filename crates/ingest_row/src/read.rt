@@ -37,8 +37,8 @@ impl Options {
     }
 }
 
-/// The value of the first argument of this name.
-fn argument<'a>(pairs: &'a [Field], name: &str) -> Option<&'a str>
+/// The value of the first argument of this name, where there is one.
+pub fn argument<'a>(pairs: &'a [Field], name: &str) -> Option<&'a str>
     ensures { option_map (λ text. text.now) result ≡ argument pairs.now name.now }
 {
     for pair in pairs {
