@@ -1,12 +1,14 @@
 //! Duvonka, a log database: the program. What it does is `vl_top::run`.
 #![tactic(auto)]
 
-use std::alloc::AllocError;
+ghost use Rattle.std.specs.Prelude.{◌≤◌, IfOk, vec_len};
+
+use std::alloc::{AllocError, Global};
 use std::env;
 use std::io::ErrorKind;
 use std::process::ExitCode;
-use vl_io::{InputSource, OutputSink, SystemClock};
-use vl_top::{Status, report_no_memory, report_usage, run};
+use vl_io::{InputSource, OutputSink, SystemClock, TcpDoors, VisitKind};
+use vl_top::{Command, Status, UsageFault, read_words, report_no_memory, report_usage, run};
 
 fn main(rt: HostRuntime) -> ExitCode {
     let mut err = OutputSink::new(rt.stderr());
@@ -23,7 +25,12 @@ fn main(rt: HostRuntime) -> ExitCode {
         return ExitCode::from(report_no_memory(&mut err).number());
     };
     let words = borrowed.as_slice();
-    let status = run(&rt, words, &mut src, &mut out, &mut err, &mut clock);
+    let Ok(mut doors) = doors_for(rt, words) else {
+        return ExitCode::from(report_no_memory(&mut err).number());
+    };
+    let status = run(
+        &rt, words, &mut src, &mut out, &mut err, &mut doors, &mut clock,
+    );
     ExitCode::from(status)
 }
 
@@ -36,5 +43,39 @@ fn words_of(rt: &HostRuntime) -> Result<Vec<String>, Status> {
             .map_err(|_| Status::NoMemory),
         Err(fault) if fault.kind() == ErrorKind::InvalidData => Err(Status::Usage),
         Err(_) => Err(Status::NoMemory),
+    }
+}
+
+/// The doors that the words ask for: as many at each address as there are workers, and none for another command.
+fn doors_for(rt: HostRuntime, words: &[&str]) -> Result<Vec<TcpDoors<HostRuntime>>, AllocError>
+    ensures { IfOk result (λ doors. vec_len doors ≤ 64) }
+{
+    let alloc = rt.alloc();
+    match read_words(alloc, words) {
+        Ok(
+            Command::Serve {
+                http,
+                syslog,
+                workers,
+            },
+        ) => {
+            let mut doors = TcpDoors::listen(rt, alloc, http.as_str(), VisitKind::Http, workers)?;
+            if let Some(syslog) = syslog {
+                let others = TcpDoors::listen(
+                    rt,
+                    alloc,
+                    syslog.as_str(),
+                    VisitKind::Syslog,
+                    workers,
+                )?;
+                for door in others {
+                    doors.push(door)?;
+                }
+            }
+            Ok(doors)
+        }
+        Ok(_) => Ok(Vec::new(alloc)),
+        Err(UsageFault::Usage) => Ok(Vec::new(alloc)),
+        Err(UsageFault::Memory) => Err(AllocError),
     }
 }

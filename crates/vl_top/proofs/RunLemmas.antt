@@ -1,81 +1,201 @@
--- What a run that asks its query comes to, by its status.
-use Rattle.std.proofs.Common.{◌≡◌, ◌⊎◌, inl, inr, ℕ, List, Some, arith, refl, sym, subst, ap}
-use Rattle.vl_io.specs.Change.{HasFailed}
-use Rattle.vl_io.specs.Moments.{FirstTold}
-use Rattle.lq_ast.specs.Question.{Question}
-use Rattle.vl_top.specs.Pipe.{EndsPipe}
-use Rattle.lq_grammar.specs.Query.{IsQueryText}
-use Rattle.vl_top.specs.Program.{Refusal, command_of, no_memory, pipe, unreadable_pattern, unspelled}
-use Rattle.query_run.specs.Asked.{Refuses}
+-- What a run comes to, by its command and its status.
+use Rattle.std.proofs.Common.{◌≡◌, ◌⊎◌, inl, inr, ℕ, ◌≤◌, List, [], Option, refl, sym, subst}
+use Rattle.vl_io.specs.Change.{HasFailed, IsTold}
+use Rattle.query_run.specs.Asked.{IsNoReadableQuery, IsReadableQuery, Refuses}
 use Rattle.query_run.specs.declared.query.QueryRefusal.{QueryRefusal}
 use Rattle.query_run.specs.declared.query.QueryRefusal.TheVariants.{Unspelled, Pattern, Memory}
-use Rattle.vl_top.specs.Refused.{ReportsRefused}
-use Rattle.vl_top.specs.Run.{ForCommand, HasNoAnswer, HasStopped, IsRefused, IsUnread, Run}
-use Rattle.vl_top.specs.Status.{status_number}
-use Rattle.vl_top.specs.declared.status.Status.{Status}
-use Rattle.vl_top.specs.declared.status.Status.TheVariants as statuses
+use Rattle.command_line.specs.Asked.{IsCommand}
+use Rattle.command_line.specs.declared.command.Command.{Command}
+use Rattle.command_line.specs.declared.command.Command.TheVariants.{Pipe, Trial, Serve}
+use Rattle.vl_pipe.specs.Ended.{IsAnswerCut, IsNamingCut}
+use Rattle.vl_pipe.specs.Groups.{arrival_at}
+use Rattle.vl_pipe.specs.Pipe.{EndsReadable, EndsRefused, IsUnread}
+use Rattle.vl_pipe.specs.Program.{no_memory, stop_text, unreadable_pattern, unspelled}
+use Rattle.vl_pipe.specs.Refused.{ReportsRefused}
+use Rattle.vl_pipe.specs.Status.{status_number}
+use Rattle.vl_pipe.specs.declared.status.Status.{Status}
+use Rattle.vl_pipe.specs.declared.status.Status.TheVariants.{Done, DoorFault, Limit, NoMemory, QueryRefused}
+use Rattle.vl_pipe.specs.declared.status.Status.TheVariants.{ReadFault, Usage, WriteFault}
+use Rattle.vl_top.specs.Run.{CannotBeAsked, EndsCommand, ForCommand, GoesWell, IsAsked, IsBounded, IsNoCommand, IsRun}
+use Rattle.vl_top.specs.Run.{IsServe, IsTrial, Run, Says, pipe_run, usage_text}
+use Rattle.vl_top.specs.Server.{HasFailedDoor}
 
--- the query was asked at this moment, and the run ended so
-abbrev pub Ends : Run → Question → Status → Type 0
-Ends run query status =
-    (now : ℕ) × FirstTold run.moments_before run.moments_after now
-    × EndsPipe query now run.source run.output run.errors status
+-- ---- what a command says
 
-abbrev EndsWell : Run → ℕ → Type 0
-EndsWell run number =
-    (number ≡ 0) ⊎ (((number ≡ 1) × ForCommand run (HasNoAnswer run)) ⊎ ((number ≡ 8) ⊎ (number ≡ 9)))
+module _ (run : Run) where
+  says_readable : (fields : Option (List ℕ)) (text : List ℕ) (status : Status) → IsCommand run.words (Pipe fields text)
+      → EndsReadable (pipe_run run.does fields text) status → Says run status
+  says_readable fields text Done is e =
+      (Pipe fields text, is, record { query = e.query; spelled = e.spelled; now = e.now; first = e.first; facts = e.ends })
+  says_readable fields text QueryRefused is e = inr
+      (Pipe fields text, is, record { query = e.query; spelled = e.spelled; now = e.now; first = e.first; facts = e.ends })
+  says_readable fields text Usage is e = absurd e.ends
+  says_readable fields text ReadFault is e =
+      (Pipe fields text, is, record { query = e.query; spelled = e.spelled; now = e.now; first = e.first; facts = e.ends })
+  says_readable fields text WriteFault is e =
+      (Pipe fields text, is, record { query = e.query; spelled = e.spelled; now = e.now; first = e.first; facts = e.ends })
+  says_readable fields text DoorFault is e = absurd e.ends
+  says_readable fields text Limit is e = (
+    e.ends.0,
+    (Pipe fields text, is, record { query = e.query; spelled = e.spelled; now = e.now; first = e.first; facts = e.ends.1 }),
+  )
+  says_readable fields text NoMemory is e = inr
+      (Pipe fields text, is, record { query = e.query; spelled = e.spelled; now = e.now; first = e.first; facts = e.ends })
 
-module _ (run : Run) (text : List ℕ) (query : Question) (asked : command_of run.words ≡ Some (pipe text))
-    (spelled : IsQueryText text query) where
-  pub without_answer : (status : Status) → Ends run query status → status_number status ≡ 1
-      → ForCommand run (HasNoAnswer run)
-  without_answer statuses.QueryRefused (now, first, facts) is =
-      (pipe text, asked, record { query = query; spelled = spelled; now = now; first = first; facts = facts })
-  without_answer statuses.Done ends is = absurd (let none : ⊥ = omega (arith, is) in none)
-  without_answer statuses.Usage ends is = absurd (let none : ⊥ = omega (arith, is) in none)
-  without_answer statuses.ReadFault ends is = absurd (let none : ⊥ = omega (arith, is) in none)
-  without_answer statuses.WriteFault ends is = absurd (let none : ⊥ = omega (arith, is) in none)
-  without_answer statuses.Limit ends is = absurd (let none : ⊥ = omega (arith, is) in none)
-  without_answer statuses.NoMemory ends is = absurd (let none : ⊥ = omega (arith, is) in none)
+  says_refused : (fields : Option (List ℕ)) (text : List ℕ) (status : Status) → IsCommand run.words (Pipe fields text)
+      → EndsRefused (pipe_run run.does fields text) status → Says run status
+  says_refused fields text status is e = by_said e.refusal e.refused e.said
+    where
+      by_said : (refusal : QueryRefusal) → Refuses text refusal → ReportsRefused run.does.errors refusal status
+          → Says run status
+      by_said (Unspelled fault) why (inl told) = subst (Says run) (sym told.0)
+          (inl (unspelled fault, (Pipe fields text, is, (why, e.unread, told.2))))
+      by_said (Pattern nth) why (inl told) = subst (Says run) (sym told.0)
+          (inl (unreadable_pattern nth, (Pipe fields text, is, (why, e.unread, told.2))))
+      by_said Memory why (inl told) = absurd (told.1 refl)
+      by_said refusal why (inr told) = subst (Says run) (sym told.0) (inl (e.unread, told.1))
 
-  pub without_memory : (status : Status) → Ends run query status → status_number status ≡ 9
-      → ForCommand run (HasStopped run no_memory)
-  without_memory statuses.NoMemory (now, first, facts) is =
-      (pipe text, asked, record { query = query; spelled = spelled; now = now; first = first; facts = facts })
-  without_memory statuses.Done ends is = absurd (let none : ⊥ = omega (arith, is) in none)
-  without_memory statuses.QueryRefused ends is = absurd (let none : ⊥ = omega (arith, is) in none)
-  without_memory statuses.Usage ends is = absurd (let none : ⊥ = omega (arith, is) in none)
-  without_memory statuses.ReadFault ends is = absurd (let none : ⊥ = omega (arith, is) in none)
-  without_memory statuses.WriteFault ends is = absurd (let none : ⊥ = omega (arith, is) in none)
-  without_memory statuses.Limit ends is = absurd (let none : ⊥ = omega (arith, is) in none)
+  says : (command : Command) (status : Status) → IsCommand run.words command → EndsCommand run.does command status
+      → Says run status
+  says (Pipe fields text) status is (inl e) = says_readable fields text status is e
+  says (Pipe fields text) status is (inr e) = says_refused fields text status is e
+  says (Trial seed rows) Done is e = (Trial seed rows, is, e)
+  says (Trial seed rows) QueryRefused is e = absurd e.1.2
+  says (Trial seed rows) Usage is e = absurd e.1.2
+  says (Trial seed rows) ReadFault is e = absurd e.1.2
+  says (Trial seed rows) WriteFault is e = (Trial seed rows, is, e)
+  says (Trial seed rows) DoorFault is e = absurd e.1.2
+  says (Trial seed rows) Limit is e = absurd e.1.2
+  says (Trial seed rows) NoMemory is e = inl (e.0, e.1.2.1)
+  says (Serve http syslog workers) Done is e = (Serve http syslog workers, is, (e.0, e.1, e.2.1, e.2.0))
+  says (Serve http syslog workers) QueryRefused is e = absurd e.2
+  says (Serve http syslog workers) Usage is e = absurd e.2
+  says (Serve http syslog workers) ReadFault is e = absurd e.2
+  says (Serve http syslog workers) WriteFault is e = absurd e.2
+  says (Serve http syslog workers) DoorFault is e = (Serve http syslog workers, is, (e.0, e.2.0, e.2.2))
+  says (Serve http syslog workers) Limit is e = absurd e.2
+  says (Serve http syslog workers) NoMemory is e = inl (e.0, e.2)
 
-  -- where nothing fails
-  all_well : (status : Status) → Ends run query status → (HasFailed run.source → ⊥) → (HasFailed run.output → ⊥)
-      → (HasFailed run.errors → ⊥) → EndsWell run (status_number status)
-  all_well statuses.Done ends source output errors = inl refl
-  all_well statuses.QueryRefused ends source output errors =
-      inr (inl (refl, without_answer statuses.QueryRefused ends refl))
-  all_well statuses.Usage (now, first, facts) source output errors = absurd facts
-  all_well statuses.ReadFault (now, first, facts) source output errors = absurd (source facts.behind.cause.0)
-  all_well statuses.WriteFault (now, first, inl cut) source output errors = absurd (output cut.written.failed)
-  all_well statuses.WriteFault (now, first, inr cut) source output errors = absurd (errors cut.fault.named.failed)
-  all_well statuses.Limit ends source output errors = inr (inr (inl refl))
-  all_well statuses.NoMemory ends source output errors = inr (inr (inr refl))
+-- ---- what a command cannot come to
 
-  pub complete : (status : Status) → run.status ≡ status_number status → Ends run query status
-      → (HasFailed run.source → ⊥) → (HasFailed run.output → ⊥) → (HasFailed run.errors → ⊥) → EndsWell run run.status
-  complete status is ends source output errors =
-      subst (EndsWell run) (sym is) (all_well status ends source output errors)
+module _ (run : Run) where
+  -- a query that cannot be asked is refused
+  refuses : (command : Command) (status : Status) → EndsCommand run.does command status → CannotBeAsked command
+      → (status ≡ QueryRefused) ⊎ (status ≡ NoMemory)
+  refuses (Pipe fields text) status (inl e) cannot = absurd (e.askable cannot)
+  refuses (Pipe fields text) status (inr e) cannot = by_said e.said
+    where
+      by_said : ReportsRefused run.does.errors e.refusal status → (status ≡ QueryRefused) ⊎ (status ≡ NoMemory)
+      by_said (inl told) = inl told.0
+      by_said (inr told) = inr told.0
+  refuses (Trial seed rows) status e cannot = absurd cannot
+  refuses (Serve http syslog workers) status e cannot = absurd cannot
 
-module _ (run : Run) (text : List ℕ) (asked : command_of run.words ≡ Some (pipe text)) (unread : IsUnread run.source)
-  where
-    -- a query that is refused before anything is read
-    pub refused_early : (refusal : QueryRefusal) (status : Status) → Refuses text refusal
-        → ReportsRefused run.errors refusal status → status_number status ≡ 1
-        → (cause : Refusal) × ForCommand run (IsRefused run cause)
-    refused_early (Unspelled fault) status why (inl told) is = (unspelled fault, (pipe text, asked, (why, unread, told.2)))
-    refused_early (Pattern nth) status why (inl told) is =
-        (unreadable_pattern nth, (pipe text, asked, (why, unread, told.2)))
-    refused_early Memory status why (inl told) is = absurd (told.1 refl)
-    refused_early refusal status why (inr told) is =
-        absurd (let none : ⊥ = omega (arith, ap status_number told.0, is) in none)
+  well : (fields : Option (List ℕ)) (text : List ℕ) (status : Status) → IsCommand run.words (Pipe fields text)
+      → EndsReadable (pipe_run run.does fields text) status → (HasFailed run.does.source → ⊥)
+      → (HasFailed run.does.output → ⊥) → (HasFailed run.does.errors → ⊥) → GoesWell run status
+  well fields text Done is e source output errors = tt
+  well fields text QueryRefused is e source output errors =
+      (Pipe fields text, is, record { query = e.query; spelled = e.spelled; now = e.now; first = e.first; facts = e.ends })
+  well fields text Usage is e source output errors = absurd e.ends
+  well fields text ReadFault is e source output errors = absurd (source e.ends.behind.cause.0)
+  well fields text WriteFault is e source output errors = by_cut e.ends
+    where
+      by_cut : IsAnswerCut e.query (arrival_at fields e.now) run.does.source run.does.output run.does.errors
+          ⊎ IsNamingCut (arrival_at fields e.now) run.does.source run.does.output run.does.errors → GoesWell run WriteFault
+      by_cut (inl cut) = absurd (output cut.written.failed)
+      by_cut (inr cut) = absurd (errors cut.fault.named.failed)
+  well fields text DoorFault is e source output errors = absurd e.ends
+  well fields text Limit is e source output errors = tt
+  well fields text NoMemory is e source output errors = tt
+
+  well_refused : (refusal : QueryRefusal) (status : Status) → refusal ≡ Memory
+      → ReportsRefused run.does.errors refusal status → GoesWell run status
+  well_refused refusal status free (inl told) = absurd (told.1 free)
+  well_refused refusal status free (inr told) = subst (GoesWell run) (sym told.0) tt
+
+  goes_well : (command : Command) (status : Status) → IsCommand run.words command → EndsCommand run.does command status
+      → IsAsked command → (HasFailed run.does.source → ⊥) → (HasFailed run.does.output → ⊥)
+      → (HasFailed run.does.errors → ⊥) → GoesWell run status
+  goes_well (Pipe fields text) status is (inl e) asked source output errors = well fields text status is e source output errors
+  goes_well (Pipe fields text) status is (inr e) asked source output errors =
+      well_refused e.refusal status (e.free asked) e.said
+  goes_well (Trial seed rows) status is e asked source output errors = absurd asked
+  goes_well (Serve http syslog workers) status is e asked source output errors = absurd asked
+
+  trial_goes : (command : Command) (status : Status) → EndsCommand run.does command status → IsTrial command
+      → (HasFailed run.does.output → ⊥) → (status ≡ Done) ⊎ (status ≡ NoMemory)
+  trial_goes (Pipe fields text) status e trial output = absurd trial
+  trial_goes (Trial seed rows) Done e trial output = inl refl
+  trial_goes (Trial seed rows) QueryRefused e trial output = absurd e.1.2
+  trial_goes (Trial seed rows) Usage e trial output = absurd e.1.2
+  trial_goes (Trial seed rows) ReadFault e trial output = absurd e.1.2
+  trial_goes (Trial seed rows) WriteFault e trial output = absurd (output e.1.2.2.failed)
+  trial_goes (Trial seed rows) DoorFault e trial output = absurd e.1.2
+  trial_goes (Trial seed rows) Limit e trial output = absurd e.1.2
+  trial_goes (Trial seed rows) NoMemory e trial output = inr refl
+  trial_goes (Serve http syslog workers) status e trial output = absurd trial
+
+  server_goes : (command : Command) (status : Status) → EndsCommand run.does command status → IsServe command
+      → (HasFailedDoor run.does.doors → ⊥) → (status ≡ Done) ⊎ (status ≡ NoMemory)
+  server_goes (Pipe fields text) status e serve doors = absurd serve
+  server_goes (Trial seed rows) status e serve doors = absurd serve
+  server_goes (Serve http syslog workers) Done e serve doors = inl refl
+  server_goes (Serve http syslog workers) QueryRefused e serve doors = absurd e.2
+  server_goes (Serve http syslog workers) Usage e serve doors = absurd e.2
+  server_goes (Serve http syslog workers) ReadFault e serve doors = absurd e.2
+  server_goes (Serve http syslog workers) WriteFault e serve doors = absurd e.2
+  server_goes (Serve http syslog workers) DoorFault e serve doors = absurd (doors e.2.0)
+  server_goes (Serve http syslog workers) Limit e serve doors = absurd e.2
+  server_goes (Serve http syslog workers) NoMemory e serve doors = inr refl
+
+-- ---- a run
+
+module _ (run : Run) where
+  -- the words are a command, and no other one
+  pub command_runs : ((a b : Command) → IsCommand run.words a → IsCommand run.words b → a ≡ b) → (command : Command)
+      (status : Status) → IsCommand run.words command → EndsCommand run.does command status
+      → run.status ≡ status_number status → IsRun run
+  command_runs one command status is ends number = record {
+    status = status;
+    number = number;
+    says = says run command status is ends;
+    unusable = λ none. absurd (none command is);
+    unasked = λ other. refuses run command status ends
+        (subst CannotBeAsked (one other.0 command other.1 is) other.2);
+    query = λ other. goes_well run command status is ends (subst IsAsked (one other.0 command other.1 is) other.2);
+    trial = λ other. trial_goes run command status ends (subst IsTrial (one other.0 command other.1 is) other.2);
+    server = λ other. server_goes run command status ends (subst IsServe (one other.0 command other.1 is) other.2);
+  }
+
+  pub usage_runs : IsNoCommand run.words → IsTold run.does.errors [] usage_text → run.status ≡ status_number Usage
+      → IsRun run
+  usage_runs none told number = record {
+    status = Usage;
+    number = number;
+    says = (none, told);
+    unusable = λ _. inl refl;
+    unasked = λ other. absurd (none other.0 other.1);
+    query = λ other. absurd (none other.0 other.1);
+    trial = λ other. absurd (none other.0 other.1);
+    server = λ other. absurd (none other.0 other.1);
+  }
+
+  pub no_memory_runs : IsUnread run.does.source → IsTold run.does.errors [] (stop_text no_memory)
+      → run.status ≡ status_number NoMemory → IsRun run
+  no_memory_runs unread told number = record {
+    status = NoMemory;
+    number = number;
+    says = inl (unread, told);
+    unusable = λ _. inr refl;
+    unasked = λ _. inr refl;
+    query = λ _ _ _ _. tt;
+    trial = λ _ _. inr refl;
+    server = λ _ _. inr refl;
+  }
+
+-- a trial of the words is within its limit
+pub bounded : (words : List (List ℕ)) (command : Command) → IsCommand words command → IsBounded command
+bounded words (Pipe fields text) is = tt
+bounded words (Trial seed rows) is = is.said.1.few
+bounded words (Serve http syslog workers) is = tt

@@ -1,9 +1,3 @@
-pub mod Alone
-pub mod Groups
-pub mod Interrupt
-pub mod Load
-pub mod Pipe
-pub mod Program
-pub mod Refused
 pub mod Run
-pub mod Status
+pub mod Server
+pub mod Trial

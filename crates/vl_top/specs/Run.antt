@@ -1,157 +1,213 @@
 -- What one run of the program does to the objects of the outside.
-use Rattle.std.specs.Prelude.{◌≡◌, ◌⊎◌, ◌↔◌, ℕ, ◌+◌, ◌≤◌, List, [], ◌∷◌, ◌++◌, length, Option, Some, None}
-use Rattle.vl_io.specs.Change.{Change, Gave, HasFailed, IsCut, IsSpent, IsTold, IsUntold, Took}
-use Rattle.vl_io.specs.Lines.{piece_len}
+use Rattle.std.specs.Prelude.{◌≡◌, ◌⊎◌, ℕ, ◌≤◌, ◌++◌, ◌∷◌, List, [], Option, codes}
+use Rattle.vl_io.specs.Change.{Change, HasFailed, IsTold, IsUntold}
 use Rattle.vl_io.specs.Moments.{FirstTold}
 use Rattle.lq_ast.specs.Question.{Question}
-use Rattle.ingest_row.specs.Intake.{Outcome}
-use Rattle.vl_top.specs.Groups.{BeginsWith, CanBeHeld, outcomes_in, refusals_from, refusals_of}
-use Rattle.vl_top.specs.Status.{status_number}
-use Rattle.vl_top.specs.declared.status.Status.{Status}
 use Rattle.lq_grammar.specs.Query.{IsQueryText}
-use Rattle.query_run.specs.Asked.{IsReadableQuery}
-use Rattle.vl_top.specs.Program.{CannotBeAsked, Command, pipe, IsAnswer, IsRefusedText, Overflow}
-use Rattle.vl_top.specs.Program.{Limit, Overflows, Refusal, Stop, StopsBehind, unreadable, beyond, no_memory}
-use Rattle.vl_top.specs.Program.{command_of, overflow_text, refusal_text, said_of_query, stop_text, usage_text}
+use Rattle.query_run.specs.Asked.{IsNoReadableQuery, IsReadableQuery}
+use Rattle.command_line.specs.Asked.{IsCommand}
+use Rattle.command_line.specs.declared.command.Command.{Command}
+use Rattle.command_line.specs.declared.command.Command.TheVariants.{Pipe, Trial, Serve}
+use Rattle.vl_pipe.specs.Ended.{IsAnswerCut, IsAnswered, IsNamingCut, IsStopped, IsUnanswered}
+use Rattle.vl_pipe.specs.Groups.{arrival_at}
+use Rattle.vl_pipe.specs.Pipe.{IsPiped, IsUnread, PipeRun}
+use Rattle.vl_pipe.specs.Program.{IsRefusedText, Limit, Refusal, Stop, beyond, no_memory, refusal_text, said_of_query}
+use Rattle.vl_pipe.specs.Program.{stop_text, unreadable}
+use Rattle.vl_pipe.specs.Status.{status_number}
+use Rattle.vl_pipe.specs.declared.status.Status.{Status}
+use Rattle.vl_pipe.specs.declared.status.Status.TheVariants.{Done, DoorFault, Limit as AtLimit, NoMemory, QueryRefused}
+use Rattle.vl_pipe.specs.declared.status.Status.TheVariants.{ReadFault, Usage, WriteFault}
+use Rattle.vl_serve.specs.Doors.{DoorChange}
+use Rattle.vl_top.specs.Server.{AreDone, EndsServer, HasFailedDoor, door_fault_text}
+use Rattle.vl_top.specs.Trial.{EndsTrial, IsTrialCut, IsTrialDone}
 
--- a run: what the words are, what it does to each object, what the clock gave before and after, and the status
-pub record Run : Type 0 where
-  pub words : List (List ℕ)
+-- what is done to each object of the outside, and what the clock gave before and after
+pub record Effects : Type 0 where
   pub source : Change
   pub output : Change
   pub errors : Change
+  pub doors : List DoorChange
   pub moments_before : Option (List ℕ)
   pub moments_after : Option (List ℕ)
+
+-- a run: what the words are, what it does, and the status
+pub record Run : Type 0 where
+  pub words : List (List ℕ)
+  pub does : Effects
   pub status : ℕ
 
--- The source gave an input to its end. The answer to it was written to the output, and its refused lines are named on
--- the error stream.
-pub record IsAnswered (query : Question) (now : ℕ) (source output errors : Change) : Type 0 where
-  pub input : List ℕ
-  pub answer : List ℕ
-  pub refusals : List ℕ
-  pub gave : Gave source input
-  pub spent : IsSpent source
-  pub answered : IsAnswer query now input answer refusals
-  pub written : Took output answer
-  pub named : Took errors refusals
+-- ---- commands
 
--- The same, but the output failed, and took a proper prefix of the answer.
-pub record IsAnswerCut (query : Question) (now : ℕ) (source output errors : Change) : Type 0 where
-  pub input : List ℕ
-  pub answer : List ℕ
-  pub refusals : List ℕ
-  pub gave : Gave source input
-  pub spent : IsSpent source
-  pub answered : IsAnswer query now input answer refusals
-  pub written : IsCut output [] answer
-  pub named : Took errors refusals
+-- the words are a command for which this holds
+abbrev pub ForCommand : List (List ℕ) → (Command → Type 0) → Type 0
+ForCommand words holds = (command : Command) × IsCommand words command × holds command
 
--- The source gave an input to its end, and its refused lines are named. The evaluation over it overflows, which is
--- said.
-pub record IsUnanswered (query : Question) (now : ℕ) (source errors : Change) : Type 0 where
-  pub input : List ℕ
-  pub refusals : List ℕ
-  pub cause : Overflow
-  pub gave : Gave source input
-  pub spent : IsSpent source
-  pub overflows : Overflows query now input refusals cause
-  pub said : IsTold errors refusals (said_of_query (overflow_text cause))
+-- the words are no command
+abbrev pub IsNoCommand : List (List ℕ) → Type 0
+IsNoCommand words = (command : Command) → IsCommand words command → ⊥
 
--- The error stream failed while the refused lines of a group were named, right after it was taken in.
-pub record IsNamingFault (now : ℕ) (source errors : Change) : Type 0 where
-  pub groups : List (List Outcome)
-  pub group : List Outcome
-  pub begins : BeginsWith now source (groups ++ group ∷ [])
-  pub fits : CanBeHeld (groups ++ group ∷ [])
-  pub short : length begins.rest ≤ piece_len
-  pub named : IsCut errors (refusals_of groups) (refusals_from (length (outcomes_in groups) + 1) group)
+-- the command asks a query that can be asked
+abbrev pub IsAsked : Command → Type 0
+IsAsked (Pipe fields text) = IsReadableQuery text
+IsAsked (Trial seed rows) = ⊥
+IsAsked (Serve http syslog workers) = ⊥
 
--- The error stream failed so, and nothing was written to the output.
-pub record IsNamingCut (now : ℕ) (source output errors : Change) : Type 0 where
-  pub fault : IsNamingFault now source errors
-  pub unwritten : IsUntold output
+-- it asks one that cannot be asked
+abbrev pub CannotBeAsked : Command → Type 0
+CannotBeAsked (Pipe fields text) = IsNoReadableQuery text
+CannotBeAsked (Trial seed rows) = ⊥
+CannotBeAsked (Serve http syslog workers) = ⊥
 
--- Groups were taken in and their refused lines named. Then the run stopped, and says why.
-pub record IsStopped (now : ℕ) (source errors : Change) (stop : Stop) : Type 0 where
-  pub groups : List (List Outcome)
-  pub behind : StopsBehind now source groups stop
-  pub said : IsTold errors (refusals_of groups) (stop_text stop)
+abbrev pub IsTrial : Command → Type 0
+IsTrial (Pipe fields text) = ⊥
+IsTrial (Trial seed rows) = Unit {0}
+IsTrial (Serve http syslog workers) = ⊥
+
+abbrev pub IsServe : Command → Type 0
+IsServe (Pipe fields text) = ⊥
+IsServe (Trial seed rows) = ⊥
+IsServe (Serve http syslog workers) = Unit {0}
+
+-- the words have the input read
+abbrev pub Reads : List (List ℕ) → Type 0
+Reads words = ForCommand words IsAsked
+
+-- the words have the doors served
+abbrev pub Serves : List (List ℕ) → Type 0
+Serves words = ForCommand words IsServe
+
+-- ---- what a command comes to
+
+-- The clock's first reading was `now`, and for it this holds.
+abbrev pub ForMoment : Effects → (ℕ → Type 0) → Type 0
+ForMoment does holds = (now : ℕ) × FirstTold does.moments_before does.moments_after now × holds now
 
 -- The text is that of a query, the clock's first reading was `now`, and for them this holds.
-pub record ForQuery (run : Run) (text : List ℕ) (holds : Question → ℕ → Type 0) : Type 0 where
+pub record ForQuery (does : Effects) (text : List ℕ) (holds : Question → ℕ → Type 0) : Type 0 where
   pub query : Question
   pub spelled : IsQueryText text query
   pub now : ℕ
-  pub first : FirstTold run.moments_before run.moments_after now
+  pub first : FirstTold does.moments_before does.moments_after now
   pub facts : holds query now
 
 -- the command did all that it is to do
-abbrev pub IsDone : Run → Command → Type 0
-IsDone run (pipe text) = ForQuery run text (λ query now. IsAnswered query now run.source run.output run.errors)
+abbrev pub IsDone : Effects → Command → Type 0
+IsDone does (Pipe fields text) =
+    ForQuery does text (λ query now. IsAnswered query (arrival_at fields now) does.source does.output does.errors)
+IsDone does (Trial seed rows) =
+    IsUnread does.source × ForMoment does (λ now. IsTrialDone seed rows now does.output does.errors)
+IsDone does (Serve http syslog workers) =
+    IsUnread does.source × IsUntold does.output × IsUntold does.errors × AreDone does.doors
 
 -- what the command writes was written only up to some place
-abbrev pub IsCutShort : Run → Command → Type 0
-IsCutShort run (pipe text) =
-    ForQuery run text
-    (λ query now. IsAnswerCut query now run.source run.output run.errors
-    ⊎ IsNamingCut now run.source run.output run.errors)
+abbrev pub IsCutShort : Effects → Command → Type 0
+IsCutShort does (Pipe fields text) =
+    ForQuery does text
+    (λ query now. IsAnswerCut query (arrival_at fields now) does.source does.output does.errors
+    ⊎ IsNamingCut (arrival_at fields now) does.source does.output does.errors)
+IsCutShort does (Trial seed rows) =
+    IsUnread does.source × ForMoment does (λ now. IsTrialCut seed rows now does.output does.errors)
+IsCutShort does (Serve http syslog workers) = ⊥
 
--- the command stopped for this cause
-abbrev pub HasStopped : Run → Stop → Command → Type 0
-HasStopped run stop (pipe text) = ForQuery run text (λ query now. IsStopped now run.source run.errors stop)
+-- the query stopped for this cause
+abbrev pub HasStopped : Effects → Stop → Command → Type 0
+HasStopped does stop (Pipe fields text) =
+    ForQuery does text (λ query now. IsStopped (arrival_at fields now) does.source does.errors stop)
+HasStopped does stop (Trial seed rows) = ⊥
+HasStopped does stop (Serve http syslog workers) = ⊥
 
--- the words are a command for which this holds
-abbrev pub ForCommand : Run → (Command → Type 0) → Type 0
-ForCommand run holds = (command : Command) × (command_of run.words ≡ Some command) × holds command
+-- the query was refused before anything was read, for this cause, which is said
+abbrev pub IsRefused : Effects → Refusal → Command → Type 0
+IsRefused does refusal (Pipe fields text) =
+    IsRefusedText text refusal × IsUnread does.source × IsTold does.errors [] (said_of_query (refusal_text refusal))
+IsRefused does refusal (Trial seed rows) = ⊥
+IsRefused does refusal (Serve http syslog workers) = ⊥
 
--- the words are no command, or ask for a query that cannot be asked
-abbrev pub IsNotAsked : List (List ℕ) → Type 0
-IsNotAsked words =
-    (command_of words ≡ None) ⊎ ((command : Command) × (command_of words ≡ Some command) × CannotBeAsked command)
+-- the evaluation of the query overflows
+abbrev pub HasNoAnswer : Effects → Command → Type 0
+HasNoAnswer does (Pipe fields text) =
+    ForQuery does text (λ query now. IsUnanswered query (arrival_at fields now) does.source does.errors)
+HasNoAnswer does (Trial seed rows) = ⊥
+HasNoAnswer does (Serve http syslog workers) = ⊥
 
--- the words ask for a query whose patterns can be read
-abbrev pub IsAsked : Command → Type 0
-IsAsked (pipe text) = IsReadableQuery text
+-- a door failed while the doors were served, which is said
+abbrev pub IsDoorFault : Effects → Command → Type 0
+IsDoorFault does (Pipe fields text) = ⊥
+IsDoorFault does (Trial seed rows) = ⊥
+IsDoorFault does (Serve http syslog workers) =
+    IsUnread does.source × HasFailedDoor does.doors × IsTold does.errors [] door_fault_text
 
--- nothing was asked of the source
-abbrev pub IsUnread : Change → Type 0
-IsUnread source = IsUntold source × (source.faults_after ≡ source.faults_before)
+-- memory ran out, and nothing was read
+abbrev pub IsUnstarted : Effects → Type 0
+IsUnstarted does = IsUnread does.source × IsTold does.errors [] (stop_text no_memory)
 
--- the command was refused before anything was read, for this cause, which is said
-abbrev pub IsRefused : Run → Refusal → Command → Type 0
-IsRefused run refusal (pipe text) =
-    IsRefusedText text refusal × IsUnread run.source × IsTold run.errors [] (said_of_query (refusal_text refusal))
+abbrev pub usage_text : List ℕ
+usage_text = codes "usage: pipe, load, query, trial or serve" ++ 10 ∷ []
 
--- the evaluation of the command's query overflows
-abbrev pub HasNoAnswer : Run → Command → Type 0
-HasNoAnswer run (pipe text) = ForQuery run text (λ query now. IsUnanswered query now run.source run.errors)
+-- What each status says.
+abbrev pub Says : Run → Status → Type 0
+-- A query has its answer, which is the naive evaluation over the batches that the input is. A trial has the lines of its
+-- queries. The doors of a server have no visit left.
+Says run Done = ForCommand run.words (IsDone run.does)
+-- The query is refused before anything is read, or its evaluation overflows.
+Says run QueryRefused =
+    ((refusal : Refusal) × ForCommand run.words (IsRefused run.does refusal))
+    ⊎ ForCommand run.words (HasNoAnswer run.does)
+Says run Usage = IsNoCommand run.words × IsTold run.does.errors [] usage_text
+Says run ReadFault = ForCommand run.words (HasStopped run.does unreadable)
+Says run WriteFault = ForCommand run.words (IsCutShort run.does)
+Says run DoorFault = ForCommand run.words (IsDoorFault run.does)
+Says run AtLimit = (limit : Limit) × ForCommand run.words (HasStopped run.does (beyond limit))
+Says run NoMemory = IsUnstarted run.does ⊎ ForCommand run.words (HasStopped run.does no_memory)
 
--- memory ran out before anything was read
-abbrev pub IsUnstarted : Run → Command → Type 0
-IsUnstarted run (pipe text) = IsUnread run.source × IsTold run.errors [] (stop_text no_memory)
+-- The status of a query where nothing fails: it is answered, or overflows, or the input is beyond a limit, or memory
+-- runs out.
+abbrev pub GoesWell : Run → Status → Type 0
+GoesWell run Done = Unit {0}
+GoesWell run QueryRefused = ForCommand run.words (HasNoAnswer run.does)
+GoesWell run Usage = ⊥
+GoesWell run ReadFault = ⊥
+GoesWell run WriteFault = ⊥
+GoesWell run DoorFault = ⊥
+GoesWell run AtLimit = Unit {0}
+GoesWell run NoMemory = Unit {0}
 
--- the statuses that there are
-abbrev pub IsStatus : ℕ → Type 0
-IsStatus number = (status : Status) × (number ≡ status_number status)
-
--- What each status says. Want of memory alone, 9, is free.
+-- What the status says is so. Want of memory alone is free.
 pub record IsRun (run : Run) : Type 0 where
-  -- the answer is the naive evaluation of the query over the batches that the input is
-  pub done : run.status ≡ 0 → ForCommand run (IsDone run)
-  -- the query is refused before anything is read, or its evaluation overflows
-  pub refused : run.status ≡ 1
-      → ((refusal : Refusal) × ForCommand run (IsRefused run refusal)) ⊎ ForCommand run (HasNoAnswer run)
-  pub unasked : ForCommand run CannotBeAsked → (run.status ≡ 1) ⊎ (run.status ≡ 9)
-  pub usage : (run.status ≡ 2) ↔ (command_of run.words ≡ None)
-  pub said_usage : run.status ≡ 2 → IsTold run.errors [] usage_text
-  pub read_fault : run.status ≡ 3 → ForCommand run (HasStopped run unreadable)
-  pub write_fault : run.status ≡ 4 → ForCommand run (IsCutShort run)
-  pub limit : run.status ≡ 8 → (limit : Limit) × ForCommand run (HasStopped run (beyond limit))
-  pub memory : run.status ≡ 9
-      → ForCommand run (IsUnstarted run) ⊎ ForCommand run (HasStopped run no_memory)
-  pub no_other : IsStatus run.status
-  -- Where nothing fails, a query is answered, or overflows, or the input is beyond a limit, or memory runs out.
-  pub complete : ForCommand run IsAsked → ¬ HasFailed run.source → ¬ HasFailed run.output → ¬ HasFailed run.errors
-      → (run.status ≡ 0) ⊎ (((run.status ≡ 1) × ForCommand run (HasNoAnswer run))
-      ⊎ ((run.status ≡ 8) ⊎ (run.status ≡ 9)))
+  pub status : Status
+  pub number : run.status ≡ status_number status
+  pub says : Says run status
+  pub unusable : IsNoCommand run.words → (status ≡ Usage) ⊎ (status ≡ NoMemory)
+  pub unasked : ForCommand run.words CannotBeAsked → (status ≡ QueryRefused) ⊎ (status ≡ NoMemory)
+  pub query : ForCommand run.words IsAsked → ¬ HasFailed run.does.source → ¬ HasFailed run.does.output
+      → ¬ HasFailed run.does.errors → GoesWell run status
+  -- Where nothing fails, a trial and a server do all that they are to do, or memory runs out.
+  pub trial : ForCommand run.words IsTrial → ¬ HasFailed run.does.output → (status ≡ Done) ⊎ (status ≡ NoMemory)
+  pub server : ForCommand run.words IsServe → ¬ HasFailedDoor run.does.doors → (status ≡ Done) ⊎ (status ≡ NoMemory)
+
+-- ---- commands that were read
+
+-- what `pipe` is asked, and what it does
+abbrev pub pipe_run : Effects → Option (List ℕ) → List ℕ → PipeRun
+pipe_run does fields text = record {
+  asked = record { stream_fields = fields; query = text };
+  source = does.source;
+  output = does.output;
+  errors = does.errors;
+  moments_before = does.moments_before;
+  moments_after = does.moments_after;
+}
+
+-- how a command ends, by its status
+abbrev pub EndsCommand : Effects → Command → Status → Type 0
+EndsCommand does (Pipe fields text) status = IsPiped (pipe_run does fields text) status
+EndsCommand does (Trial seed rows) status =
+    IsUnread does.source × ForMoment does (λ now. EndsTrial seed rows now does.output does.errors status)
+EndsCommand does (Serve http syslog workers) status =
+    IsUnread does.source × IsUntold does.output × EndsServer does.errors does.doors status
+
+-- the number of rows of a trial is within its limit
+abbrev pub IsBounded : Command → Type 0
+IsBounded (Pipe fields text) = Unit {0}
+IsBounded (Trial seed rows) = rows ≤ 1_000_000
+IsBounded (Serve http syslog workers) = Unit {0}

@@ -1,64 +1,81 @@
 //! Duvonka, a log database: what the program does. `run` carries the theorem.
 #![tactic(auto)]
 
-ghost use Rattle.std.specs.Prelude.{◌≡◌, ◌≢◌, map};
+ghost use Rattle.std.specs.Prelude.{◌≡◌, ◌≢◌, ◌≤◌, length, map};
 ghost use Rattle.vl_io.specs.Change.{change_of};
-ghost use Rattle.vl_top.specs.Run.{IsNotAsked, IsRun};
+ghost use Rattle.vl_serve.specs.Doors.{door_changes};
+ghost use Rattle.vl_top.specs.Run.{IsRun, Reads, Serves};
 
 mod command;
-mod interrupt;
-mod load;
-mod lone_desk;
-mod names;
-mod pipe;
-mod refusal;
 mod report;
-mod status;
+mod server;
+mod trial;
 
-use command::query_text;
-use pipe::run_pipe;
-use query_run::read_query;
-use report::report_refused;
-pub use report::{report_no_memory, report_usage};
-pub use status::Status;
+use command::run_command;
+use command_line::command_law;
+pub use command_line::{Command, UsageFault, read_words};
+pub use report::report_usage;
+use std::alloc::AllocGlobal;
 use std::sync::Wait;
-use vl_io::{Clock, Sink, Source};
+use std::thread::Threads;
+use vl_io::{Clock, Doors, Sink, Source};
+pub use vl_pipe::{Status, report_no_memory};
+pub use vl_serve::{ServeEnd, serve};
 
 /// Does what the words ask for, and answers the status that the process ends with.
 ///
 /// `pipe QUERY` reads the query, then the source to its end in groups of 1,000 lines, and writes the lines of the
-/// records that its pipes make of the rows that hold.
-pub fn run<R: AllocGlobal + Wait, S: Source, O: Sink, E: Sink, C: Clock>(
+/// records that its pipes make of the rows that hold. `trial SEED ROWS` makes rows, and writes the answers to three
+/// queries over them. `serve` serves the doors, each as often as it has visits; whoever calls opens them at the addresses
+/// that the words say.
+pub fn run<
+    R: AllocGlobal + Threads + Wait + Sync,
+    S: Source,
+    O: Sink,
+    E: Sink,
+    D: Doors + Send + Drop,
+    C: Clock,
+>(
     rt: &R,
     words: &[&str],
     src: &mut S,
     out: &mut O,
     err: &mut E,
+    doors: &mut Vec<D>,
     clock: &mut C,
 ) -> u8
+where
+    D::S: Send,
+    D::K: Send,
+    D::C: Send,
+    requires { length doors.old.items ≤ 64 }
+
     // What each status says: the answer of 0, and the cause of each other one.
     ensures run { IsRun (record {
       words = map (λ word. word.now) words.now;
-      source = change_of S.left S.faults src.old src.new;
-      output = change_of O.written O.faults out.old out.new;
-      errors = change_of E.written E.faults err.old err.new;
-      moments_before = C.moments clock.old;
-      moments_after = C.moments clock.new;
+      does = record {
+        source = change_of S.left S.faults src.old src.new;
+        output = change_of O.written O.faults out.old out.new;
+        errors = change_of E.written E.faults err.old err.new;
+        doors = door_changes D.left D.faults doors.old.items doors.new.items;
+        moments_before = C.moments clock.old;
+        moments_after = C.moments clock.new;
+      };
       status = result;
     }) }
+    ensures doors { length doors.new.items ≡ length doors.old.items }
 
-    // Words that are no command, and a query that cannot be asked, are refused before anything is read.
-    ensures unread { IsNotAsked (map (λ word. word.now) words.now) → src.new ≡ src.old }
+    // Only a query that can be asked reads anything, and only a server has visits.
+    ensures unread { (Reads (map (λ word. word.now) words.now) → ⊥) → src.new ≡ src.old }
+    ensures unvisited { (Serves (map (λ word. word.now) words.now) → ⊥) → doors.new ≡ doors.old }
 
     // Only an answer is written to the output.
     ensures untouched { result ≢ 0 → result ≢ 4 → out.new ≡ out.old }
 {
-    let Some(text) = query_text(words) else {
-        return report_usage(err).number();
-    };
-    let alloc = rt.alloc();
-    match read_query(alloc, text) {
-        Ok(_search) => run_pipe(rt, text, src, out, err, clock).number(),
-        Err(refusal) => report_refused(alloc, refusal, err).number(),
+    command_law();
+    match read_words(rt.alloc(), words) {
+        Ok(command) => run_command(rt, command, src, out, err, doors, clock).number(),
+        Err(UsageFault::Usage) => report_usage(err).number(),
+        Err(UsageFault::Memory) => report_no_memory(err).number(),
     }
 }

@@ -1,16 +1,11 @@
-//! What is said on the error stream where a run ends before all is done.
+//! What is said of words and of doors.
 ghost use Rattle.std.specs.Prelude.{◌≡◌, []};
 ghost use Rattle.vl_io.specs.Change.{IsTold, change_of};
-ghost use Rattle.vl_top.specs.Program.{no_memory, stop_text, usage_text};
-ghost use Rattle.vl_top.specs.Pipe.{ReportsInterrupt};
-ghost use Rattle.vl_top.specs.Refused.{ReportsRefused};
+ghost use Rattle.vl_top.specs.Run.{usage_text};
+ghost use Rattle.vl_top.specs.Server.{door_fault_text};
 
-use crate::interrupt::Interrupt;
-use crate::refusal::said_of;
-use crate::status::Status;
-use query_run::QueryRefusal;
-use std::alloc::Global;
-use vl_io::{Sink, put_all};
+use vl_io::Sink;
+use vl_pipe::{Status, say};
 
 /// The words are no command.
 pub fn report_usage<E: Sink>(err: &mut E) -> Status
@@ -21,63 +16,11 @@ pub fn report_usage<E: Sink>(err: &mut E) -> Status
     Status::Usage
 }
 
-/// The query is refused. Where there is no memory to say why, that is what is said.
-pub fn report_refused<E: Sink>(alloc: Global, refusal: QueryRefusal, err: &mut E) -> Status
-    ensures { ReportsRefused (change_of E.written E.faults err.old err.new) refusal result }
+/// A door failed.
+pub(crate) fn report_door_fault<E: Sink>(err: &mut E) -> Status
+    ensures status { result ≡ Status.DoorFault }
+    ensures said { IsTold (change_of E.written E.faults err.old err.new) [] door_fault_text }
 {
-    if refusal == QueryRefusal::Memory {
-        return report_no_memory(err);
-    }
-    match said_of(alloc, refusal) {
-        Ok(text) => {
-            say(err, text.as_str());
-            Status::QueryRefused
-        }
-        Err(_) => report_no_memory(err),
-    }
-}
-
-/// There is no memory.
-pub fn report_no_memory<E: Sink>(err: &mut E) -> Status
-    ensures status { result ≡ Status.NoMemory }
-    ensures said { IsTold (change_of E.written E.faults err.old err.new) [] (stop_text no_memory) }
-{
-    say(err, "no memory\n");
-    Status::NoMemory
-}
-
-/// A run is interrupted. Where there is no memory to say why, that is what is said. That a stream can't be written to
-/// is not said.
-pub fn report_interrupt<E: Sink>(alloc: Global, interrupt: Interrupt, err: &mut E) -> Status
-    ensures { ReportsInterrupt (change_of E.written E.faults err.old err.new) interrupt result }
-{
-    match interrupt {
-        Interrupt::Unwritable => Status::WriteFault,
-        Interrupt::Unreadable => {
-            say(err, "read fault\n");
-            Status::ReadFault
-        }
-        Interrupt::Beyond(limit) => match limit.text(alloc) {
-            Ok(text) => {
-                say(err, text.as_str());
-                Status::Limit
-            }
-            Err(_) => report_no_memory(err),
-        },
-        Interrupt::NoAnswer(overflow) => match overflow.text(alloc) {
-            Ok(text) => {
-                say(err, text.as_str());
-                Status::QueryRefused
-            }
-            Err(_) => report_no_memory(err),
-        },
-        Interrupt::NoMemory => report_no_memory(err),
-    }
-}
-
-/// Writes the text to the error stream, as far as that takes it.
-fn say<E: Sink>(err: &mut E, text: &str)
-    ensures { IsTold (change_of E.written E.faults err.old err.new) [] text.now }
-{
-    let _ = put_all(err, text.as_bytes());
+    say(err, "door fault\n");
+    Status::DoorFault
 }

@@ -150,3 +150,81 @@ fn queries_are_answered_as_in_the_examples(rt: HostRuntime) -> Result<(), Fail> 
     }
     Ok(())
 }
+
+/// The words of a query with options, its input and its answer.
+const LABELLED: &[(&[&str], &str, &str)] = &[
+    (
+        &["pipe", "{app=\"nginx\"} | fields _msg"],
+        "{\"_msg\":\"m\",\"app\":\"nginx\"}\n",
+        "",
+    ),
+    (
+        &[
+            "pipe",
+            "--stream-fields",
+            "app",
+            "{app=\"nginx\"} | fields _msg",
+        ],
+        "{\"_msg\":\"m\",\"app\":\"nginx\"}\n",
+        "{\"_msg\":\"m\"}\n",
+    ),
+    (
+        &["pipe", "--stream-fields=b,a", "* | fields _stream"],
+        "{\"a\":\"1\",\"b\":\"2\",\"c\":\"3\"}\n",
+        "{\"_stream\":\"{a=\\\"1\\\",b=\\\"2\\\"}\"}\n",
+    ),
+    (
+        &["pipe", "--stream-fields=", "* | fields _stream"],
+        "{\"a\":\"1\"}\n",
+        "{\"_stream\":\"{}\"}\n",
+    ),
+    (
+        &["pipe", "--", "-x | stats count() as n"],
+        "",
+        "{\"n\":\"0\"}\n",
+    ),
+];
+
+#[test]
+fn rows_have_the_labels_that_are_asked_for(rt: HostRuntime) -> Result<(), Fail> {
+    for (words, input, out) in LABELLED {
+        let wanted = Wanted {
+            status: 0,
+            out,
+            err: "",
+        };
+        assert!(rt;
+            ends(&rt, words, input.as_bytes(), NONE, wanted)?,
+            "{words:?}"
+        );
+    }
+    Ok(())
+}
+
+/// A seed and a number of rows, and what their trial gives.
+const TRIALS: &[(&str, &str, &str)] = &[
+    ("0", "0", "{\"n\":\"0\"}\n{\"n\":\"0\"}\n"),
+    ("0", "1", "{\"n\":\"1\"}\n{\"n\":\"0\"}\n"),
+    ("0", "3", "{\"n\":\"3\"}\n{\"n\":\"0\"}\n"),
+    (
+        "10",
+        "1",
+        "{\"n\":\"1\"}\n{\"app\":\"api\",\"n\":\"1\",\"s\":\"316\"}\n{\"n\":\"0\"}\n",
+    ),
+];
+
+#[test]
+fn a_trial_answers_three_queries(rt: HostRuntime) -> Result<(), Fail> {
+    for (seed, rows, out) in TRIALS {
+        let wanted = Wanted {
+            status: 0,
+            out,
+            err: "",
+        };
+        assert!(rt;
+            ends(&rt, &["trial", seed, rows], b"x\n", NONE, wanted)?,
+            "{seed} {rows}"
+        );
+    }
+    Ok(())
+}

@@ -2,8 +2,12 @@
 use std::alloc::{AllocError, AllocGlobal, Global};
 use std::sync::Wait;
 use std::test::Fail;
-use vl_io::{MemClock, MemSink, MemSource};
+use std::thread::Threads;
+use vl_io::{MemClock, MemDoors, MemSink, MemSource};
 use vl_top::run;
+
+/// Doors in memory.
+pub(crate) type TestDoors = MemDoors<MemSource, MemSink, MemClock>;
 
 /// Which calls of each object fail, counted from 0.
 #[derive(Clone, Copy)]
@@ -29,7 +33,7 @@ pub(crate) struct Wanted<'a> {
 
 /// Whether a run ends so, on a clock that stands at 5 ns, and then at 7, and a source that gives its input in small
 /// pieces first.
-pub(crate) fn ends<R: AllocGlobal + Wait>(
+pub(crate) fn ends<R: AllocGlobal + Threads + Wait + Sync>(
     rt: &R,
     words: &[&str],
     input: &[u8],
@@ -41,7 +45,10 @@ pub(crate) fn ends<R: AllocGlobal + Wait>(
     let mut out = MemSink::of(alloc, failing.answers)?;
     let mut err = MemSink::of(alloc, failing.reports)?;
     let mut clock = MemClock::of(alloc, &[5, 7])?;
-    let status = run(rt, words, &mut src, &mut out, &mut err, &mut clock);
+    let mut doors: Vec<TestDoors> = Vec::new(alloc);
+    let status = run(
+        rt, words, &mut src, &mut out, &mut err, &mut doors, &mut clock,
+    );
     Ok(
         status == wanted.status
             && out.bytes() == wanted.out.as_bytes()
@@ -191,7 +198,11 @@ fn printed(alloc: Global, messages: &str) -> Result<String, AllocError> {
     Ok(text)
 }
 
-fn selects<R: AllocGlobal + Wait>(rt: &R, query: &str, messages: &str) -> Result<bool, AllocError> {
+fn selects<R: AllocGlobal + Threads + Wait + Sync>(
+    rt: &R,
+    query: &str,
+    messages: &str,
+) -> Result<bool, AllocError> {
     let out = printed(rt.alloc(), messages)?;
     let wanted = Wanted {
         status: 0,
@@ -357,6 +368,9 @@ const NO_COMMAND: &[&[&str]] = &[
     &["pipe", "a", "b"],
     &["load", "a"],
     &["PIPE", "a"],
+    &["trial", "07", "1"],
+    &["trial", "1", "1000001"],
+    &["serve"],
 ];
 
 const USAGE: Wanted<'static> = Wanted {
@@ -408,7 +422,11 @@ fn surrounded(alloc: Global, line: &[u8]) -> Result<Vec<u8>, AllocError> {
 }
 
 /// Whether such a line between two good ones is refused so, and nothing else is lost.
-fn is_named<R: AllocGlobal + Wait>(rt: &R, line: &[u8], named: &str) -> Result<bool, AllocError> {
+fn is_named<R: AllocGlobal + Threads + Wait + Sync>(
+    rt: &R,
+    line: &[u8],
+    named: &str,
+) -> Result<bool, AllocError> {
     let input = surrounded(rt.alloc(), line)?;
     let wanted = Wanted {
         status: 0,
@@ -427,7 +445,7 @@ fn a_line_that_is_no_row_is_named_and_nothing_else_is_lost(rt: HostRuntime) -> R
 }
 
 /// Whether a line of so many brackets is refused so.
-fn brackets_are_named<R: AllocGlobal + Wait>(
+fn brackets_are_named<R: AllocGlobal + Threads + Wait + Sync>(
     rt: &R,
     bracket: u8,
     named: &str,
@@ -554,7 +572,10 @@ fn spread(alloc: Global, first: &str, feeds: usize, last: &str) -> Result<Vec<u8
 
 /// Whether a source that fails at this read, behind a whole group, has the refused lines of the group named before the
 /// fault is told.
-fn names_first<R: AllocGlobal + Wait>(rt: &R, read: u64) -> Result<bool, AllocError> {
+fn names_first<R: AllocGlobal + Threads + Wait + Sync>(
+    rt: &R,
+    read: u64,
+) -> Result<bool, AllocError> {
     let input = spread(rt.alloc(), "x", 1_000, "y\n")?;
     let failing = Failing {
         reads: &[read],
@@ -584,7 +605,10 @@ fn repeated(alloc: Global, text: &str, times: usize) -> Result<Vec<u8>, AllocErr
 }
 
 /// Whether so many lines `{"_msg":"error"}` give as many rows, and nothing else.
-fn all_are_answered<R: AllocGlobal + Wait>(rt: &R, lines: usize) -> Result<bool, AllocError> {
+fn all_are_answered<R: AllocGlobal + Threads + Wait + Sync>(
+    rt: &R,
+    lines: usize,
+) -> Result<bool, AllocError> {
     let input = repeated(rt.alloc(), "{\"_msg\":\"error\"}\n", lines)?;
     let row =
         "{\"_msg\":\"error\",\"_stream\":\"{}\",\"_stream_id\":\"44136fa355b3678a1146ad16f7e8649e\",\
@@ -594,7 +618,7 @@ fn all_are_answered<R: AllocGlobal + Wait>(rt: &R, lines: usize) -> Result<bool,
 }
 
 /// Whether the rows with the word `error` of this input are these, and nothing else is written.
-fn is_answered<R: AllocGlobal + Wait>(
+fn is_answered<R: AllocGlobal + Threads + Wait + Sync>(
     rt: &R,
     input: &[u8],
     out: &[u8],
@@ -617,7 +641,7 @@ fn groups_are_answered_in_their_order(rt: HostRuntime) -> Result<(), Fail> {
 }
 
 /// Groups with a row each, so many, and whether the run ends with this status and this text.
-fn held<R: AllocGlobal + Wait>(
+fn held<R: AllocGlobal + Threads + Wait + Sync>(
     rt: &R,
     groups: usize,
     wanted: Wanted<'_>,
@@ -648,7 +672,7 @@ fn a_4097th_batch_is_refused(rt: HostRuntime) -> Result<(), Fail> {
 }
 
 /// Lines with one field of 262,144 bytes, its name counted, so many, and whether the run ends so.
-fn weighs<R: AllocGlobal + Wait>(
+fn weighs<R: AllocGlobal + Threads + Wait + Sync>(
     rt: &R,
     lines: usize,
     wanted: Wanted<'_>,

@@ -1,0 +1,4 @@
+pub mod Functional
+pub mod Matched
+pub mod Numbers
+pub mod Values

@@ -1,0 +1,42 @@
+-- What a caller that is alone sees of the history.
+use Rattle.std.proofs.Common.{◌≡◌, ◌<◌, List, [], ◌∷◌, ◌++◌, append-nil, ap, ◌∙◌, arith}
+use Rattle.std.proofs.lemmas.List.{map-append}
+use Rattle.log_model.specs.History.{History, batches_in, entry_rows}
+use Rattle.log_model.specs.Row.{Batch, Row}
+use Rattle.log_desk.proofs.SeenLaws.{none_beside_one}
+use Rattle.log_desk.specs.Seen.{Caller, Follows, Gains, Seen}
+use Rattle.lone_desk.specs.Alone.{FollowsAlone, GainsAlone, IsAlone}
+
+-- Nobody else added anything.
+pub same_history : (caller : Caller) → IsAlone caller → (old new : Seen) → Follows caller old new
+    → new.history ≡ old.history
+same_history caller alone old new follows =
+    follows.longer
+    ∙ ap (λ (others : History). old.history ++ others)
+    (none_beside_one caller follows.others alone.one_pass alone.first follows.strange) ∙ append-nil old.history
+
+-- the batches with one entry more, which comes right behind them
+pub batches-gained : (caller : Caller) (old new : Seen) (rows : List Row) → IsAlone caller → Gains caller old new rows
+    → batches_in new.history ≡ batches_in old.history ++ rows ∷ []
+batches-gained caller old new rows alone gains =
+    let last : gains.others ++ gains.entry ∷ [] ≡ gains.entry ∷ [] =
+    ap (λ (others : History). others ++ gains.entry ∷ []) (none_beside_one caller gains.others alone.one_pass alone.first gains.strange) in
+    ap batches_in gains.longer
+    ∙ ap (λ (later : History). batches_in (old.history ++ later)) last
+    ∙ map-append entry_rows old.history (gains.entry ∷ [])
+    ∙ ap (λ rows. batches_in old.history ++ rows ∷ []) gains.rows
+
+-- the batches behind an insert
+pub batches-with : (old new : Seen) (batch : Batch) → GainsAlone old new batch
+    → batches_in new.history ≡ batches_in old.history ++ batch ∷ []
+batches-with old new batch (caller, alone, gains) = batches-gained caller old new batch alone gains
+
+-- nothing was added, and as much is settled
+pub same-alone : (old new : Seen) → FollowsAlone old new → (new.history ≡ old.history) × (new.settled ≡ old.settled)
+same-alone old new (caller, alone, follows) = (
+  same_history caller alone old new follows,
+  follows.stays (omega (arith, alone.settles)),
+)
+
+pub settled-alone : (old new : Seen) (batch : Batch) → GainsAlone old new batch → new.settled ≡ old.settled
+settled-alone old new batch (caller, alone, gains) = gains.stays (omega (arith, alone.settles))

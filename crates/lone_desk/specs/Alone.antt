@@ -1,0 +1,32 @@
+-- A caller that is the only one of its desk.
+use Rattle.std.specs.Prelude.{◌≡◌, ℕ, List, [], ◌∷◌}
+use Rattle.log_model.specs.Row.{Batch}
+use Rattle.ingest_row.specs.Ingest.{Options}
+use Rattle.log_desk.specs.Seen.{Caller, Follows, Gains, Seen}
+use Rattle.vl_session.specs.Insertion.{Inserts, RefusesLines}
+use Rattle.vl_session.specs.declared.insert.Insertion.{Insertion}
+use Rattle.vl_session.specs.declared.insert.InsertionFault.{InsertionFault}
+
+-- Its desk is made for one pass, which is the first.
+pub record IsAlone (caller : Caller) : Type 0 where
+  pub one_pass : caller.lock.passes ≡ 1
+  pub first : caller.numbers ≡ 0 ∷ []
+  pub settles : caller.may_settle ≡ 1
+
+-- such a caller inserted a batch
+abbrev pub GainsAlone : Seen → Seen → Batch → Type 0
+GainsAlone old new batch = (caller : Caller) × IsAlone caller × Gains caller old new batch
+
+-- such a caller added nothing
+abbrev pub FollowsAlone : Seen → Seen → Type 0
+FollowsAlone old new = (caller : Caller) × IsAlone caller × Follows caller old new
+
+-- such a caller had lines taken in
+abbrev pub InsertsAlone : Options → ℕ → List ℕ → Seen → Seen → Insertion → Type 0
+InsertsAlone options now body old new insertion =
+    (caller : Caller) × IsAlone caller × Inserts caller options now body old new insertion
+
+-- it had none taken in, for this reason
+abbrev pub RefusesAlone : Options → ℕ → List ℕ → Seen → Seen → InsertionFault → Type 0
+RefusesAlone options now body old new fault =
+    (caller : Caller) × IsAlone caller × RefusesLines caller options now body old new fault

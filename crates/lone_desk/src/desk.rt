@@ -1,0 +1,105 @@
+//! The desk and its calls.
+ghost use Rattle.std.specs.Prelude.{◌≡◌, ◌≤ℤ◌, [], IfErr, IfOk, OnErr, OnOk, length, pos, unsigned_abs};
+ghost use Rattle.query_run.specs.Asked.{IsReadableQuery};
+ghost use Rattle.vl_session.specs.Answer.{FailsQuery, HasRecords, IsOfEvaluation, IsQueryAnswer};
+ghost use Rattle.log_desk.specs.Faults.{Refuses};
+ghost use Rattle.lone_desk.specs.Alone.{FollowsAlone, GainsAlone, InsertsAlone, RefusesAlone};
+
+use ingest_row::Options;
+use log_desk::{Desk, InsertFault, Pass};
+use std::alloc::{AllocError, Global};
+use std::marker::Model;
+use std::sync::Wait;
+use vl_row::Batch;
+use vl_session::{Answer, AnswerFault, Insertion, InsertionFault, answer_query, insert_lines};
+
+/// A desk that is made for one pass, with that pass, so that nobody else inserts.
+///
+/// A contract sees what its caller has seen, which is all that there is.
+#[derive(Drop)]
+pub struct LoneDesk<'d, R> {
+    rt: &'d R,
+    alloc: Global,
+    desk: Desk,
+    pass: Pass,
+}
+
+impl<'d, R> Model for LoneDesk<'d, R> {
+    ghost use Rattle.turn_lock.specs.Passes.{IsPassOf};
+    ghost use Rattle.log_desk.specs.Seen.{Seen, caller_of, seen_of};
+    ghost use Rattle.lone_desk.specs.Alone.{IsAlone};
+
+    ghost Value = { Seen };
+
+    ghost view = { λ d. seen_of d.pass };
+
+    ghost invariant = { λ d. IsPassOf d.desk d.pass × IsAlone (caller_of d.pass) };
+}
+
+impl<'d, R: Wait> LoneDesk<'d, R> {
+    /// A desk of no batch.
+    pub fn fresh(rt: &'d R, alloc: Global) -> Result<LoneDesk<'d, R>, AllocError>
+        ensures nothing { IfOk result (λ desk. desk.history ≡ []) }
+        ensures unsettled { IfOk result (λ desk. desk.settled ≡ 0) }
+    {
+        let (desk, pass) = Desk::fresh(rt, alloc, 1)?;
+        Ok(LoneDesk {
+            rt,
+            alloc,
+            desk,
+            pass,
+        })
+    }
+
+    /// Where its memory comes from.
+    pub fn alloc(&self) -> Global {
+        self.alloc
+    }
+
+    /// Inserts the batch, and answers its number.
+    pub fn insert(&mut self, batch: Batch) -> Result<u64, InsertFault>
+        ensures gains { OnOk result (GainsAlone self.old self.new batch) }
+        ensures refused { IfErr result (Refuses (length self.new.history) self.new.settled) }
+        ensures follows { OnErr result (FollowsAlone self.old self.new) }
+    {
+        match self.desk.insert(self.rt, self.alloc, &mut self.pass, batch) {
+            Ok(number) => Ok(number),
+            Err((fault, _)) => Err(fault),
+        }
+    }
+
+    /// Takes in the lines of a body that came at the moment `now`, in nanoseconds since the start of 1970.
+    pub fn insert_lines(
+        &mut self,
+        options: &Options,
+        now: i64,
+        body: &[u8],
+    ) -> Result<Insertion, InsertionFault>
+        requires moment { pos 0 ≤ℤ now }
+        ensures inserted { IfOk result (InsertsAlone options.now (unsigned_abs now) body.now self.old self.new) }
+        ensures refused { IfErr result (RefusesAlone options.now (unsigned_abs now) body.now self.old self.new) }
+    {
+        insert_lines(
+            self.rt,
+            self.alloc,
+            &self.desk,
+            &mut self.pass,
+            options,
+            now,
+            body,
+        )
+    }
+
+    /// Answers a query over all batches, at the moment `now`.
+    pub fn answer_query(&mut self, text: &str, now: i64) -> Result<Answer, AnswerFault>
+        requires moment { pos 0 ≤ℤ now }
+        ensures answered { IfOk result (IsQueryAnswer text.now (unsigned_abs now) self.old.history) }
+        ensures refused { IfErr result (FailsQuery text.now (unsigned_abs now) self.old.history) }
+        ensures asked { IsReadableQuery text.now → IfErr result IsOfEvaluation }
+        ensures complete { HasRecords text.now (unsigned_abs now) self.old.history
+            → IfErr result (λ fault. fault ≡ AnswerFault.Memory) }
+        ensures same { self.new.history ≡ self.old.history }
+    {
+        answer_query(self.rt, self.alloc, &self.desk, &mut self.pass, text, now)
+    }
+}

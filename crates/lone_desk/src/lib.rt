@@ -1,0 +1,6 @@
+//! A desk with one caller.
+#![tactic(auto)]
+
+mod desk;
+
+pub use desk::LoneDesk;

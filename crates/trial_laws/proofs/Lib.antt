@@ -1,0 +1,3 @@
+pub mod Totals
+pub mod Safe
+pub mod Trials

@@ -1,0 +1,7 @@
+//! The rows of the self-test: made up, and always the same for a seed.
+#![tactic(auto)]
+
+mod batches;
+mod row;
+
+pub use batches::TrialBatches;

@@ -1,0 +1,67 @@
+-- What has been seen, as a history of batches.
+use Rattle.std.proofs.Common.{◌≡◌, ℕ, ◌+◌, ◌≤◌, List, [], ◌∷◌, ◌++◌, length, refl, sym, ap, subst, ◌∙◌, arith}
+use Rattle.std.proofs.lemmas.List.{length-map, map-append}
+use Rattle.log_model.specs.Core.{held_limit}
+use Rattle.log_model.specs.History.{History, batches_in, entry_rows}
+use Rattle.log_model.specs.Row.{Batch, Row, batch_limit, batch_weight}
+use Rattle.ingest_row.specs.Ingest.{Options}
+use Rattle.ingest_row.specs.Intake.{Outcome, rows_read}
+use Rattle.vl_session.specs.Insert.{HasInsertOutcome, insert_effect}
+use Rattle.vl_session.specs.Insertion.{accepted}
+use Rattle.log_desk.specs.Seen.{Caller, Follows, Gains, Seen}
+use Rattle.vl_session.specs.Seen.{Has}
+use Rattle.vl_session.specs.declared.insert.Insertion.{Insertion}
+use Rattle.lone_desk.proofs.Laws.{batches-gained}
+use Rattle.lone_desk.specs.Alone.{InsertsAlone, IsAlone}
+use Rattle.vl_pipe.specs.Groups.{Arrival}
+use Rattle.vl_pipe.specs.Load.{AddsRows, IsHeld, TakesGroup}
+use Rattle.vl_pipe.proofs.GroupLemmas.{append_nil}
+
+as_many : (seen : Seen) (batches : List Batch) → IsHeld seen batches → length batches ≡ length seen.history
+as_many seen batches held = sym (ap length held.entered) ∙ length-map seen.history entry_rows
+
+pub held_few : (seen : Seen) (batches : List Batch) → IsHeld seen batches → length seen.history ≤ held_limit
+held_few seen batches held = omega (arith, held.few, as_many seen batches held)
+
+pub held_all : (seen : Seen) (batches : List Batch) → IsHeld seen batches
+    → length seen.history ≡ seen.settled + held_limit → length batches ≡ held_limit
+held_all seen batches held full = omega (arith, held.settled, full, as_many seen batches held)
+
+module _ (caller : Caller) (alone : IsAlone caller) (options : Options) (now : ℕ) (body : List ℕ)
+    (outcomes : List Outcome) (old new : Seen) where
+  adds : (rows : List Row) → rows_read outcomes ≡ rows
+      → HasInsertOutcome options now body new (accepted rows outcomes)
+      → Has caller old new (insert_effect (accepted rows outcomes)) → AddsRows old new rows
+  adds [] none comes stays = (
+    omega arith,
+    λ batches held. subst (λ seen. IsHeld seen (batches ++ [])) (sym stays)
+        (subst (IsHeld old) (sym (append_nil batches)) held),
+  )
+  adds (row ∷ rows) are comes gains = (
+    subst (λ rows. batch_weight rows ≤ batch_limit) are comes.0.light,
+    λ batches held.
+        let gained : Gains caller old new (row ∷ rows) = subst (Gains caller old new) are gains in
+        let entered : batches_in new.history ≡ batches ++ (row ∷ rows) ∷ [] =
+        batches-gained caller old new (row ∷ rows) alone gained ∙ ap (λ bs. bs ++ (row ∷ rows) ∷ []) held.entered in
+        let settled : new.settled ≡ 0 = gained.stays (omega (arith, alone.settles)) ∙ held.settled in
+        record {
+          entered = entered;
+          few = omega (
+            arith,
+            comes.1.few,
+            settled,
+            ap length entered,
+            length-map new.history entry_rows,
+          );
+          settled = settled;
+        },
+  )
+
+-- A group was taken in.
+pub takes : (arrival : Arrival) (body : List ℕ) (old new : Seen) (insertion : Insertion)
+    → (inserts : InsertsAlone arrival.options arrival.moment body old new insertion) → TakesGroup arrival body inserts.2.outcomes old new
+takes arrival body old new insertion (caller, alone, inserts) = record {
+  intake = inserts.given;
+  adds = adds caller alone arrival.options arrival.moment body inserts.outcomes old new (rows_read inserts.outcomes) refl
+      inserts.has_outcome inserts.has;
+}

@@ -1,0 +1,10 @@
+pub mod GroupLemmas
+pub mod HeldLemmas
+pub mod InsertLemmas
+pub mod LineLemmas
+pub mod LoadLemmas
+pub mod PipeLemmas
+pub mod RefusalLemmas
+pub mod RefusedLemmas
+pub mod ReportLemmas
+pub mod WeightLemmas

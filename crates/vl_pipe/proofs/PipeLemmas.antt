@@ -1,0 +1,203 @@
+-- From the input to the answer.
+use Rattle.std.proofs.Common.{◌<◌, ◌≡◌, inl, inr, ℕ, pos, ◌≤◌, List, [], ◌++◌, take, Option, refl, sym, subst, arith}
+use Rattle.vl_io.specs.Bytes.{Appends}
+use Rattle.vl_io.specs.Change.{Change, Gave, IsCut, IsTold, Took}
+use Rattle.vl_io.specs.Lines.{is_feed}
+use Rattle.std.specs.Prelude.{count_by}
+use Rattle.vl_io.proofs.Laws.{Appends-trans, Rose-earlier}
+use Rattle.log_model.specs.History.{rows_of}
+use Rattle.lq_ast.specs.Question.{Question}
+use Rattle.lq_ast.specs.Evaluation.{evaluate}
+use Rattle.query_run.specs.Asked.{IsReadableQuery}
+use Rattle.log_desk.specs.Seen.{Seen}
+use Rattle.vl_pipe.specs.Groups.{Arrival, refusals_of}
+use Rattle.vl_pipe.specs.Program as model
+use Rattle.vl_pipe.specs.Program.{AreFew, IsAnswer, IsTakenIn, overflow_text, overflowing, said_of_query, stop_text}
+use Rattle.vl_pipe.specs.Load.{IsLoaded, StopsLoad, StopsUntold}
+use Rattle.vl_pipe.specs.Interrupt.{limit_of, overflow_of}
+use Rattle.vl_pipe.specs.Pipe.{EndsPipe, ForText, HasLines, HasNoLines, OverflowsUntold, ReportsInterrupt, StopsPipe}
+use Rattle.vl_pipe.specs.Ended.{IsAnswered, IsStopped}
+use Rattle.vl_pipe.specs.declared.status.Status.{Status}
+use Rattle.vl_pipe.specs.declared.status.Status.TheVariants as statuses
+use Rattle.vl_pipe.specs.declared.interrupt.Interrupt.{Interrupt}
+use Rattle.vl_pipe.specs.declared.interrupt.Interrupt.TheVariants.{Unreadable, Unwritable, Beyond, NoAnswer, NoMemory}
+use Rattle.vl_pipe.proofs.GroupLemmas.{append_nil, AreGroups-weaken}
+use Rattle.vl_pipe.proofs.LoadLemmas.{change}
+
+-- memory ran out after the input was loaded
+pub stops_loaded : (arrival : Arrival) (source errors : Change) (seen : Seen) → IsLoaded arrival source errors seen
+    → StopsUntold arrival source errors model.no_memory
+stops_loaded arrival source errors seen l = record {
+  groups = l.groups;
+  behind = record {
+    begins = l.begins;
+    fits = l.fits;
+    few = subst AreFew (sym l.all)
+        (record { group = []; ahead = []; parts = refl; lines = inl (let none : count_by is_feed [] < 1000 = omega arith in none); short = omega arith });
+    cause = tt;
+  };
+  named = l.named;
+}
+
+-- the run stopped while it loaded, and nothing was written
+pub stops_load : (query : Question) (arrival : Arrival) (source errors : Change) (written : Option (List ℕ)) (f0 f1 : ℕ)
+    (interrupt : Interrupt) → StopsLoad arrival source errors interrupt
+    → StopsPipe query arrival source (change written written f0 f1) errors interrupt
+stops_load query arrival source errors written f0 f1 Unwritable stops = inr (record { fault = stops; unwritten = refl })
+stops_load query arrival source errors written f0 f1 Unreadable stops = stops
+stops_load query arrival source errors written f0 f1 (Beyond limit) stops = stops
+stops_load query arrival source errors written f0 f1 (NoAnswer overflow) stops = absurd stops
+stops_load query arrival source errors written f0 f1 NoMemory stops = stops
+
+module _ (text : List ℕ) (arrival : Arrival) (source output errors : Change) (seen : Seen) where
+  -- what the input becomes
+  taken : (l : IsLoaded arrival source errors seen)
+      → IsTakenIn arrival l.begins.taken (refusals_of l.groups) seen.history
+  taken l = record {
+    within = l.begins.within;
+    groups = l.groups;
+    intake = l.begins.given;
+    grouped = AreGroups-weaken l.groups _ (Unit {0}) (λ _. tt) l.begins.grouped;
+    held = l.fits;
+    entered = l.holding.entered;
+    named = refl;
+  }
+
+  gave_all : (l : IsLoaded arrival source errors seen) → Gave source l.begins.taken
+  gave_all l =
+      subst (Gave source) (append_nil l.begins.taken)
+      (subst (λ rest. Gave source (l.begins.taken ++ rest)) l.all l.begins.gave)
+
+  module _ (l : IsLoaded arrival source errors seen) where
+    module _ (lines : List ℕ) (has : HasLines text arrival.moment seen.history lines) where
+      answer : IsAnswer has.1.query arrival l.begins.taken lines (refusals_of l.groups)
+      answer = record {
+        history = seen.history;
+        taken = taken l;
+        found = has.0;
+        evaluated = has.1.evaluated;
+        answered = has.2;
+      }
+
+      pub answered : Took output lines → ForText text (λ query. IsAnswered query arrival source output errors)
+      answered written = (
+        has.1.query,
+        has.1.spelled,
+        record {
+          input = l.begins.taken;
+          answer = lines;
+          refusals = refusals_of l.groups;
+          gave = gave_all l;
+          spent = l.spent;
+          answered = answer;
+          written = written;
+          named = l.named;
+        },
+      )
+
+      pub answer_cut : IsCut output [] lines
+          → ForText text (λ query. StopsPipe query arrival source output errors Unwritable)
+      answer_cut cut = (
+        has.1.query,
+        has.1.spelled,
+        inl (record {
+          input = l.begins.taken;
+          answer = lines;
+          refusals = refusals_of l.groups;
+          gave = gave_all l;
+          spent = l.spent;
+          answered = answer;
+          written = cut;
+          named = l.named;
+        }),
+      )
+
+    untold : (query : Question) (cause : model.Overflow) → evaluate query (pos arrival.moment) (rows_of seen.history) ≡ overflowing cause
+        → OverflowsUntold query arrival source errors cause
+    untold query cause is = record {
+      input = l.begins.taken;
+      refusals = refusals_of l.groups;
+      gave = gave_all l;
+      spent = l.spent;
+      overflows = record { history = seen.history; taken = taken l; evaluated = is };
+      named = l.named;
+    }
+
+    -- why there is no answer
+    pub unanswered : IsReadableQuery text → (interrupt : Interrupt) → HasNoLines text arrival.moment seen.history interrupt
+        → ForText text (λ query. StopsPipe query arrival source output errors interrupt)
+    unanswered readable Unreadable h = absurd h
+    unanswered readable Unwritable h = absurd h
+    unanswered readable (Beyond limit) h = absurd h
+    unanswered readable (NoAnswer overflow) h = (
+      h.query,
+      h.spelled,
+      (untold h.query (overflow_of overflow) h.evaluated, stops_loaded arrival source errors seen l),
+    )
+    unanswered readable NoMemory h = (readable.0, readable.1, stops_loaded arrival source errors seen l)
+
+module _ (arrival : Arrival) (source : Change) (err0 err1 err2 : Option (List ℕ)) (f0 f1 f2 : ℕ) where
+  -- what is said after the names
+  told_after : (named text : List ℕ) → f0 ≤ f1 → Appends err0 err1 named → IsTold (change err1 err2 f1 f2) [] text
+      → IsTold (change err0 err2 f0 f2) named text
+  told_after named text stays written (inl whole) = inl (Appends-trans err0 err1 err2 named text written whole)
+  told_after named text stays written (inr cut) = inr (record {
+    len = cut.len;
+    proper = cut.proper;
+    took = Appends-trans err0 err1 err2 named (take cut.len text) written cut.took;
+    failed = Rose-earlier f0 f1 f2 stays cut.failed;
+  })
+
+  stopped : (stop : model.Stop) → f0 ≤ f1 → StopsUntold arrival source (change err0 err1 f0 f1) stop → IsTold
+      (change err1 err2 f1 f2) [] (stop_text stop)
+      → IsStopped arrival source (change err0 err2 f0 f2) stop
+  stopped stop stays h told =
+      record {
+        groups = h.groups;
+        behind = h.behind;
+        said = told_after (refusals_of h.groups)
+            (stop_text stop) stays h.named told;
+      }
+
+  -- a limit was met, but there was no memory to say so
+  without_memory : (stop : model.Stop) → StopsUntold arrival source (change err0 err1 f0 f1) stop → StopsUntold arrival source
+      (change err0 err1 f0 f1) model.no_memory
+  without_memory stop h = record {
+    groups = h.groups;
+    behind = record { begins = h.behind.begins; fits = h.behind.fits; few = h.behind.few; cause = tt };
+    named = h.named;
+  }
+
+  -- what an interrupt is, once it is said
+  pub reported : (query : Question) (output : Change) (interrupt : Interrupt) (status : Status) → f0 ≤ f1
+      → StopsPipe query arrival source output (change err0 err1 f0 f1) interrupt → ReportsInterrupt
+      (change err1 err2 f1 f2) interrupt status
+      → EndsPipe query arrival source output (change err0 err2 f0 f2) status
+  reported query output Unwritable status stays h r =
+      subst (EndsPipe query arrival source output (change err0 err2 f0 f2)) (sym r.0)
+      (subst (λ e. EndsPipe query arrival source output (change err0 e f0 f2) statuses.WriteFault) (sym r.1)
+      (subst (λ f. EndsPipe query arrival source output (change err0 err1 f0 f) statuses.WriteFault) (sym r.2) h))
+  reported query output Unreadable status stays h r =
+      subst (EndsPipe query arrival source output (change err0 err2 f0 f2)) (sym r.0) (stopped model.unreadable stays h r.1)
+  reported query output (Beyond limit) status stays h (inl r) =
+      subst (EndsPipe query arrival source output (change err0 err2 f0 f2)) (sym r.0)
+      (limit_of limit, stopped (model.beyond (limit_of limit)) stays h r.1)
+  reported query output (Beyond limit) status stays h (inr r) =
+      subst (EndsPipe query arrival source output (change err0 err2 f0 f2)) (sym r.0)
+      (stopped model.no_memory stays (without_memory (model.beyond (limit_of limit)) h) r.1)
+  reported query output (NoAnswer overflow) status stays h (inl r) =
+      subst (EndsPipe query arrival source output (change err0 err2 f0 f2)) (sym r.0)
+      (record {
+        input = h.0.input;
+        refusals = h.0.refusals;
+        cause = overflow_of overflow;
+        gave = h.0.gave;
+        spent = h.0.spent;
+        overflows = h.0.overflows;
+        said = told_after h.0.refusals (said_of_query (overflow_text (overflow_of overflow))) stays h.0.named r.1;
+      })
+  reported query output (NoAnswer overflow) status stays h (inr r) =
+      subst (EndsPipe query arrival source output (change err0 err2 f0 f2)) (sym r.0)
+      (stopped model.no_memory stays h.1 r.1)
+  reported query output NoMemory status stays h r =
+      subst (EndsPipe query arrival source output (change err0 err2 f0 f2)) (sym r.0) (stopped model.no_memory stays h r.1)

@@ -1,0 +1,25 @@
+-- Why a run ends before all is done, as the program keeps it.
+use Rattle.vl_pipe.specs.Program as model
+use Rattle.vl_io.specs.declared.transfer.ReadFault.{ReadFault}
+use Rattle.vl_io.specs.declared.transfer.ReadFault.TheVariants as faults
+use Rattle.vl_pipe.specs.declared.interrupt.Overflow.{Overflow}
+use Rattle.vl_pipe.specs.declared.interrupt.Overflow.TheVariants.{ManyRows, Total}
+use Rattle.vl_pipe.specs.declared.interrupt.Limit.{Limit}
+use Rattle.vl_pipe.specs.declared.interrupt.Limit.TheVariants.{Long, Large, Full}
+use Rattle.vl_pipe.specs.declared.interrupt.Interrupt.{Interrupt}
+use Rattle.vl_pipe.specs.declared.interrupt.Interrupt.TheVariants.{Unreadable, Beyond, NoMemory}
+
+abbrev pub limit_of : Limit → model.Limit
+limit_of Long = model.long
+limit_of (Large weight) = model.large weight
+limit_of Full = model.full
+
+abbrev pub overflow_of : Overflow → model.Overflow
+overflow_of ManyRows = model.many_rows
+overflow_of (Total name) = model.total name
+
+-- what a fault of reading means for the run
+abbrev pub interrupt_at : ReadFault → Interrupt
+interrupt_at faults.Failed = Unreadable
+interrupt_at faults.Long = Beyond Long
+interrupt_at faults.Memory = NoMemory

@@ -1,0 +1,85 @@
+-- What becomes of an input on its way to the desk.
+use Rattle.std.specs.Prelude.{◌≡◌, ℕ, ◌+◌, ◌<◌, ◌≤◌, List, [], ◌++◌, length}
+use Rattle.vl_io.specs.Change.{Change, IsCut, IsSpent, IsUntold, Took}
+use Rattle.log_model.specs.Core.{held_limit}
+use Rattle.log_model.specs.History.{batches_in}
+use Rattle.log_model.specs.Row.{Batch, Row, batch_limit, batch_weight}
+use Rattle.ingest_row.specs.Intake.{Outcome, rows_read}
+use Rattle.log_desk.specs.Seen.{Seen}
+use Rattle.vl_pipe.specs.Groups.{Arrival, BeginsWith, CanBeHeld, HaveOutcomes, batch_of, batches_of, refusals_from, refusals_of}
+use Rattle.vl_pipe.specs.Program as model
+use Rattle.vl_pipe.specs.Program.{StopsBehind}
+use Rattle.vl_pipe.specs.Ended.{IsNamingFault}
+use Rattle.vl_pipe.specs.Interrupt.{limit_of}
+use Rattle.vl_pipe.specs.declared.interrupt.Limit.{Limit}
+use Rattle.vl_pipe.specs.declared.interrupt.Limit.TheVariants.{Long, Large, Full}
+use Rattle.vl_pipe.specs.declared.interrupt.Interrupt.{Interrupt}
+use Rattle.vl_pipe.specs.declared.interrupt.Interrupt.TheVariants.{Unreadable, Unwritable, Beyond, NoAnswer, NoMemory}
+
+-- What has been seen is a history of these batches, no more than may wait to be settled, and none is settled.
+pub record IsHeld (seen : Seen) (batches : List Batch) : Type 0 where
+  pub entered : batches_in seen.history ≡ batches
+  pub few : length batches ≤ held_limit
+  pub settled : seen.settled ≡ 0
+
+-- why these rows are not taken in, by what has been seen then
+abbrev pub IsTooMuch : Seen → List Row → Limit → Type 0
+IsTooMuch seen rows Long = ⊥
+IsTooMuch seen rows (Large weight) = (weight ≡ batch_weight rows) × (batch_limit < weight)
+IsTooMuch seen rows Full =
+    (length seen.history ≡ seen.settled + held_limit) × (0 < length rows) × (batch_weight rows ≤ batch_limit)
+
+-- why a group is not taken in
+abbrev pub RefusesGroup : Arrival → List ℕ → Seen → Interrupt → Type 0
+RefusesGroup arrival body seen Unreadable = ⊥
+RefusesGroup arrival body seen Unwritable = ⊥
+RefusesGroup arrival body seen (Beyond limit) =
+    (group : List Outcome) × HaveOutcomes arrival body group × IsTooMuch seen (rows_read group) limit
+RefusesGroup arrival body seen (NoAnswer overflow) = ⊥
+RefusesGroup arrival body seen NoMemory = Unit {0}
+
+-- the rows became one batch more, if there were any
+abbrev pub AddsRows : Seen → Seen → List Row → Type 0
+AddsRows old new rows =
+    (batch_weight rows ≤ batch_limit)
+    × ((batches : List Batch) → IsHeld old batches → IsHeld new (batches ++ batch_of rows))
+
+-- a group whose lines have these outcomes was taken in
+pub record TakesGroup (arrival : Arrival) (body : List ℕ) (group : List Outcome)
+    (old new : Seen) : Type 0 where
+  pub intake : HaveOutcomes arrival body group
+  pub adds : AddsRows old new (rows_read group)
+
+-- why the run stops at a group, where so many lines came before
+abbrev pub StopsGroup : Arrival → List ℕ → ℕ → Seen → Seen → Change → Interrupt → Type 0
+StopsGroup arrival body before old new errors Unreadable = ⊥
+StopsGroup arrival body before old new errors Unwritable =
+    (group : List Outcome) × TakesGroup arrival body group old new × IsCut errors [] (refusals_from (before + 1) group)
+StopsGroup arrival body before old new errors (Beyond limit) =
+    IsUntold errors × RefusesGroup arrival body old (Beyond limit)
+StopsGroup arrival body before old new errors (NoAnswer overflow) = ⊥
+StopsGroup arrival body before old new errors NoMemory = IsUntold errors
+
+-- The source gave all its input, the batches of its groups are held, and its refused lines are named.
+pub record IsLoaded (arrival : Arrival) (source errors : Change) (seen : Seen) : Type 0 where
+  pub groups : List (List Outcome)
+  pub begins : BeginsWith arrival source groups
+  pub all : begins.rest ≡ []
+  pub spent : IsSpent source
+  pub fits : CanBeHeld groups
+  pub holding : IsHeld seen (batches_of groups)
+  pub named : Took errors (refusals_of groups)
+
+-- Groups were taken in and their refused lines named. Then the run stopped, and did not say yet why.
+pub record StopsUntold (arrival : Arrival) (source errors : Change) (stop : model.Stop) : Type 0 where
+  pub groups : List (List Outcome)
+  pub behind : StopsBehind arrival source groups stop
+  pub named : Took errors (refusals_of groups)
+
+-- why the run stops while it loads
+abbrev pub StopsLoad : Arrival → Change → Change → Interrupt → Type 0
+StopsLoad arrival source errors Unreadable = StopsUntold arrival source errors model.unreadable
+StopsLoad arrival source errors Unwritable = IsNamingFault arrival source errors
+StopsLoad arrival source errors (Beyond limit) = StopsUntold arrival source errors (model.beyond (limit_of limit))
+StopsLoad arrival source errors (NoAnswer overflow) = ⊥
+StopsLoad arrival source errors NoMemory = StopsUntold arrival source errors model.no_memory

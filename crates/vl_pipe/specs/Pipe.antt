@@ -1,0 +1,132 @@
+-- How a query ends.
+use Rattle.std.specs.Prelude.{◌≡◌, ◌⊎◌, ℕ, List, [], Option}
+use Rattle.vl_io.specs.Change.{Change, Gave, IsSpent, IsTold, IsUntold, Took}
+use Rattle.vl_io.specs.Moments.{FirstTold}
+use Rattle.log_model.specs.History.{History}
+use Rattle.log_model.specs.Print.{lines_text}
+use Rattle.lq_ast.specs.Question.{Question}
+use Rattle.lq_ast.specs.Records.{Record}
+use Rattle.lq_grammar.specs.Query.{IsQueryText}
+use Rattle.query_run.specs.Asked.{IsNoReadableQuery, IsReadableQuery, Refuses}
+use Rattle.query_run.specs.declared.query.QueryRefusal.{QueryRefusal}
+use Rattle.query_run.specs.declared.query.QueryRefusal.TheVariants.{Memory}
+use Rattle.vl_session.specs.Query.{Evaluates, HasQueryOutcome, found}
+use Rattle.vl_pipe.specs.Groups.{Arrival, arrival_at}
+use Rattle.vl_pipe.specs.declared.pipe.Pipe.{Pipe}
+use Rattle.vl_pipe.specs.Program as model
+use Rattle.vl_pipe.specs.Program.{Overflows, overflow_text, overflowing, said_of_query, stop_text}
+use Rattle.vl_pipe.specs.Load.{StopsLoad}
+use Rattle.vl_pipe.specs.Refused.{ReportsRefused}
+use Rattle.vl_pipe.specs.Interrupt.{limit_of, overflow_of}
+use Rattle.vl_pipe.specs.Ended.{IsAnswerCut, IsAnswered, IsNamingCut, IsStopped, IsUnanswered}
+use Rattle.vl_pipe.specs.declared.status.Status.{Status}
+use Rattle.vl_pipe.specs.declared.status.Status.TheVariants as statuses
+use Rattle.vl_pipe.specs.declared.interrupt.Interrupt.{Interrupt}
+use Rattle.vl_pipe.specs.declared.interrupt.Interrupt.TheVariants.{Unreadable, Unwritable, Beyond, NoAnswer, NoMemory}
+
+-- how the lines of the input come in where this is asked at that moment
+abbrev pub arrival_of : Pipe → ℕ → Arrival
+arrival_of asked now = arrival_at asked.stream_fields now
+
+-- the text spells a query for which this holds
+abbrev pub ForText : List ℕ → (Question → Type 0) → Type 0
+ForText text holds = (query : Question) × IsQueryText text query × holds query
+
+-- The query of this text has an answer over the history, and these are its lines.
+abbrev pub HasLines : List ℕ → ℕ → History → List ℕ → Type 0
+HasLines text now history lines =
+    (records : List Record) × HasQueryOutcome text now history (found records) × (lines ≡ lines_text records)
+
+-- It has none, for this reason. Want of memory is free.
+abbrev pub HasNoLines : List ℕ → ℕ → History → Interrupt → Type 0
+HasNoLines text now history Unreadable = ⊥
+HasNoLines text now history Unwritable = ⊥
+HasNoLines text now history (Beyond limit) = ⊥
+HasNoLines text now history (NoAnswer overflow) = Evaluates text now history (overflowing (overflow_of overflow))
+HasNoLines text now history NoMemory = Unit {0}
+
+-- The source gave an input to its end, and its refused lines are named. The evaluation over it overflows, and nothing
+-- is said of that yet.
+pub record OverflowsUntold (query : Question) (arrival : Arrival) (source errors : Change) (cause : model.Overflow) : Type 0 where
+  pub input : List ℕ
+  pub refusals : List ℕ
+  pub gave : Gave source input
+  pub spent : IsSpent source
+  pub overflows : Overflows query arrival input refusals cause
+  pub named : Took errors refusals
+
+-- Why loading and answering stop, and what was written. Where the evaluation overflows, memory may run out before that
+-- is said.
+abbrev pub StopsPipe : Question → Arrival → Change → Change → Change → Interrupt → Type 0
+StopsPipe query arrival source output errors Unwritable =
+    IsAnswerCut query arrival source output errors ⊎ IsNamingCut arrival source output errors
+StopsPipe query arrival source output errors Unreadable = StopsLoad arrival source errors Unreadable
+StopsPipe query arrival source output errors (Beyond limit) = StopsLoad arrival source errors (Beyond limit)
+StopsPipe query arrival source output errors (NoAnswer overflow) =
+    OverflowsUntold query arrival source errors (overflow_of overflow) × StopsLoad arrival source errors NoMemory
+StopsPipe query arrival source output errors NoMemory = StopsLoad arrival source errors NoMemory
+
+-- What is said of an interrupt, and the status that it gives. That a stream can't be written to is not said.
+abbrev pub ReportsInterrupt : Change → Interrupt → Status → Type 0
+ReportsInterrupt errors Unwritable status =
+    (status ≡ statuses.WriteFault) × IsUntold errors
+    × (errors.faults_after ≡ errors.faults_before)
+ReportsInterrupt errors Unreadable status =
+    (status ≡ statuses.ReadFault) × IsTold errors [] (stop_text model.unreadable)
+ReportsInterrupt errors (Beyond limit) status =
+    ((status ≡ statuses.Limit) × IsTold errors [] (stop_text (model.beyond (limit_of limit))))
+    ⊎ ((status ≡ statuses.NoMemory) × IsTold errors [] (stop_text model.no_memory))
+ReportsInterrupt errors (NoAnswer overflow) status =
+    ((status ≡ statuses.QueryRefused) × IsTold errors [] (said_of_query (overflow_text (overflow_of overflow))))
+    ⊎ ((status ≡ statuses.NoMemory) × IsTold errors [] (stop_text model.no_memory))
+ReportsInterrupt errors NoMemory status = (status ≡ statuses.NoMemory) × IsTold errors [] (stop_text model.no_memory)
+
+-- how a query ends, by its status
+abbrev pub EndsPipe : Question → Arrival → Change → Change → Change → Status → Type 0
+EndsPipe query arrival source output errors statuses.Done = IsAnswered query arrival source output errors
+EndsPipe query arrival source output errors statuses.QueryRefused = IsUnanswered query arrival source errors
+EndsPipe query arrival source output errors statuses.Usage = ⊥
+EndsPipe query arrival source output errors statuses.ReadFault = IsStopped arrival source errors model.unreadable
+EndsPipe query arrival source output errors statuses.WriteFault =
+    IsAnswerCut query arrival source output errors ⊎ IsNamingCut arrival source output errors
+EndsPipe query arrival source output errors statuses.DoorFault = ⊥
+EndsPipe query arrival source output errors statuses.Limit =
+    (limit : model.Limit) × IsStopped arrival source errors (model.beyond limit)
+EndsPipe query arrival source output errors statuses.NoMemory = IsStopped arrival source errors model.no_memory
+
+-- ---- the command
+
+-- what is asked, what it does to each object, and what the clock gave before and after
+pub record PipeRun : Type 0 where
+  pub asked : Pipe
+  pub source : Change
+  pub output : Change
+  pub errors : Change
+  pub moments_before : Option (List ℕ)
+  pub moments_after : Option (List ℕ)
+
+-- nothing was asked of the source
+abbrev pub IsUnread : Change → Type 0
+IsUnread source = IsUntold source × (source.faults_after ≡ source.faults_before)
+
+-- The query can be asked, the clock's first reading was `now`, and the run ends so.
+pub record EndsReadable (run : PipeRun) (status : Status) : Type 0 where
+  pub readable : IsReadableQuery run.asked.query
+  pub askable : ¬ IsNoReadableQuery run.asked.query
+  pub now : ℕ
+  pub first : FirstTold run.moments_before run.moments_after now
+  pub query : Question
+  pub spelled : IsQueryText run.asked.query query
+  pub ends : EndsPipe query (arrival_of run.asked now) run.source run.output run.errors status
+
+-- The query is refused before anything is read.
+pub record EndsRefused (run : PipeRun) (status : Status) : Type 0 where
+  pub refusal : QueryRefusal
+  pub refused : Refuses run.asked.query refusal
+  -- one that can be asked is refused for want of memory alone
+  pub free : IsReadableQuery run.asked.query → refusal ≡ Memory
+  pub unread : IsUnread run.source
+  pub said : ReportsRefused run.errors refusal status
+
+abbrev pub IsPiped : PipeRun → Status → Type 0
+IsPiped run status = EndsReadable run status ⊎ EndsRefused run status

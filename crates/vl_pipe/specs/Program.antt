@@ -1,0 +1,149 @@
+-- What a query over an input comes to: its answer, and the texts that are written where there is none.
+use Rattle.std.specs.Prelude.{◌≡◌, ℕ, ◌-◌, ◌⊎◌, ◌<◌, ◌≤◌, List, [], ◌∷◌, ◌++◌, length, take, bytes_eq, codes, pos}
+use Rattle.std.specs.Prelude.{decimal, Option, Some, None, if◌then◌else◌}
+use Rattle.vl_io.specs.Change.{Change, HasFailed}
+use Rattle.vl_io.specs.Lines.{AreFewer, AreLines, piece_len}
+use Rattle.log_model.specs.Core.{held_limit}
+use Rattle.log_model.specs.History.{History, batches_in, rows_of}
+use Rattle.log_model.specs.Field.{Field}
+use Rattle.log_model.specs.Print.{lines_text}
+use Rattle.log_model.specs.Row.{batch_limit, batch_weight}
+use Rattle.lq_ast.specs.Evaluation as evaluation
+use Rattle.lq_ast.specs.Evaluation.{evaluate, records}
+use Rattle.lq_ast.specs.Question.{Question}
+use Rattle.lq_grammar.specs.Faults.{fault_text}
+use Rattle.lq_grammar.specs.declared.fault.QueryFault.{QueryFault}
+use Rattle.ingest_row.specs.Intake.{Outcome, rows_read}
+use Rattle.query_run.specs.Asked.{HasUnreadablePattern, IsNoReadableQuery, IsUnspelled}
+use Rattle.vl_pipe.specs.Groups.{Arrival, AreGroups, BeginsWith, CanBeHeld, HaveOutcomes, batches_of, input_limit, outcomes_in}
+use Rattle.vl_pipe.specs.Groups.{refusals_of}
+
+-- The lines of the input become the batches of this history, whoever made its entries, and `refusals` names the lines
+-- that are no rows.
+pub record IsTakenIn (arrival : Arrival) (input refusals : List ℕ) (history : History) : Type 0 where
+  pub within : length input ≤ input_limit
+  pub groups : List (List Outcome)
+  pub intake : HaveOutcomes arrival input (outcomes_in groups)
+  pub grouped : AreGroups groups (Unit {0})
+  pub held : CanBeHeld groups
+  pub entered : batches_in history ≡ batches_of groups
+  pub named : refusals ≡ refusals_of groups
+
+-- `answer` is what the query gives over the history that the input becomes.
+pub record IsAnswer (query : Question) (arrival : Arrival) (input answer refusals : List ℕ) : Type 0 where
+  pub history : History
+  pub taken : IsTakenIn arrival input refusals history
+  pub found : List (List Field)
+  pub evaluated : evaluate query (pos arrival.moment) (rows_of history) ≡ records found
+  pub answered : answer ≡ lines_text found
+
+-- why the evaluation of a query has no records
+pub data Overflow : Type 0 where
+  -- 2^32 rows hold, or more
+  many_rows : Overflow
+  -- the total of the function of `stats` with this name is no 64-bit integer
+  total : List ℕ → Overflow
+
+abbrev pub overflowing : Overflow → evaluation.Outcome
+overflowing many_rows = evaluation.many_rows
+overflowing (total name) = evaluation.overflow name
+
+-- The evaluation over that history overflows for this cause.
+pub record Overflows (query : Question) (arrival : Arrival) (input refusals : List ℕ) (cause : Overflow) : Type 0 where
+  pub history : History
+  pub taken : IsTakenIn arrival input refusals history
+  pub evaluated : evaluate query (pos arrival.moment) (rows_of history) ≡ overflowing cause
+
+-- a limit that an input may meet
+pub data Limit : Type 0 where
+  -- it has too many bytes
+  long : Limit
+  -- the rows of a group weigh so much, which is too much for a batch
+  large : ℕ → Limit
+  -- a group has rows, and as many batches as can be held came before it
+  full : Limit
+
+-- why a run ends before its answer
+pub data Stop : Type 0 where
+  unreadable : Stop
+  beyond : Limit → Stop
+  no_memory : Stop
+
+-- fewer lines than a group has end in these bytes
+abbrev pub HaveNoGroup : List ℕ → Type 0
+HaveNoGroup bytes = AreFewer 1000 bytes
+
+-- These bytes are no more than a group and what one read gives.
+pub record AreFew (bytes : List ℕ) : Type 0 where
+  pub group : List ℕ
+  pub ahead : List ℕ
+  pub parts : bytes ≡ group ++ ahead
+  pub lines : HaveNoGroup group ⊎ AreLines 1000 group
+  pub short : length ahead ≤ piece_len
+
+-- The limit is met behind these groups, which are the first ones of the input. Of an input that is too long they are
+-- all that end within its limit.
+abbrev pub IsBeyond : (arrival : Arrival) (source : Change) (groups : List (List Outcome)) → BeginsWith arrival source groups
+    → Limit → Type 0
+IsBeyond arrival source groups begins long =
+    (input_limit < length (begins.taken ++ begins.rest))
+    × HaveNoGroup (take (input_limit - length begins.taken) begins.rest)
+IsBeyond arrival source groups begins (large weight) =
+    (group : List Outcome) × BeginsWith arrival source (groups ++ group ∷ [])
+    × (weight ≡ batch_weight (rows_read group)) × (batch_limit < weight)
+IsBeyond arrival source groups begins full =
+    (group : List Outcome) × BeginsWith arrival source (groups ++ group ∷ [])
+    × (length (batches_of groups) ≡ held_limit) × (0 < length (rows_read group))
+    × (batch_weight (rows_read group) ≤ batch_limit)
+
+-- What stops a run behind these groups. Before a read that failed they are all groups that were read.
+abbrev pub IsCause : (arrival : Arrival) (source : Change) (groups : List (List Outcome)) → BeginsWith arrival source groups → Stop
+    → Type 0
+IsCause arrival source groups begins unreadable = HasFailed source × HaveNoGroup begins.rest
+IsCause arrival source groups begins (beyond limit) = IsBeyond arrival source groups begins limit
+IsCause arrival source groups begins no_memory = Unit {0}
+
+-- The first groups of the input were taken in, and their batches can be held. Then the run stopped. No more was read
+-- behind them than one group and what one read gives.
+pub record StopsBehind (arrival : Arrival) (source : Change) (groups : List (List Outcome)) (stop : Stop) : Type 0 where
+  pub begins : BeginsWith arrival source groups
+  pub fits : CanBeHeld groups
+  pub few : AreFew begins.rest
+  pub cause : IsCause arrival source groups begins stop
+
+abbrev pub limit_text : Limit → List ℕ
+limit_text long = codes "input long"
+limit_text (large weight) = codes "large " ++ decimal weight
+limit_text full = codes "full 4096"
+
+abbrev pub stop_text : Stop → List ℕ
+stop_text unreadable = codes "read fault" ++ 10 ∷ []
+stop_text (beyond limit) = limit_text limit ++ 10 ∷ []
+stop_text no_memory = codes "no memory" ++ 10 ∷ []
+
+-- ---- queries without an answer
+
+-- why a query is refused before anything is read
+pub data Refusal : Type 0 where
+  -- its text spells no query
+  unspelled : QueryFault → Refusal
+  -- the regular expression with this number, counted from 0 in the order of the text, cannot be read
+  unreadable_pattern : ℕ → Refusal
+
+abbrev pub refusal_text : Refusal → List ℕ
+refusal_text (unspelled fault) = fault_text fault
+refusal_text (unreadable_pattern nth) = codes "RegexRefused number " ++ decimal nth
+
+abbrev pub overflow_text : Overflow → List ℕ
+overflow_text many_rows = codes "ManyRows"
+overflow_text (total name) = codes "Overflow in " ++ name
+
+-- what is said of a query that is not answered
+abbrev pub said_of_query : List ℕ → List ℕ
+said_of_query cause = codes "query: " ++ (cause ++ 10 ∷ [])
+
+-- Why the query with this text is refused before anything is read: it has this fault, or this pattern of it cannot be
+-- read.
+abbrev pub IsRefusedText : List ℕ → Refusal → Type 0
+IsRefusedText text (unspelled fault) = IsUnspelled text fault
+IsRefusedText text (unreadable_pattern nth) = HasUnreadablePattern text nth

@@ -1,0 +1,15 @@
+-- The statuses as numbers.
+use Rattle.std.specs.Prelude.{ℕ}
+use Rattle.vl_pipe.specs.declared.status.Status.{Status}
+use Rattle.vl_pipe.specs.declared.status.Status.TheVariants.{Done, QueryRefused, Usage, ReadFault, WriteFault, Limit}
+use Rattle.vl_pipe.specs.declared.status.Status.TheVariants.{DoorFault, NoMemory}
+
+abbrev pub status_number : Status → ℕ
+status_number Done = 0
+status_number QueryRefused = 1
+status_number Usage = 2
+status_number ReadFault = 3
+status_number WriteFault = 4
+status_number DoorFault = 7
+status_number Limit = 8
+status_number NoMemory = 9

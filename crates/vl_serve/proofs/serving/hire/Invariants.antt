@@ -1,0 +1,19 @@
+use Rattle.std.proofs.Common.{◌≡◌, ◌+◌, ◌≤◌, ◌++◌, map, length, vec_capacity, vec_len}
+use Rattle.std.specs.List.{AllByRecursion}
+use Rattle.std.specs.Vec.Iter.{into_iter_items}
+use Rattle.turn_lock.specs.Passes.{IsPassOf}
+use Rattle.log_desk.specs.Seen.{seen_of}
+use Rattle.vl_serve.specs.Workers.{IsOfDesk}
+use Rattle.vl_serve.proofs.serving.hire.Given as goal
+
+abbrev pub invariant-loop-door : goal.invariant-loop-door
+invariant-loop-door g l =
+    (goal.iterator-loop-door g).can_next l.door-iterator
+    × (goal.iterator-loop-door g).is_finite l.door-iterator
+    × (map (λ worker. worker.door) l.workers.items ++ into_iter_items l.door-iterator
+    ≡ into_iter_items l.initial.door-iterator)
+    × (vec_len l.workers + length (into_iter_items l.door-iterator) ≤ vec_capacity l.workers)
+    × AllByRecursion (IsOfDesk l.desk) l.workers.items
+    × IsPassOf l.desk l.pass
+    × (l.pass.may_settle ≡ l.initial.pass.may_settle)
+    × (seen_of l.pass ≡ seen_of l.initial.pass)

@@ -1,0 +1,94 @@
+//! The way of a trial.
+ghost use Rattle.std.specs.Prelude.{◌≡◌, ◌≤◌, ◌≤ℤ◌, ◌++◌, [], IfOk, OnOk, pos, string_bytes, unsigned_abs};
+ghost use Rattle.log_model.specs.History.{batches_in, rows_of};
+ghost use Rattle.trial_queries.specs.Trials.{count_text, errors_text, slow_text};
+ghost use Rattle.trial_rows.specs.Trial.{trial_batches, trial_rows};
+ghost use Rattle.vl_session.specs.Answer.{HasRecords};
+ghost use Rattle.vl_trial.specs.Answer.{AreLines, IsTrialAnswer};
+
+use log_desk::InsertFault;
+use lone_desk::LoneDesk;
+use std::alloc::{AllocError, Global};
+use std::sync::Wait;
+use trial_laws::trial_law;
+use trial_queries::trial_queries_law;
+use trial_rows::TrialBatches;
+use vl_row::Text;
+use vl_session::AnswerFault;
+
+/// How many rows of all there are.
+const COUNTED: &str = "* | stats count() as n";
+
+/// How many of them have errors, by their app, and how long these took.
+const ERRORS: &str = "error | stats by (app) count() as n, sum(ms) as s";
+
+/// How many of the first day took long in the database.
+const SLOW: &str = "_time:2024-05-01Z {app=\"db\"} ms:>500 | stats count() as n";
+
+/// Takes the rows of a trial in, batch by batch, and answers its three queries over them, one after another, at the
+/// moment `now`, in nanoseconds since the start of 1970.
+pub fn trial_lines<R: Wait>(
+    rt: &R,
+    alloc: Global,
+    seed: u64,
+    rows: u64,
+    now: i64,
+) -> Result<String, AllocError>
+    requires rows { rows ≤ 1_000_000 }
+    requires moment { pos 0 ≤ℤ now }
+    ensures { IfOk result (λ lines. IsTrialAnswer seed rows (unsigned_abs now) (string_bytes lines)) }
+{
+    trial_queries_law();
+    trial_law();
+    let mut desk = LoneDesk::fresh(rt, alloc)?;
+    insert_rows(&mut desk, seed, rows)?;
+    let counted = answer_lines(&mut desk, COUNTED, now)?;
+    let errors = answer_lines(&mut desk, ERRORS, now)?;
+    let slow = answer_lines(&mut desk, SLOW, now)?;
+    joined(alloc, counted.as_str(), errors.as_str(), slow.as_str())
+}
+
+/// The texts, one behind the other.
+fn joined(alloc: Global, counted: &str, errors: &str, slow: &str) -> Result<String, AllocError>
+    ensures { IfOk result (λ text. string_bytes text ≡ counted.now ++ (errors.now ++ slow.now)) }
+{
+    format!(in alloc; "{counted}{errors}{slow}")
+}
+
+/// Inserts the batches of the rows.
+fn insert_rows<R: Wait>(desk: &mut LoneDesk<'_, R>, seed: u64, rows: u64) -> Result<(), AllocError>
+    requires rows { rows ≤ 1_000_000 }
+    requires nothing { desk.old.history ≡ [] }
+    requires unsettled { desk.old.settled ≡ 0 }
+    ensures entered { OnOk result (batches_in desk.new.history ≡ trial_batches seed rows) }
+    ensures rows { OnOk result (rows_of desk.new.history ≡ trial_rows seed rows) }
+{
+    let mut batches = TrialBatches::new(seed, rows);
+    while let Some(batch) = batches.next_batch(desk.alloc())? {
+        match desk.insert(batch) {
+            Ok(_) => {}
+            Err(InsertFault::Full { .. }) => unreachable!(),
+            Err(InsertFault::Spent) => unreachable!(),
+            Err(InsertFault::Memory) => return Err(AllocError),
+        }
+    }
+    Ok(())
+}
+
+/// The lines of the answer to a query that has records.
+fn answer_lines<R: Wait>(
+    desk: &mut LoneDesk<'_, R>,
+    text: &str,
+    now: i64,
+) -> Result<Text, AllocError>
+    requires has { HasRecords text.now (unsigned_abs now) desk.old.history }
+    requires moment { pos 0 ≤ℤ now }
+    ensures lines { IfOk result (AreLines text.now (unsigned_abs now) desk.old.history) }
+    ensures same { desk.new.history ≡ desk.old.history }
+{
+    match desk.answer_query(text, now) {
+        Ok(answer) => Ok(answer.lines),
+        Err(AnswerFault::Memory) => Err(AllocError),
+        Err(_) => unreachable!(),
+    }
+}
