@@ -1,9 +1,10 @@
 //! Duvonka, a log database: the program. What it does is `vl_top::run`.
 #![tactic(auto)]
 
-ghost use Rattle.std.specs.Prelude.{◌≤◌, IfOk, vec_len};
+ghost use Rattle.std.specs.Prelude.{◌≡◌, ◌+◌, ◌≤◌, IfOk, vec_len};
+ghost use Rattle.duvonka.specs.Workers.{AreFewWorkers};
 
-use std::alloc::{AllocError, Global};
+use std::alloc::AllocError;
 use std::env;
 use std::io::ErrorKind;
 use std::process::ExitCode;
@@ -46,36 +47,47 @@ fn words_of(rt: &HostRuntime) -> Result<Vec<String>, Status> {
     }
 }
 
-/// The doors that the words ask for: as many at each address as there are workers, and none for another command.
+/// The doors that the words ask for, and none where they ask for none.
 fn doors_for(rt: HostRuntime, words: &[&str]) -> Result<Vec<TcpDoors<HostRuntime>>, AllocError>
     ensures { IfOk result (λ doors. vec_len doors ≤ 64) }
 {
-    let alloc = rt.alloc();
-    match read_words(alloc, words) {
-        Ok(
-            Command::Serve {
-                http,
-                syslog,
-                workers,
-            },
-        ) => {
-            let mut doors = TcpDoors::listen(rt, alloc, http.as_str(), VisitKind::Http, workers)?;
-            if let Some(syslog) = syslog {
-                let others = TcpDoors::listen(
-                    rt,
-                    alloc,
-                    syslog.as_str(),
-                    VisitKind::Syslog,
-                    workers,
-                )?;
-                for door in others {
-                    doors.push(door)?;
-                }
-            }
-            Ok(doors)
-        }
-        Ok(_) => Ok(Vec::new(alloc)),
-        Err(UsageFault::Usage) => Ok(Vec::new(alloc)),
+    match read_words(rt.alloc(), words) {
+        Ok(command) => doors_of(rt, &command),
+        Err(UsageFault::Usage) => Ok(Vec::new(rt.alloc())),
         Err(UsageFault::Memory) => Err(AllocError),
     }
+}
+
+/// The doors of a command: as many at each address as there are workers, and none for another command.
+fn doors_of(rt: HostRuntime, command: &Command) -> Result<Vec<TcpDoors<HostRuntime>>, AllocError>
+    requires { AreFewWorkers command.now }
+    ensures { IfOk result (λ doors. vec_len doors ≤ 64) }
+{
+    let Command::Serve {
+        http,
+        syslog,
+        workers,
+    } = command
+    else {
+        return Ok(Vec::new(rt.alloc()));
+    };
+    let doors = TcpDoors::listen(rt, rt.alloc(), http.as_str(), VisitKind::Http, *workers)?;
+    match syslog {
+        Some(address) => with_syslog(rt, doors, address.as_str(), *workers),
+        None => Ok(doors),
+    }
+}
+
+/// These doors, and so many at another address.
+fn with_syslog(
+    rt: HostRuntime,
+    mut doors: Vec<TcpDoors<HostRuntime>>,
+    address: &str,
+    count: u32,
+) -> Result<Vec<TcpDoors<HostRuntime>>, AllocError>
+    ensures { IfOk result (λ all. vec_len all ≡ vec_len doors + count) }
+{
+    let mut others = TcpDoors::listen(rt, rt.alloc(), address, VisitKind::Syslog, count)?;
+    doors.append(&mut others)?;
+    Ok(doors)
 }
