@@ -26,17 +26,15 @@ pub(crate) struct WaitingSource<R> {
     pub faults: u64,
 }
 
-impl<R: SystemTimer> WaitingSource<R> {
-    /// Whether the replies came.
-    fn wait(&mut self) -> bool {
-        for _ in 0..MOST_WAITS {
-            if self.replies.load(Ordering::SeqCst) >= self.awaited {
-                return true;
-            }
-            self.clock.pause();
+/// Waits until so many replies were written, and says whether they were.
+fn have_come<R: SystemTimer>(replies: &Replies, awaited: u64, clock: &mut SystemClock<R>) -> bool {
+    for _ in 0..MOST_WAITS {
+        if replies.load(Ordering::SeqCst) >= awaited {
+            return true;
         }
-        false
+        clock.pause();
     }
+    false
 }
 
 impl<R: SystemTimer> Source for WaitingSource<R> {
@@ -49,7 +47,7 @@ impl<R: SystemTimer> Source for WaitingSource<R> {
         ensures bytes { ReadConsumes None None result buf.new }
         ensures cause { HasCause self.old.faults self.new.faults result }
     {
-        if !self.wait() {
+        if !have_come(&self.replies, self.awaited, &mut self.clock) {
             self.faults = self.faults.saturating_add(1);
             return Err(Failed);
         }
