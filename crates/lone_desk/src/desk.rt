@@ -51,11 +51,6 @@ impl<'d, R: Wait> LoneDesk<'d, R> {
         })
     }
 
-    /// Where its memory comes from.
-    pub fn alloc(&self) -> Global {
-        self.alloc
-    }
-
     /// Inserts the batch, and answers its number.
     pub fn insert(&mut self, batch: Batch) -> Result<u64, InsertFault>
         ensures gains { OnOk result (GainsAlone self.old self.new batch) }

@@ -1,14 +1,14 @@
 -- What has been seen, as a history of batches.
 use Rattle.std.proofs.Common.{◌≡◌, ℕ, ◌+◌, ◌≤◌, List, [], ◌∷◌, ◌++◌, length, refl, sym, ap, subst, ◌∙◌, arith}
-use Rattle.std.proofs.lemmas.List.{length-map, map-append}
+use Rattle.std.proofs.lemmas.List.{length-map}
 use Rattle.log_model.specs.Core.{held_limit}
-use Rattle.log_model.specs.History.{History, batches_in, entry_rows}
+use Rattle.log_model.specs.History.{batches_in, entry_rows}
 use Rattle.log_model.specs.Row.{Batch, Row, batch_limit, batch_weight}
 use Rattle.ingest_row.specs.Ingest.{Options}
 use Rattle.ingest_row.specs.Intake.{Outcome, rows_read}
 use Rattle.vl_session.specs.Insert.{HasInsertOutcome, insert_effect}
 use Rattle.vl_session.specs.Insertion.{accepted}
-use Rattle.log_desk.specs.Seen.{Caller, Follows, Gains, Seen}
+use Rattle.log_desk.specs.Seen.{Caller, Gains, Seen}
 use Rattle.vl_session.specs.Seen.{Has}
 use Rattle.vl_session.specs.declared.insert.Insertion.{Insertion}
 use Rattle.lone_desk.proofs.Laws.{batches-gained}

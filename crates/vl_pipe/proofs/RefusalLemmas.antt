@@ -1,7 +1,6 @@
 -- The names of refused lines, as a body has them and as the program writes them.
-use Rattle.std.proofs.Common.{◌≡◌, ℕ, ℤ, suc, pos, negsuc, ◌+◌, ◌<◌, ◌≤◌, ◌≤ℤ◌, ◌^◌, List, [], ◌∷◌, ◌++◌, length, Option, refl, sym, ap, subst, ◌∙◌, arith, unsigned_abs}
+use Rattle.std.proofs.Common.{◌≡◌, ℕ, suc, ◌+◌, ◌<◌, ◌≤◌, ◌^◌, List, [], ◌∷◌, ◌++◌, length, Option, refl, sym, ap, subst, ◌∙◌, arith}
 use Rattle.std.specs.List.{AllByRecursion, AllZip}
-use Rattle.std.proofs.lemmas.Int.{ints}
 use Rattle.log_model.specs.Line.{lines_of}
 use Rattle.log_model.proofs.Lines.{lines_le}
 use Rattle.ingest_row.specs.Intake.{Outcome, passed_over, read, refused, refused_from}

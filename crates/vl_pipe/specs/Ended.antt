@@ -1,5 +1,5 @@
 -- How a query over an input ends, by what the objects of the outside gave and took.
-use Rattle.std.specs.Prelude.{◌≡◌, ℕ, ◌+◌, ◌≤◌, List, [], ◌∷◌, ◌++◌, length}
+use Rattle.std.specs.Prelude.{ℕ, ◌+◌, ◌≤◌, List, [], ◌∷◌, ◌++◌, length}
 use Rattle.vl_io.specs.Change.{Change, Gave, IsCut, IsSpent, IsTold, IsUntold, Took}
 use Rattle.vl_io.specs.Lines.{piece_len}
 use Rattle.lq_ast.specs.Question.{Question}

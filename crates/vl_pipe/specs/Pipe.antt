@@ -47,7 +47,8 @@ HasNoLines text now history NoMemory = Unit {0}
 
 -- The source gave an input to its end, and its refused lines are named. The evaluation over it overflows, and nothing
 -- is said of that yet.
-pub record OverflowsUntold (query : Question) (arrival : Arrival) (source errors : Change) (cause : model.Overflow) : Type 0 where
+pub record OverflowsUntold (query : Question) (arrival : Arrival) (source errors : Change) (cause : model.Overflow)
+    : Type 0 where
   pub input : List ℕ
   pub refusals : List ℕ
   pub gave : Gave source input

@@ -1,6 +1,6 @@
 -- What a query over an input comes to: its answer, and the texts that are written where there is none.
-use Rattle.std.specs.Prelude.{◌≡◌, ℕ, ◌-◌, ◌⊎◌, ◌<◌, ◌≤◌, List, [], ◌∷◌, ◌++◌, length, take, bytes_eq, codes, pos}
-use Rattle.std.specs.Prelude.{decimal, Option, Some, None, if◌then◌else◌}
+use Rattle.std.specs.Prelude.{◌≡◌, ℕ, ◌-◌, ◌⊎◌, ◌<◌, ◌≤◌, List, [], ◌∷◌, ◌++◌, length, take, codes, pos}
+use Rattle.std.specs.Prelude.{decimal}
 use Rattle.vl_io.specs.Change.{Change, HasFailed}
 use Rattle.vl_io.specs.Lines.{AreFewer, AreLines, piece_len}
 use Rattle.log_model.specs.Core.{held_limit}
@@ -14,7 +14,7 @@ use Rattle.lq_ast.specs.Question.{Question}
 use Rattle.lq_grammar.specs.Faults.{fault_text}
 use Rattle.lq_grammar.specs.declared.fault.QueryFault.{QueryFault}
 use Rattle.ingest_row.specs.Intake.{Outcome, rows_read}
-use Rattle.query_run.specs.Asked.{HasUnreadablePattern, IsNoReadableQuery, IsUnspelled}
+use Rattle.query_run.specs.Asked.{HasUnreadablePattern, IsUnspelled}
 use Rattle.vl_pipe.specs.Groups.{Arrival, AreGroups, BeginsWith, CanBeHeld, HaveOutcomes, batches_of, input_limit, outcomes_in}
 use Rattle.vl_pipe.specs.Groups.{refusals_of}
 
@@ -83,8 +83,8 @@ pub record AreFew (bytes : List ℕ) : Type 0 where
 
 -- The limit is met behind these groups, which are the first ones of the input. Of an input that is too long they are
 -- all that end within its limit.
-abbrev pub IsBeyond : (arrival : Arrival) (source : Change) (groups : List (List Outcome)) → BeginsWith arrival source groups
-    → Limit → Type 0
+abbrev pub IsBeyond : (arrival : Arrival) (source : Change) (groups : List (List Outcome))
+    → BeginsWith arrival source groups → Limit → Type 0
 IsBeyond arrival source groups begins long =
     (input_limit < length (begins.taken ++ begins.rest))
     × HaveNoGroup (take (input_limit - length begins.taken) begins.rest)
@@ -97,8 +97,8 @@ IsBeyond arrival source groups begins full =
     × (batch_weight (rows_read group) ≤ batch_limit)
 
 -- What stops a run behind these groups. Before a read that failed they are all groups that were read.
-abbrev pub IsCause : (arrival : Arrival) (source : Change) (groups : List (List Outcome)) → BeginsWith arrival source groups → Stop
-    → Type 0
+abbrev pub IsCause : (arrival : Arrival) (source : Change) (groups : List (List Outcome))
+    → BeginsWith arrival source groups → Stop → Type 0
 IsCause arrival source groups begins unreadable = HasFailed source × HaveNoGroup begins.rest
 IsCause arrival source groups begins (beyond limit) = IsBeyond arrival source groups begins limit
 IsCause arrival source groups begins no_memory = Unit {0}

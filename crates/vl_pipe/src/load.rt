@@ -11,6 +11,7 @@ use crate::arrival::Arrival;
 use crate::interrupt::{Interrupt, Limit};
 use crate::names::names_after;
 use lone_desk::LoneDesk;
+use std::alloc::Global;
 use std::sync::Wait;
 use vl_io::{Failed, GroupReader, Sink, Source, put_all};
 use vl_session::{Insertion, InsertionFault};
@@ -24,6 +25,7 @@ const INPUT_LIMIT: usize = 4_294_967_296;
 /// Takes the input in, group by group: the rows of a group become one batch, and then its refused lines are named.
 pub(crate) fn load<R: Wait, S: Source, E: Sink>(
     desk: &mut LoneDesk<'_, R>,
+    alloc: Global,
     arrival: &Arrival,
     src: &mut S,
     err: &mut E,
@@ -35,7 +37,7 @@ pub(crate) fn load<R: Wait, S: Source, E: Sink>(
         (change_of E.written E.faults err.old err.new)) }
     ensures faults { E.faults err.old ≤ E.faults err.new }
 {
-    let mut reader = GroupReader::of(desk.alloc(), GROUP_LINES, INPUT_LIMIT)?;
+    let mut reader = GroupReader::of(alloc, GROUP_LINES, INPUT_LIMIT)?;
     let mut lines: u64 = 0;
     while reader.advance(src)? {
         take_group(desk, arrival, reader.group(), lines, err)?;
@@ -63,7 +65,8 @@ fn take_group<R: Wait, E: Sink>(
     ensures faults { E.faults err.old ≤ E.faults err.new }
 {
     let insertion = insert_group(desk, arrival, body)?;
-    let refusals = names_after(desk.alloc(), lines_before, insertion.refused.as_slice())?;
+    let refused = insertion.refused.into_vec();
+    let refusals = names_after(*refused.allocator(), lines_before, refused.as_slice())?;
     match put_all(err, refusals.as_bytes()) {
         Ok(()) => Ok(()),
         Err(Failed) => Err(Interrupt::Unwritable),

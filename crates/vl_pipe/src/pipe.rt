@@ -101,7 +101,7 @@ fn answer_input<R: AllocGlobal + Wait, S: Source, O: Sink, E: Sink>(
 {
     let arrival = Arrival::at(rt.alloc(), &asked.stream_fields, now)?;
     let mut desk = LoneDesk::fresh(rt, rt.alloc())?;
-    load(&mut desk, &arrival, src, err)?;
+    load(&mut desk, rt.alloc(), &arrival, src, err)?;
     let lines = answer_lines(&mut desk, asked.query.as_str(), now)?;
     match put_all(out, lines.as_str().as_bytes()) {
         Ok(()) => Ok(()),

@@ -27,9 +27,9 @@ pub struct ServeEnd {
 /// Serves all visits of the doors, each as one session over the desk. It returns once each door has failed or has no
 /// visit left.
 ///
-/// Each door has a worker and a pass of its own, which is split from `pass`. Where no more passes can be split, or memory
-/// runs out before there are workers, the doors without one are served after the others, one after another, with `pass`
-/// itself. In the end `pass` has seen all that the passes of the workers had seen.
+/// Each door has a worker and a pass of its own, which is split from `pass`. Where no more passes can be split, or
+/// memory runs out before there are workers, the doors without one are served after the others, one after another, with
+/// `pass` itself. In the end `pass` has seen all that the passes of the workers had seen.
 pub fn serve<R: Threads + Wait + Sync, D: Doors + Send + Drop, C: Clock>(
     rt: &R,
     alloc: Global,
@@ -135,8 +135,8 @@ where
     );
 }
 
-/// Puts the doors of the workers back, for whom there is room, and their passes into this one. It answers how many doors
-/// ended at a fault. The doors of workers without a pass are served now.
+/// Puts the doors of the workers back, for whom there is room, and their passes into this one. It answers how many
+/// doors ended at a fault. The doors of workers without a pass are served now.
 fn gather<R: Wait, D: Doors + Drop>(
     rt: &R,
     alloc: Global,

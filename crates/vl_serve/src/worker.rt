@@ -33,8 +33,8 @@ impl<D: Doors + Drop> Worker<D> {
         }
     }
 
-    /// Puts the worker's pass into this one, and gives its door, and whether that ended at a fault. The door of a worker
-    /// without a pass is served now.
+    /// Puts the worker's pass into this one, and gives its door, and whether that ended at a fault. The door of a
+    /// worker without a pass is served now.
     pub(crate) fn leave<R: Wait>(
         self,
         rt: &R,

@@ -146,8 +146,8 @@ usage_text = codes "usage: pipe, load, query, trial or serve" ++ 10 ∷ []
 
 -- What each status says.
 abbrev pub Says : Run → Status → Type 0
--- A query has its answer, which is the naive evaluation over the batches that the input is. A trial has the lines of its
--- queries. The doors of a server have no visit left.
+-- A query has its answer, which is the naive evaluation over the batches that the input is. A trial has the lines of
+-- its queries. The doors of a server have no visit left.
 Says run Done = ForCommand run.words (IsDone run.does)
 -- The query is refused before anything is read, or its evaluation overflows.
 Says run QueryRefused =

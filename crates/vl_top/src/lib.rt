@@ -26,8 +26,8 @@ pub use vl_serve::{ServeEnd, serve};
 ///
 /// `pipe QUERY` reads the query, then the source to its end in groups of 1,000 lines, and writes the lines of the
 /// records that its pipes make of the rows that hold. `trial SEED ROWS` makes rows, and writes the answers to three
-/// queries over them. `serve` serves the doors, each as often as it has visits; whoever calls opens them at the addresses
-/// that the words say.
+/// queries over them. `serve` serves the doors, each as often as it has visits; whoever calls opens them at the
+/// addresses that the words say.
 pub fn run<
     R: AllocGlobal + Threads + Wait + Sync,
     S: Source,

@@ -41,7 +41,7 @@ pub fn trial_lines<R: Wait>(
     trial_queries_law();
     trial_law();
     let mut desk = LoneDesk::fresh(rt, alloc)?;
-    insert_rows(&mut desk, seed, rows)?;
+    insert_rows(&mut desk, alloc, seed, rows)?;
     let counted = answer_lines(&mut desk, COUNTED, now)?;
     let errors = answer_lines(&mut desk, ERRORS, now)?;
     let slow = answer_lines(&mut desk, SLOW, now)?;
@@ -56,7 +56,12 @@ fn joined(alloc: Global, counted: &str, errors: &str, slow: &str) -> Result<Stri
 }
 
 /// Inserts the batches of the rows.
-fn insert_rows<R: Wait>(desk: &mut LoneDesk<'_, R>, seed: u64, rows: u64) -> Result<(), AllocError>
+fn insert_rows<R: Wait>(
+    desk: &mut LoneDesk<'_, R>,
+    alloc: Global,
+    seed: u64,
+    rows: u64,
+) -> Result<(), AllocError>
     requires rows { rows ≤ 1_000_000 }
     requires nothing { desk.old.history ≡ [] }
     requires unsettled { desk.old.settled ≡ 0 }
@@ -64,7 +69,7 @@ fn insert_rows<R: Wait>(desk: &mut LoneDesk<'_, R>, seed: u64, rows: u64) -> Res
     ensures rows { OnOk result (rows_of desk.new.history ≡ trial_rows seed rows) }
 {
     let mut batches = TrialBatches::new(seed, rows);
-    while let Some(batch) = batches.next_batch(desk.alloc())? {
+    while let Some(batch) = batches.next_batch(alloc)? {
         match desk.insert(batch) {
             Ok(_) => {}
             Err(InsertFault::Full { .. }) => unreachable!(),

@@ -1,6 +1,6 @@
-use Rattle.std.proofs.Common.{◌≡◌, FitsSigned, subst, unsigned_abs, w64}
+use Rattle.std.proofs.Common.{FitsSigned, subst, w64}
 use Rattle.std.proofs.lemmas.Int.{fits_signed_from_abs, to_z-of_z}
-use Rattle.lone_desk.specs.Alone.{InsertsAlone, RefusesAlone}
+use Rattle.lone_desk.specs.Alone.{RefusesAlone}
 use Rattle.vl_pipe.proofs.HeldLemmas.{takes}
 use Rattle.vl_pipe.proofs.InsertLemmas.{full_group, large_group, never_last}
 use Rattle.vl_pipe.proofs.load.insert_group.Goals as goal

@@ -14,13 +14,13 @@ returns-in_err-insertion-clause-stopped g c =
 pub names_after-requires : goal.names_after-requires
 names_after-requires g c =
     let taken = c.in_ok-insertion.ensures.taken in
-    rw c.as_slice.ensures (numbers c.args.arrival.now c.args.body.now c.args.lines_before taken.0
+    rw (c.as_slice.ensures.value ∙ c.into_vec-refused.ensures) (numbers c.args.arrival.now c.args.body.now c.args.lines_before taken.0
     c.in_ok-insertion.insertion.refused taken.1.intake taken.2 c.requires.numbers)
 
 pub returns-in-Ok-clause-taken : goal.returns-in-Ok-clause-taken
 returns-in-Ok-clause-taken g c =
     let taken = c.in_ok-insertion.ensures.taken in
-    let named = (rw c.as_slice.ensures at c.in_ok-refusals.ensures)
+    let named = (rw (c.as_slice.ensures.value ∙ c.into_vec-refused.ensures) at c.in_ok-refusals.ensures)
     ∙ names c.args.lines_before taken.0 c.in_ok-insertion.insertion.refused taken.2 in
     let text = c.as_bytes.ensures.value ∙ named in (
       taken.0,
@@ -31,7 +31,7 @@ returns-in-Ok-clause-taken g c =
 pub returns-clause-stopped : goal.returns-clause-stopped
 returns-clause-stopped g c =
     let taken = c.in_ok-insertion.ensures.taken in
-    let named = (rw c.as_slice.ensures at c.in_ok-refusals.ensures)
+    let named = (rw (c.as_slice.ensures.value ∙ c.into_vec-refused.ensures) at c.in_ok-refusals.ensures)
     ∙ names c.args.lines_before taken.0 c.in_ok-insertion.insertion.refused taken.2 in
     let text = c.as_bytes.ensures.value ∙ named in
     let cut = rw text at c.in-Err.ensures.err in (
