@@ -1,6 +1,8 @@
-//! Tests of serving, on what it calls alone.
+//! Tests of serving, by the library and by the program, on what they call alone.
 #![tactic(auto)]
 
+#[cfg(test)]
+mod program_tests;
 #[cfg(test)]
 mod tests;
 #[cfg(test)]

@@ -14,7 +14,7 @@ use vl_io::{MemClock, MemDoors, SystemClock, Visit, VisitKind};
 use vl_serve::{ServeEnd, serve};
 
 /// Doors whose visitors can wait for one another.
-type TestDoors<R> = MemDoors<WaitingSource<R>, CountingSink, MemClock>;
+pub(crate) type TestDoors<R> = MemDoors<WaitingSource<R>, CountingSink, MemClock>;
 
 const INSERT: &[u8] =
     b"POST /insert/jsonline HTTP/1.1\r\nContent-Length: 13\r\n\r\n{\"_msg\":\"a\"}\n";
@@ -22,7 +22,7 @@ const INSERT: &[u8] =
 const MESSAGE: &[u8] = b"<13>1 - - - - - - a\n";
 
 /// A door for visitors of this kind, each of whom sends the bytes once so many replies were written.
-fn door_for<R: SystemTimer + Copy + Drop>(
+pub(crate) fn door_for<R: SystemTimer + Copy + Drop>(
     rt: R,
     alloc: Global,
     replies: &Replies,
@@ -57,6 +57,25 @@ fn door_for<R: SystemTimer + Copy + Drop>(
     MemDoors::of(alloc, visits, failing)
 }
 
+/// So many doors with two visitors each. The first visitors come one after another, each once the one before has its
+/// reply, and then the second ones. So no door can be served to its end before another one is begun.
+pub(crate) fn crossing_doors<R: SystemTimer + Copy + Drop>(
+    rt: R,
+    alloc: Global,
+    replies: &Replies,
+    count: u64,
+) -> Result<Vec<TestDoors<R>>, AllocError>
+    requires few { count ≤ 64 }
+    ensures few { IfOk result (λ doors. length doors.items ≤ 64) }
+{
+    let mut doors = Vec::new(alloc);
+    for number in 0..count {
+        let visitors = &[(VisitKind::Http, number), (VisitKind::Http, count + number)];
+        doors.push(door_for(rt, alloc, replies, visitors, &[])?)?;
+    }
+    Ok(doors)
+}
+
 /// What serving comes to: how it ends, how many replies are written, and the front that the pass has seen then.
 fn serve_all<R: Threads + Wait + Sync + SystemTimer + Copy + Drop + Send>(
     rt: &R,
@@ -77,16 +96,13 @@ fn serve_all<R: Threads + Wait + Sync + SystemTimer + Copy + Drop + Send>(
 #[test]
 fn doors_are_served_side_by_side(rt: HostRuntime) -> Result<(), Fail> {
     let alloc = rt.alloc();
-    let replies: Replies = Arc::new(alloc, AtomicU64::new(0))?;
-    // The first visitor sends its request once the second one has its reply.
-    let first = door_for(rt, alloc, &replies, &[(VisitKind::Http, 1)], &[])?;
-    let second = door_for(rt, alloc, &replies, &[(VisitKind::Http, 0)], &[])?;
-    let mut doors = Vec::new(alloc);
-    doors.push(first)?;
-    doors.push(second)?;
-    let (end, written, front) = serve_all(&rt, alloc, 3, &replies, &mut doors)?;
-    assert!(rt; end.door_faults == 0 && !end.memory);
-    assert!(rt; written == 2 && front == 2);
+    for count in [2, 4].as_slice() {
+        let replies: Replies = Arc::new(alloc, AtomicU64::new(0))?;
+        let mut doors = crossing_doors(rt, alloc, &replies, *count)?;
+        let (end, written, front) = serve_all(&rt, alloc, 5, &replies, &mut doors)?;
+        assert!(rt; end.door_faults == 0 && !end.memory);
+        assert!(rt; written == 2 * *count && front == 2 * *count, "{count}");
+    }
     Ok(())
 }
 

@@ -72,7 +72,7 @@ module _ (run : Run) where
   says (Serve http syslog workers) Usage is e = absurd e.2
   says (Serve http syslog workers) ReadFault is e = absurd e.2
   says (Serve http syslog workers) WriteFault is e = absurd e.2
-  says (Serve http syslog workers) DoorFault is e = (Serve http syslog workers, is, (e.0, e.2.0, e.2.2))
+  says (Serve http syslog workers) DoorFault is e = (Serve http syslog workers, is, (e.0, e.2.0, e.2.1, e.2.2))
   says (Serve http syslog workers) Limit is e = absurd e.2
   says (Serve http syslog workers) NoMemory is e = inl (e.0, e.2)
 

@@ -1,5 +1,6 @@
 -- What one run of the program does to the objects of the outside.
 use Rattle.std.specs.Prelude.{◌≡◌, ◌⊎◌, ℕ, ◌≤◌, ◌++◌, ◌∷◌, List, [], Option, codes}
+use Rattle.std.specs.List.{AllByRecursion}
 use Rattle.vl_io.specs.Change.{Change, HasFailed, IsTold, IsUntold}
 use Rattle.vl_io.specs.Moments.{FirstTold}
 use Rattle.lq_ast.specs.Question.{Question}
@@ -17,7 +18,7 @@ use Rattle.vl_pipe.specs.Status.{status_number}
 use Rattle.vl_pipe.specs.declared.status.Status.{Status}
 use Rattle.vl_pipe.specs.declared.status.Status.TheVariants.{Done, DoorFault, Limit as AtLimit, NoMemory, QueryRefused}
 use Rattle.vl_pipe.specs.declared.status.Status.TheVariants.{ReadFault, Usage, WriteFault}
-use Rattle.vl_serve.specs.Doors.{DoorChange}
+use Rattle.vl_serve.specs.Doors.{DoorChange, IsOver}
 use Rattle.vl_top.specs.Server.{AreDone, EndsServer, HasFailedDoor, door_fault_text}
 use Rattle.vl_top.specs.Trial.{EndsTrial, IsTrialCut, IsTrialDone}
 
@@ -130,12 +131,13 @@ HasNoAnswer does (Pipe fields text) =
 HasNoAnswer does (Trial seed rows) = ⊥
 HasNoAnswer does (Serve http syslog workers) = ⊥
 
--- a door failed while the doors were served, which is said
+-- Each door was served until it failed or had no visit left, and one failed, which is said.
 abbrev pub IsDoorFault : Effects → Command → Type 0
 IsDoorFault does (Pipe fields text) = ⊥
 IsDoorFault does (Trial seed rows) = ⊥
 IsDoorFault does (Serve http syslog workers) =
-    IsUnread does.source × HasFailedDoor does.doors × IsTold does.errors [] door_fault_text
+    IsUnread does.source × HasFailedDoor does.doors × AllByRecursion IsOver does.doors
+    × IsTold does.errors [] door_fault_text
 
 -- memory ran out, and nothing was read
 abbrev pub IsUnstarted : Effects → Type 0

@@ -211,6 +211,14 @@ const TRIALS: &[(&str, &str, &str)] = &[
         "1",
         "{\"n\":\"1\"}\n{\"app\":\"api\",\"n\":\"1\",\"s\":\"316\"}\n{\"n\":\"0\"}\n",
     ),
+    // computed by a Python program from the rules of the rows
+    (
+        "7",
+        "200000",
+        "{\"n\":\"200000\"}\n{\"app\":\"api\",\"n\":\"16623\",\"s\":\"8310099\"}\n\
+        {\"app\":\"db\",\"n\":\"16882\",\"s\":\"8408098\"}\n\
+        {\"app\":\"web\",\"n\":\"16477\",\"s\":\"8221313\"}\n{\"n\":\"14364\"}\n",
+    ),
 ];
 
 #[test]
@@ -221,10 +229,13 @@ fn a_trial_answers_three_queries(rt: HostRuntime) -> Result<(), Fail> {
             out,
             err: "",
         };
-        assert!(rt;
-            ends(&rt, &["trial", seed, rows], b"x\n", NONE, wanted)?,
-            "{seed} {rows}"
-        );
+        // The second run gives the same.
+        for _ in 0..2 {
+            assert!(rt;
+                ends(&rt, &["trial", seed, rows], b"x\n", NONE, wanted)?,
+                "{seed} {rows}"
+            );
+        }
     }
     Ok(())
 }
