@@ -170,7 +170,8 @@ def run(path, *words):
     child = os.fork()
     if child == 0:
         os.dup2(os.open(path, os.O_RDONLY), 0)
-        os.dup2(os.open(os.devnull, os.O_WRONLY), 1)
+        # grep reads no further than it must for /dev/null
+        os.dup2(os.open(f"{path}.out", os.O_WRONLY | os.O_CREAT | os.O_TRUNC), 1)
         os.execvp(words[0], words)
     _, status, used = os.wait4(child, 0)
     print(time.monotonic() - start, used.ru_utime + used.ru_stime, used.ru_maxrss * 1024)

@@ -37,7 +37,7 @@ fn server_ends<R: AllocGlobal + Threads + Wait + Sync + SystemTimer + Copy + Dro
 fn the_program_serves_doors_side_by_side(rt: HostRuntime) -> Result<(), Fail> {
     let alloc = rt.alloc();
     let replies: Replies = Arc::new(alloc, AtomicU64::new(0))?;
-    let mut doors = crossing_doors(rt, alloc, &replies, 4)?;
+    let mut doors = crossing_doors(rt, alloc, &replies)?;
     assert!(rt; server_ends(&rt, &mut doors, 0, "")?);
     assert!(rt; replies.load(Ordering::SeqCst) == 8);
     Ok(())
