@@ -2,7 +2,7 @@
 #![tactic(auto)]
 
 ghost use Rattle.std.specs.Prelude.{◌≡◌, ◌+◌, ◌≤◌, IfOk, vec_len};
-ghost use Rattle.duvonka.specs.Workers.{AreFewWorkers};
+ghost use Rattle.duvonka.specs.Workers.{AreDoorsOf, AreFewWorkers, GainDoors};
 
 use std::alloc::AllocError;
 use std::env;
@@ -61,7 +61,8 @@ fn doors_for(rt: HostRuntime, words: &[&str]) -> Result<Vec<TcpDoors<HostRuntime
 /// The doors of a command: as many at each address as there are workers, and none for another command.
 fn doors_of(rt: HostRuntime, command: &Command) -> Result<Vec<TcpDoors<HostRuntime>>, AllocError>
     requires { AreFewWorkers command.now }
-    ensures { IfOk result (λ doors. vec_len doors ≤ 64) }
+    ensures doors { IfOk result (λ doors. AreDoorsOf command.now doors.items) }
+    ensures few { IfOk result (λ doors. vec_len doors ≤ 64) }
 {
     let Command::Serve {
         http,
@@ -85,7 +86,8 @@ fn with_syslog(
     address: &str,
     count: u32,
 ) -> Result<Vec<TcpDoors<HostRuntime>>, AllocError>
-    ensures { IfOk result (λ all. vec_len all ≡ vec_len doors + count) }
+    ensures gain { IfOk result (λ all. GainDoors count doors.items all.items) }
+    ensures count { IfOk result (λ all. vec_len all ≡ vec_len doors + count) }
 {
     let mut others = TcpDoors::listen(rt, rt.alloc(), address, VisitKind::Syslog, count)?;
     doors.append(&mut others)?;
