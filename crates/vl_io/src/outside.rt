@@ -111,7 +111,8 @@ pub trait Doors {
     ghost faults: { Self → ℕ };
 
     /// The next visit, which is then one less that is left. `None` says that no visit is left. A call that fails
-    /// takes none.
+    /// takes none. The visit that was given before is over: a call may first bring its connection to an end, as
+    /// `TcpDoors` does.
     fn next(&mut self) -> Result<Option<Visit<Self::S, Self::K, Self::C>>, Failed>
         ensures visits { NextGives (left self.old) (left self.new) result }
         ensures cause { HasCause (faults self.old) (faults self.new) result };

@@ -21,7 +21,7 @@ pub type TcpVisit<R> = Visit<InputSource<TcpStream>, OutputSink<TcpStream>, Syst
 const LONGEST_SILENCE: u64 = 60;
 
 /// How long a visitor that speaks HTTP may go on sending once its visit is over, in seconds.
-const LONGEST_FAREWELL: u64 = 2;
+const LONGEST_LINGER: u64 = 2;
 
 /// Doors over a TCP listener. A call waits until a visitor comes, and never answers that none is left.
 ///
@@ -101,7 +101,7 @@ impl<R: SystemTimer + Copy + Drop> Doors for TcpDoors<R> {
         ensures same_kind { kind_of self.new ≡ kind_of self.old }
     {
         if let Some(stream) = self.last.take() {
-            let _ = say_farewell(&self.rt, stream);
+            let _ = linger(&self.rt, stream);
         }
         if let Some(listener) = &self.listener {
             if let Some((visit, connection)) = accepted(self.rt, listener, self.kind) {
@@ -141,13 +141,13 @@ fn accepted<R: SystemTimer + Copy>(
     None
 }
 
-/// Sends no more, and passes over what the peer still sends, until it closes, is silent for a second or has had its
-/// time.
-fn say_farewell<R: SystemTimer>(rt: &R, mut stream: TcpStream) -> io::Result<()> {
+/// A lingering close: sends no more, and passes over what the peer still sends, until it closes, is silent for a
+/// second or has had its time.
+fn linger<R: SystemTimer>(rt: &R, mut stream: TcpStream) -> io::Result<()> {
     stream.shutdown(Shutdown::Write)?;
     stream.set_read_timeout(Some(Duration::from_secs(1)))?;
     let start = Instant::now(rt)?;
-    let longest = Duration::from_secs(LONGEST_FAREWELL);
+    let longest = Duration::from_secs(LONGEST_LINGER);
     let mut passed_over = [0; 4096];
     for _ in 0..u64::MAX {
         if stream.read(&mut passed_over)? == 0 || start.elapsed(rt)? >= longest {
