@@ -7,10 +7,17 @@ set -u
 export LC_ALL=C.UTF-8
 top=$(cd "$(dirname "$0")/.." && pwd)
 program=${DUVONKA:-$top/crates/duvonka/out/duvonka}
+# skip_all WHY
+skip_all() {
+  echo "SKIPPED all: $1"
+  echo "0 passed, 0 failed, 1 skipped"
+  exit 0
+}
+
 for tool in mktemp timeout sha256sum sed seq; do
-  command -v "$tool" > /dev/null || { echo "clients.sh: skipped, there is no $tool"; exit 0; }
+  command -v "$tool" > /dev/null || skip_all "there is no $tool"
 done
-[ -x "$program" ] || { echo "clients.sh: skipped, the program is not built"; exit 0; }
+[ -x "$program" ] || skip_all "the program is not built"
 work=$(mktemp -d) || exit 1
 # shellcheck source=tests/serving.sh
 . "$top/tests/serving.sh"

@@ -1,5 +1,0 @@
-use Rattle.turn_lock.specs.Passes.{IsPassOf}
-use Rattle.session_stdio.proofs.inserts.one.Given as goal
-
-abbrev pub invariant-loop : goal.invariant-loop
-invariant-loop g l = IsPassOf l.desk l.pass
