@@ -1,7 +1,7 @@
 #!/usr/bin/env bash
 # Times one session of HTTP that inserts lines, 1,000 a request, and one of syslog, against `pipe '* | limit 0'` over as many
 # lines: the least processor time of each, and the ratios a line. Then 100 inserts of 1,000 lines at one desk in one thread,
-# and 100 in each of four: the least elapsed times, and how much more four take in. All but `pipe` is `session_stdio`.
+# and 100 in each of four: the least times that the inserting took, and how much more four take in. All but `pipe` is `session_stdio`.
 # usage: tests/session_bench.sh [LINES] [REPEATS]     (200000 lines, a multiple of 1000; 5 repeats)
 set -u
 export LC_ALL=C.UTF-8
@@ -62,19 +62,14 @@ echo "pipe, $lines lines: $base ms, $(each "$base") us a line"
 echo "a session of HTTP: $posts ms, $(each "$posts") us a line, $(ratio "$posts" "$base") times pipe"
 echo "a session of syslog: $syslog ms, $(each "$syslog") us a message, $(ratio "$syslog" "$base") times pipe; $(cat "$work/out")"
 
-# elapsed COMMAND..: the least elapsed time of so many runs over the first 1,000 lines, in milliseconds
-elapsed() {
-  local best= start now
+# spent COMMAND..: the least time of so many runs over the first 1,000 lines, as the program says it, in milliseconds
+spent() {
   for _ in $(seq "$repeats"); do
-    start=$(date +%s%N)
-    "$@" < "$work/thousand" > "$work/out" 2> /dev/null
-    now=$((($(date +%s%N) - start) / 10000))
-    if [ -z "$best" ] || [ "$now" -lt "$best" ]; then best=$now; fi
-  done
-  awk -v t="$best" 'BEGIN { print t / 100 }'
+    "$@" < "$work/thousand" 2> /dev/null
+  done | awk '/^inserted: true/ { if (!best || $4 < best) best = $4 } END { print best / 1000 }'
 }
 
 head -n 1000 "$work/lines" > "$work/thousand"
-one=$(elapsed "$session" inserts)
-four=$(elapsed "$session" inserts four)
-echo "100 inserts of 1000 lines in one thread: $one ms; in each of four: $four ms, $(awk -v a="$one" -v b="$four" 'BEGIN { printf "%.2f", 4 * a / b }') times as much in a second; $(cat "$work/out")"
+one=$(spent "$session" inserts)
+four=$(spent "$session" inserts four)
+echo "100 inserts of 1000 lines in one thread: $one ms; in each of four: $four ms, $(ratio "$(awk -v a="$one" 'BEGIN { print 4 * a }')" "$four") times as much in a second"

@@ -1,100 +1,91 @@
-//! The same lines, inserted again and again by one thread or by four.
-ghost use Rattle.std.specs.Prelude.{IfSome};
+//! The same lines, inserted again and again by one thread or by several.
+ghost use Rattle.std.specs.Prelude.{◌≡◌, IfOk};
+ghost use Rattle.std.specs.List.{AllByRecursion};
 ghost use Rattle.turn_lock.specs.Passes.{IsPassOf};
+ghost use Rattle.session_stdio.specs.Callers.{IsCallerOf};
 
 use ingest_row::Options;
 use log_desk::{Desk, Pass};
-use std::alloc::Global;
+use std::alloc::{AllocError, AllocGlobal, Global};
 use std::sync::Wait;
-use std::thread::{Threads, join};
+use std::thread::{self, Threads};
 use vl_session::insert_lines;
 
-/// How often each thread inserts the lines.
+/// How often each caller inserts the lines.
 const ROUNDS: u32 = 100;
 
-/// One thread.
-fn one<R: Wait>(rt: &R, alloc: Global, desk: &Desk, mut pass: Pass, body: &[u8]) -> Option<Pass>
-    requires { IsPassOf desk.now pass }
-    ensures { IfSome result (λ p. IsPassOf desk.now p) }
-{
-    let options = Options::plain(alloc);
-    for _ in 0..ROUNDS {
-        if insert_lines(rt, alloc, desk, &mut pass, &options, 5, body).is_err() {
-            return None;
+/// Who inserts the lines.
+#[derive(Drop)]
+struct Caller {
+    pass: Pass,
+    /// Whether all was taken in.
+    is_done: bool,
+}
+
+impl Caller {
+    /// Inserts the lines so often.
+    fn insert<R: Wait>(&mut self, rt: &R, alloc: Global, desk: &Desk, body: &[u8])
+        requires { IsPassOf desk.now self.old.pass }
+        ensures { IsPassOf desk.now self.new.pass }
+    {
+        let options = Options::plain(alloc);
+        for _ in 0..ROUNDS {
+            if insert_lines(rt, alloc, desk, &mut self.pass, &options, 5, body).is_err() {
+                return;
+            }
         }
+        self.is_done = true;
     }
-    Some(pass)
 }
 
-/// Two threads. The pass has then both.
-fn two<R: Threads + Wait + Sync>(
-    rt: &R,
+/// So many callers behind the first, each with a pass that is split from its own.
+fn callers_of(
     alloc: Global,
     desk: &Desk,
     mut pass: Pass,
-    body: &[u8],
-) -> Option<Pass>
+    others: usize,
+) -> Result<Vec<Caller>, AllocError>
     requires { IsPassOf desk.now pass }
-    ensures { IfSome result (λ p. IsPassOf desk.now p) }
+    ensures { IfOk result (λ callers. AllByRecursion (IsCallerOf desk.now) callers.items) }
 {
-    let other = desk.split(&mut pass).ok()?;
-    let (pass, other) = join(
-        rt,
-        || -> Option<Pass>
-            requires { IsPassOf desk.now pass }
-            ensures { IfSome result (λ p. IsPassOf desk.entry.now p) }
-        { one(rt, alloc, desk, pass, body) },
-        || -> Option<Pass>
-            requires { IsPassOf desk.now other }
-            ensures { IfSome result (λ p. IsPassOf desk.entry.now p) }
-        { one(rt, alloc, desk, other, body) },
-    );
-    let (mut pass, other) = (pass?, other?);
-    desk.join(&mut pass, other);
-    Some(pass)
+    let mut callers = Vec::new(alloc);
+    for _ in 0..others {
+        let Ok(own) = desk.split(&mut pass) else {
+            return Err(AllocError);
+        };
+        callers.push(Caller {
+            pass: own,
+            is_done: false,
+        })?;
+    }
+    callers.push(Caller {
+        pass,
+        is_done: false,
+    })?;
+    Ok(callers)
 }
 
-/// Four threads. The pass has then all four.
-fn four<R: Threads + Wait + Sync>(
+/// Inserts the lines in so many threads beside this one, and says whether all was taken in.
+pub(crate) fn insert_all<R: AllocGlobal + Threads + Wait + Sync>(
     rt: &R,
-    alloc: Global,
-    desk: &Desk,
-    mut pass: Pass,
-    body: &[u8],
-) -> Option<Pass>
-    requires { IsPassOf desk.now pass }
-    ensures { IfSome result (λ p. IsPassOf desk.now p) }
-{
-    let other = desk.split(&mut pass).ok()?;
-    let (pass, other) = join(
-        rt,
-        || -> Option<Pass>
-            requires { IsPassOf desk.now pass }
-            ensures { IfSome result (λ p. IsPassOf desk.entry.now p) }
-        { two(rt, alloc, desk, pass, body) },
-        || -> Option<Pass>
-            requires { IsPassOf desk.now other }
-            ensures { IfSome result (λ p. IsPassOf desk.entry.now p) }
-        { two(rt, alloc, desk, other, body) },
-    );
-    let (mut pass, other) = (pass?, other?);
-    desk.join(&mut pass, other);
-    Some(pass)
-}
-
-/// Inserts the lines in one thread, or in each of four, and says whether all was taken in.
-pub(crate) fn insert_all<R: Threads + Wait + Sync>(
-    rt: &R,
-    alloc: Global,
     desk: &Desk,
     pass: Pass,
     body: &[u8],
-    by_four: bool,
-) -> bool
+    others: usize,
+) -> Result<bool, AllocError>
     requires { IsPassOf desk.now pass }
 {
-    if by_four {
-        return four(rt, alloc, desk, pass, body).is_some();
-    }
-    one(rt, alloc, desk, pass, body).is_some()
+    let alloc = rt.alloc();
+    let mut callers = callers_of(alloc, desk, pass, others)?;
+    let threads = callers.len().max(1);
+    thread::for_each_mut(
+        rt,
+        callers.as_mut_slice(),
+        threads,
+        &|_i: usize, caller: &mut Caller|
+            requires { IsCallerOf desk.now caller.old }
+            ensures { IsCallerOf desk.entry.now caller.new }
+        { caller.insert(rt, alloc, desk, body) },
+    );
+    Ok(callers.iter().all(|caller| caller.is_done))
 }
