@@ -9,7 +9,8 @@ use std::env;
 use std::io::ErrorKind;
 use std::process::ExitCode;
 use vl_io::{InputSource, OutputSink, SystemClock, TcpDoors, VisitKind};
-use vl_top::{Command, Status, UsageFault, read_words, report_no_memory, report_usage, run};
+use vl_status::report_no_memory;
+use vl_top::{Command, UsageFault, read_words, report_usage, run};
 
 fn main(rt: HostRuntime) -> ExitCode {
     let mut err = OutputSink::new(rt.stderr());
@@ -18,8 +19,9 @@ fn main(rt: HostRuntime) -> ExitCode {
     let mut clock = SystemClock::new(rt);
     let words = match words_of(&rt) {
         Ok(words) => words,
-        Err(Status::Usage) => return ExitCode::from(report_usage(&mut err).number()),
-        Err(_) => return ExitCode::from(report_no_memory(&mut err).number()),
+        Err(fault) => {
+            return ExitCode::from(report_usage(rt.alloc(), fault, &mut err).number());
+        }
     };
     let borrowed = words.iter().map(|word| word.as_str()).collect(rt.alloc());
     let Ok(borrowed): Result<Vec<&str>, AllocError> = borrowed else {
@@ -36,14 +38,14 @@ fn main(rt: HostRuntime) -> ExitCode {
 }
 
 /// The words behind the program's name. One that is not UTF-8 makes them no command.
-fn words_of(rt: &HostRuntime) -> Result<Vec<String>, Status> {
+fn words_of(rt: &HostRuntime) -> Result<Vec<String>, UsageFault> {
     match env::args(rt) {
         Ok(words) => words
             .skip(1)
             .collect(rt.alloc())
-            .map_err(|_| Status::NoMemory),
-        Err(fault) if fault.kind() == ErrorKind::InvalidData => Err(Status::Usage),
-        Err(_) => Err(Status::NoMemory),
+            .map_err(|_| UsageFault::Memory),
+        Err(fault) if fault.kind() == ErrorKind::InvalidData => Err(UsageFault::Usage),
+        Err(_) => Err(UsageFault::Memory),
     }
 }
 

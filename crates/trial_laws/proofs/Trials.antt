@@ -12,7 +12,7 @@ use Rattle.lq_ast.specs.Question.{Question}
 use Rattle.lq_ast.specs.Stage.{Grouping, stats}
 use Rattle.trial_rows.specs.Trial.{drawn, fields_of, millis_of, row_of, state_at, trial_row, trial_rows}
 use Rattle.trial_laws.specs.Questions.{all_counted, errors_by_app, slow_counted, trial_questions}
-use Rattle.trial_laws.specs.Safety.{AlwaysHasRecords, CountsAndSums, IsCountOrSum, IsUpTo}
+use Rattle.trial_laws.specs.Safety.{AlwaysEvaluates, CountsAndSums, IsCountOrSum, IsUpTo}
 use Rattle.trial_laws.proofs.Safe.{has_records}
 
 -- Setting the computed fields leaves `ms` alone.
@@ -58,7 +58,7 @@ all_small : (seed rows : ℕ) → AllByRecursion (IsUpTo 1000 (codes "ms")) (tri
 unfolding trial_rows
 all_small seed rows = rows_small seed 0 rows
 
-pub always_has_records : (asked : Question) → CountsAndSums (codes "ms") asked → AlwaysHasRecords asked
+pub always_has_records : (asked : Question) → CountsAndSums (codes "ms") asked → AlwaysEvaluates asked
 always_has_records asked counts now seed rows few =
     let long = length-trial_rows seed rows in
     has_records (codes "ms") asked now 1000 (trial_rows seed rows) counts (all_small seed rows) (omega arith)
@@ -77,7 +77,7 @@ alike =
     let third = plain slow_counted _ refl (inl refl, tt) in
     (first, (second, (third, tt)))
 
-pub questions_have_records : AllByRecursion AlwaysHasRecords trial_questions
+pub questions_have_records : AllByRecursion AlwaysEvaluates trial_questions
 questions_have_records =
     let first = always_has_records all_counted alike.0 in
     let second = always_has_records errors_by_app alike.1.0 in

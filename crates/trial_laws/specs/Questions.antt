@@ -1,4 +1,4 @@
--- What the three queries of the self-test ask.
+-- What the three queries of a trial ask.
 use Rattle.std.specs.Prelude.{◌-◌, ◌^◌, List, [], ◌∷◌, codes, pos, None}
 use Rattle.lq_ast.specs.Condition.{Condition, conditions}
 use Rattle.lq_ast.specs.Condition as is

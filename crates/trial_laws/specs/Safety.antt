@@ -12,8 +12,8 @@ use Rattle.lq_ast.specs.declared.pipe.Call.TheVariants.{Count, Sum}
 use Rattle.trial_rows.specs.Trial.{trial_rows}
 
 -- The evaluation gives records: no total overflows, and the rows that hold are not too many.
-abbrev pub HasRecords : Question → ℤ → List Row → Type 0
-HasRecords asked now rows = (found : List Record) × (evaluate asked now rows ≡ records found)
+abbrev pub EvaluatesToRecords : Question → ℤ → List Row → Type 0
+EvaluatesToRecords asked now rows = (found : List Record) × (evaluate asked now rows ≡ records found)
 
 -- the number of records, or the sum of this field
 abbrev pub IsCountOrSum : List ℕ → Statistic → Type 0
@@ -37,9 +37,9 @@ abbrev pub StatsLaw : Type 0
 StatsLaw =
     (field : List ℕ) (asked : Question) (now : ℤ) (most : ℕ) (rows : List Row) → CountsAndSums field asked
     → AllByRecursion (IsUpTo most field) rows → length rows < row_limit → length rows * most < 2 ^ 63
-    → HasRecords asked now rows
+    → EvaluatesToRecords asked now rows
 
--- Whatever the moment, the seed and the number of rows, it has records over the rows of the self-test.
-abbrev pub AlwaysHasRecords : Question → Type 0
-AlwaysHasRecords asked =
-    (now : ℤ) (seed rows : ℕ) → rows ≤ 1_000_000 → HasRecords asked now (trial_rows seed rows)
+-- Whatever the moment, the seed and the number of rows, it has records over the rows of a trial.
+abbrev pub AlwaysEvaluates : Question → Type 0
+AlwaysEvaluates asked =
+    (now : ℤ) (seed rows : ℕ) → rows ≤ 1_000_000 → EvaluatesToRecords asked now (trial_rows seed rows)

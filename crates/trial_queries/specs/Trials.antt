@@ -1,4 +1,4 @@
--- The texts of the three queries of the self-test. What each asks stands in `trial_laws`.
+-- The texts of the three queries of a trial. What each asks stands in `trial_laws`.
 use Rattle.std.specs.Prelude.{ℕ, List, codes}
 
 -- how many rows there are

@@ -1,4 +1,4 @@
--- The rows of the self-test. A seed and a number of rows determine them.
+-- The rows of a trial. A seed and a number of rows determine them.
 use Rattle.std.specs.Prelude.{ℕ, zero, suc, ◌+◌, ◌*◌, ◌/◌, ◌%◌, ◌^◌, ◌==◌, List, [], ◌∷◌, ◌++◌, length, map, codes}
 use Rattle.std.specs.Prelude.{decimal, if◌then◌else◌}
 use Rattle.std.specs.Fork.{slice_chunk}

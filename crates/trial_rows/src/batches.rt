@@ -1,4 +1,4 @@
-//! The rows of the self-test, batch by batch.
+//! The rows of a trial, batch by batch.
 ghost use Rattle.std.specs.Prelude.{◌≡◌, ◌++◌, ◌≤◌, ◌<◌, ◌+◌, [], length, flat_map, IfOk, OnErr, Ok};
 ghost use Rattle.std.specs.Prelude.{None, option_to_list};
 ghost use Rattle.vl_row.specs.Faults.{batch_fault};
@@ -13,7 +13,7 @@ use vl_row::{Batch, Row, Text};
 /// The rows of a batch. The last one may have fewer.
 const BATCH_ROWS: u64 = 1_000;
 
-/// The batches of the rows of the self-test, made one after another.
+/// The batches of the rows of a trial, made one after another.
 ///
 /// A contract sees those that are left.
 #[derive(Drop)]

@@ -1,4 +1,4 @@
-//! The rows of the self-test: made up, and always the same for a seed.
+//! The rows of a trial: made up, and always the same for a seed.
 #![tactic(auto)]
 
 mod batches;

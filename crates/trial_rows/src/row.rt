@@ -1,4 +1,4 @@
-//! One row of the self-test.
+//! One row of a trial.
 ghost use Rattle.std.specs.Prelude.{◌≡◌, ◌<◌, ◌∷◌, [], IfOk, codes};
 ghost use Rattle.trial_rows.specs.Trial.{app_of, fields_of, level_of, message_of, millis_of, next_state, row_of};
 

@@ -1,4 +1,4 @@
-//! The rows of the self-test (`trial_rows`), against those of a Python program of its own.
+//! The rows of a trial (`trial_rows`), against those of a Python program of its own.
 use std::alloc::{AllocError, Global};
 use std::test::Fail;
 use trial_rows::TrialBatches;

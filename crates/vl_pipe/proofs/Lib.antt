@@ -6,5 +6,4 @@ pub mod LoadLemmas
 pub mod PipeLemmas
 pub mod RefusalLemmas
 pub mod RefusedLemmas
-pub mod ReportLemmas
 pub mod WeightLemmas

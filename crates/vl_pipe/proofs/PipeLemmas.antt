@@ -17,8 +17,8 @@ use Rattle.vl_pipe.specs.Load.{IsLoaded, StopsLoad, StopsUntold}
 use Rattle.vl_pipe.specs.Interrupt.{limit_of, overflow_of}
 use Rattle.vl_pipe.specs.Pipe.{EndsPipe, ForText, HasLines, HasNoLines, OverflowsUntold, ReportsInterrupt, StopsPipe}
 use Rattle.vl_pipe.specs.Ended.{IsAnswered, IsStopped}
-use Rattle.vl_pipe.specs.declared.status.Status.{Status}
-use Rattle.vl_pipe.specs.declared.status.Status.TheVariants as statuses
+use Rattle.vl_status.specs.declared.status.Status.{Status}
+use Rattle.vl_status.specs.declared.status.Status.TheVariants as statuses
 use Rattle.vl_pipe.specs.declared.interrupt.Interrupt.{Interrupt}
 use Rattle.vl_pipe.specs.declared.interrupt.Interrupt.TheVariants.{Unreadable, Unwritable, Beyond, NoAnswer, NoMemory}
 use Rattle.vl_pipe.proofs.GroupLemmas.{append_nil, AreGroups-weaken}

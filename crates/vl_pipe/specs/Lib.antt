@@ -5,4 +5,3 @@ pub mod Load
 pub mod Pipe
 pub mod Program
 pub mod Refused
-pub mod Status

@@ -1,7 +1,6 @@
 -- How a query ends.
-use Rattle.std.specs.Prelude.{◌≡◌, ◌⊎◌, ℕ, List, [], Option}
+use Rattle.std.specs.Prelude.{◌≡◌, ◌⊎◌, ℕ, List, []}
 use Rattle.vl_io.specs.Change.{Change, Gave, IsSpent, IsTold, IsUntold, Took}
-use Rattle.vl_io.specs.Moments.{FirstTold}
 use Rattle.log_model.specs.History.{History}
 use Rattle.log_model.specs.Print.{lines_text}
 use Rattle.lq_ast.specs.Question.{Question}
@@ -11,7 +10,7 @@ use Rattle.query_run.specs.Asked.{IsNoReadableQuery, IsReadableQuery, Refuses}
 use Rattle.query_run.specs.declared.query.QueryRefusal.{QueryRefusal}
 use Rattle.query_run.specs.declared.query.QueryRefusal.TheVariants.{Memory}
 use Rattle.vl_session.specs.Query.{Evaluates, HasQueryOutcome, found}
-use Rattle.vl_pipe.specs.Groups.{Arrival, arrival_at}
+use Rattle.vl_pipe.specs.Groups.{Arrival}
 use Rattle.vl_pipe.specs.declared.pipe.Pipe.{Pipe}
 use Rattle.vl_pipe.specs.Program as model
 use Rattle.vl_pipe.specs.Program.{Overflows, overflow_text, overflowing, said_of_query, stop_text}
@@ -19,14 +18,10 @@ use Rattle.vl_pipe.specs.Load.{StopsLoad}
 use Rattle.vl_pipe.specs.Refused.{ReportsRefused}
 use Rattle.vl_pipe.specs.Interrupt.{limit_of, overflow_of}
 use Rattle.vl_pipe.specs.Ended.{IsAnswerCut, IsAnswered, IsNamingCut, IsStopped, IsUnanswered}
-use Rattle.vl_pipe.specs.declared.status.Status.{Status}
-use Rattle.vl_pipe.specs.declared.status.Status.TheVariants as statuses
+use Rattle.vl_status.specs.declared.status.Status.{Status}
+use Rattle.vl_status.specs.declared.status.Status.TheVariants as statuses
 use Rattle.vl_pipe.specs.declared.interrupt.Interrupt.{Interrupt}
 use Rattle.vl_pipe.specs.declared.interrupt.Interrupt.TheVariants.{Unreadable, Unwritable, Beyond, NoAnswer, NoMemory}
-
--- how the lines of the input come in where this is asked at that moment
-abbrev pub arrival_of : Pipe → ℕ → Arrival
-arrival_of asked now = arrival_at asked.stream_fields now
 
 -- the text spells a query for which this holds
 abbrev pub ForText : List ℕ → (Question → Type 0) → Type 0
@@ -86,39 +81,34 @@ ReportsInterrupt errors NoMemory status = (status ≡ statuses.NoMemory) × IsTo
 abbrev pub EndsPipe : Question → Arrival → Change → Change → Change → Status → Type 0
 EndsPipe query arrival source output errors statuses.Done = IsAnswered query arrival source output errors
 EndsPipe query arrival source output errors statuses.QueryRefused = IsUnanswered query arrival source errors
-EndsPipe query arrival source output errors statuses.Usage = ⊥
 EndsPipe query arrival source output errors statuses.ReadFault = IsStopped arrival source errors model.unreadable
 EndsPipe query arrival source output errors statuses.WriteFault =
     IsAnswerCut query arrival source output errors ⊎ IsNamingCut arrival source output errors
-EndsPipe query arrival source output errors statuses.DoorFault = ⊥
 EndsPipe query arrival source output errors statuses.Limit =
     (limit : model.Limit) × IsStopped arrival source errors (model.beyond limit)
 EndsPipe query arrival source output errors statuses.NoMemory = IsStopped arrival source errors model.no_memory
+EndsPipe query arrival source output errors status = ⊥
 
 -- ---- the command
 
--- what is asked, what it does to each object, and what the clock gave before and after
+-- what is asked, and what it does to each object
 pub record PipeRun : Type 0 where
   pub asked : Pipe
   pub source : Change
   pub output : Change
   pub errors : Change
-  pub moments_before : Option (List ℕ)
-  pub moments_after : Option (List ℕ)
 
 -- nothing was asked of the source
 abbrev pub IsUnread : Change → Type 0
 IsUnread source = IsUntold source × (source.faults_after ≡ source.faults_before)
 
--- The query can be asked, the clock's first reading was `now`, and the run ends so.
+-- The query can be asked, and the run ends so.
 pub record EndsReadable (run : PipeRun) (status : Status) : Type 0 where
   pub readable : IsReadableQuery run.asked.query
   pub askable : ¬ IsNoReadableQuery run.asked.query
-  pub now : ℕ
-  pub first : FirstTold run.moments_before run.moments_after now
   pub query : Question
   pub spelled : IsQueryText run.asked.query query
-  pub ends : EndsPipe query (arrival_of run.asked now) run.source run.output run.errors status
+  pub ends : EndsPipe query run.asked.arrival run.source run.output run.errors status
 
 -- The query is refused before anything is read.
 pub record EndsRefused (run : PipeRun) (status : Status) : Type 0 where

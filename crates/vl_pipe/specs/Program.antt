@@ -15,6 +15,7 @@ use Rattle.lq_grammar.specs.Faults.{fault_text}
 use Rattle.lq_grammar.specs.declared.fault.QueryFault.{QueryFault}
 use Rattle.ingest_row.specs.Intake.{Outcome, rows_read}
 use Rattle.query_run.specs.Asked.{HasUnreadablePattern, IsUnspelled}
+use Rattle.vl_status.specs.Said.{no_memory_text}
 use Rattle.vl_pipe.specs.Groups.{Arrival, AreGroups, BeginsWith, CanBeHeld, HaveOutcomes, batches_of, input_limit, outcomes_in}
 use Rattle.vl_pipe.specs.Groups.{refusals_of}
 
@@ -119,7 +120,7 @@ limit_text full = codes "full 4096"
 abbrev pub stop_text : Stop → List ℕ
 stop_text unreadable = codes "read fault" ++ 10 ∷ []
 stop_text (beyond limit) = limit_text limit ++ 10 ∷ []
-stop_text no_memory = codes "no memory" ++ 10 ∷ []
+stop_text no_memory = no_memory_text
 
 -- ---- queries without an answer
 

@@ -4,8 +4,8 @@ use Rattle.vl_io.specs.Change.{Change, IsTold}
 use Rattle.query_run.specs.declared.query.QueryRefusal.{QueryRefusal}
 use Rattle.query_run.specs.declared.query.QueryRefusal.TheVariants as refusals
 use Rattle.vl_pipe.specs.Program.{no_memory, refusal_text, said_of_query, stop_text, unreadable_pattern, unspelled}
-use Rattle.vl_pipe.specs.declared.status.Status.{Status}
-use Rattle.vl_pipe.specs.declared.status.Status.TheVariants as statuses
+use Rattle.vl_status.specs.declared.status.Status.{Status}
+use Rattle.vl_status.specs.declared.status.Status.TheVariants as statuses
 
 -- what is said of it on the error stream
 abbrev pub said_of : QueryRefusal → List ℕ

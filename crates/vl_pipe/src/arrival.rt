@@ -10,7 +10,7 @@ use vl_row::{Field, Text};
 
 /// What is asked for the lines of an input, and when they come in.
 #[derive(Drop)]
-pub(crate) struct Arrival {
+pub struct Arrival {
     options: Options,
     moment: i64,
 }
@@ -29,11 +29,7 @@ impl Model for Arrival {
 impl Arrival {
     /// Lines come in at this moment. The labels of their rows are those of their fields that the list names, if one is
     /// given.
-    pub(crate) fn at(
-        alloc: Global,
-        stream_fields: &Option<Text>,
-        now: i64,
-    ) -> Result<Arrival, AllocError>
+    pub fn at(alloc: Global, stream_fields: &Option<Text>, now: i64) -> Result<Arrival, AllocError>
         requires { pos 0 ≤ℤ now }
         ensures { IfOk result (λ arrival. arrival ≡ arrival_at stream_fields.now (unsigned_abs now)) }
     {

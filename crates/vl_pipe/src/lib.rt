@@ -8,8 +8,6 @@ mod names;
 mod pipe;
 mod refusal;
 mod report;
-mod status;
 
+pub use arrival::Arrival;
 pub use pipe::{Pipe, run_pipe};
-pub use report::{report_no_memory, say};
-pub use status::Status;

@@ -1,8 +1,8 @@
 -- The statuses as numbers.
 use Rattle.std.specs.Prelude.{ℕ}
-use Rattle.vl_pipe.specs.declared.status.Status.{Status}
-use Rattle.vl_pipe.specs.declared.status.Status.TheVariants.{Done, QueryRefused, Usage, ReadFault, WriteFault, Limit}
-use Rattle.vl_pipe.specs.declared.status.Status.TheVariants.{DoorFault, NoMemory}
+use Rattle.vl_status.specs.declared.status.Status.{Status}
+use Rattle.vl_status.specs.declared.status.Status.TheVariants.{Done, QueryRefused, Usage, ReadFault, WriteFault, Limit}
+use Rattle.vl_status.specs.declared.status.Status.TheVariants.{DoorFault, NoMemory}
 
 abbrev pub status_number : Status → ℕ
 status_number Done = 0

@@ -1,3 +1,4 @@
+//! How a command ended.
 ghost use Rattle.std.specs.Prelude.{◌≡◌};
 
 /// How a command ended. The number is the status that the process ends with.
@@ -14,7 +15,7 @@ pub enum Status {
 }
 
 impl Status {
-    ghost use Rattle.vl_pipe.specs.Status.{status_number};
+    ghost use Rattle.vl_status.specs.Status.{status_number};
 
     pub fn number(self) -> u8
         ensures { result ≡ status_number self }

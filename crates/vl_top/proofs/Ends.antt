@@ -1,5 +1,5 @@
 -- How doors end.
-use Rattle.std.proofs.Common.{◌≡◌, ◌⊎◌, inl, inr, ℕ, zero, suc, ◌+◌, ◌<◌, ◌≤◌, ◌==◌, nat_le, not, Bool, true, false, cond, List, [], ◌∷◌, ◌++◌, append-nil, append_assoc, length, map, slice_index_or, slice_set, drop, take, Option, None, Some, refl, sym, ap, subst, ◌∙◌, arith}
+use Rattle.std.proofs.Common.{◌≡◌, inl, inr, ℕ, zero, suc, ◌+◌, ◌<◌, ◌≤◌, Bool, true, false, cond, List, [], ◌∷◌, ◌++◌, append-nil, append_assoc, length, map, slice_index_or, slice_set, drop, take, Option, None, Some, refl, sym, ap, subst, ◌∙◌, arith}
 use mir.Val.{bool_byte}
 use Rattle.std.specs.Prelude.{count_by, is_some, zip, MatchOption}
 use Rattle.std.specs.List.{AllByRecursion, AllZip}
@@ -12,9 +12,9 @@ use Rattle.log_core.specs.Entries.{entry_of, seen_history}
 use Rattle.turn_lock.specs.Entries.{Continues}
 use Rattle.std.proofs.lemmas.List.{length-map, map-append}
 use Rattle.vl_io.specs.Visits.{HasNoVisit}
-use Rattle.vl_serve.specs.Doors.{AreServed, DoorChange, GoesOn, IsOver, IsServed, are_left, has_failed, has_visits}
-use Rattle.vl_serve.specs.Workers.{EndsAs, HasWorked, HaveEnded}
-use Rattle.vl_serve.specs.declared.worker.Worker.{Worker}
+use Rattle.vl_top.specs.Doors.{AreServed, DoorChange, GoesOn, IsOver, IsServed, are_left, is_failed, has_visits}
+use Rattle.vl_top.specs.Workers.{EndsAs, HasWorked, HaveEnded}
+use Rattle.vl_top.specs.declared.worker.Worker.{Worker}
 
 abbrev pub one_if : Bool → ℕ
 one_if passes = cond passes 1 0
@@ -36,9 +36,9 @@ all_over (change ∷ changes) [] each = absurd each
 all_over (change ∷ changes) (end ∷ ends) each = (is_over change end each.0, all_over changes ends each.1)
 
 fault_counts : (change : DoorChange) (is_fault : Bool) → IsServed change is_fault
-    → one_if is_fault ≤ one_if (has_failed change)
+    → one_if is_fault ≤ one_if (is_failed change)
 fault_counts change true served =
-    let risen : has_failed change ≡ true = grind (arith, nat_tests, served) in
+    let risen : is_failed change ≡ true = grind (arith, nat_tests, served) in
     subst (λ failed. 1 ≤ one_if failed) (sym risen) (omega arith)
 fault_counts change false served = omega arith
 
@@ -57,7 +57,7 @@ visits_count change false served =
     subst (λ left. one_if left ≤ 0) (sym (none_left change.left served)) (omega arith)
 
 pub at_most : (changes : List DoorChange) (ends : List Bool) → AllZip IsServed changes ends
-    → count_by (λ is_fault. is_fault) ends ≤ count_by has_failed changes
+    → count_by (λ is_fault. is_fault) ends ≤ count_by is_failed changes
 at_most [] [] each = omega arith
 at_most [] (end ∷ ends) each = absurd each
 at_most (change ∷ changes) [] each = absurd each
@@ -65,7 +65,7 @@ at_most (change ∷ changes) (end ∷ ends) each =
     omega (
       arith,
       counted (λ is_fault. is_fault) end ends,
-      counted has_failed change changes,
+      counted is_failed change changes,
       fault_counts change end each.0,
       at_most changes ends each.1,
     )

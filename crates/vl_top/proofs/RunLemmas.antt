@@ -1,7 +1,7 @@
 -- What a run comes to, by its command and its status.
-use Rattle.std.proofs.Common.{◌≡◌, ◌⊎◌, inl, inr, ℕ, ◌≤◌, List, [], Option, refl, sym, subst}
+use Rattle.std.proofs.Common.{◌≡◌, ◌∙◌, ◌⊎◌, inl, inr, ℕ, List, [], Option, ap, refl, sym, subst}
 use Rattle.vl_io.specs.Change.{HasFailed, IsTold}
-use Rattle.query_run.specs.Asked.{IsNoReadableQuery, IsReadableQuery, Refuses}
+use Rattle.query_run.specs.Asked.{Refuses}
 use Rattle.query_run.specs.declared.query.QueryRefusal.{QueryRefusal}
 use Rattle.query_run.specs.declared.query.QueryRefusal.TheVariants.{Unspelled, Pattern, Memory}
 use Rattle.command_line.specs.Asked.{IsCommand}
@@ -10,41 +10,50 @@ use Rattle.command_line.specs.declared.command.Command.TheVariants.{Pipe, Trial,
 use Rattle.vl_pipe.specs.Ended.{IsAnswerCut, IsNamingCut}
 use Rattle.vl_pipe.specs.Groups.{arrival_at}
 use Rattle.vl_pipe.specs.Pipe.{EndsReadable, EndsRefused, IsUnread}
-use Rattle.vl_pipe.specs.Program.{no_memory, stop_text, unreadable_pattern, unspelled}
+use Rattle.vl_pipe.specs.Program.{unreadable_pattern, unspelled}
 use Rattle.vl_pipe.specs.Refused.{ReportsRefused}
-use Rattle.vl_pipe.specs.Status.{status_number}
-use Rattle.vl_pipe.specs.declared.status.Status.{Status}
-use Rattle.vl_pipe.specs.declared.status.Status.TheVariants.{Done, DoorFault, Limit, NoMemory, QueryRefused}
-use Rattle.vl_pipe.specs.declared.status.Status.TheVariants.{ReadFault, Usage, WriteFault}
-use Rattle.vl_top.specs.Run.{CannotBeAsked, EndsCommand, ForCommand, GoesWell, IsAsked, IsBounded, IsNoCommand, IsRun}
-use Rattle.vl_top.specs.Run.{IsServe, IsTrial, Run, Says, pipe_run, usage_text}
+use Rattle.vl_io.specs.Moments.{FirstTold}
+use Rattle.vl_status.specs.Said.{no_memory_text}
+use Rattle.vl_status.specs.Status.{status_number}
+use Rattle.vl_status.specs.declared.status.Status.{Status}
+use Rattle.vl_status.specs.declared.status.Status.TheVariants.{Done, DoorFault, Limit, NoMemory, QueryRefused}
+use Rattle.vl_status.specs.declared.status.Status.TheVariants.{ReadFault, Usage, WriteFault}
+use Rattle.command_line.specs.declared.fault.UsageFault.{UsageFault}
+use Rattle.command_line.specs.declared.fault.UsageFault.TheVariants as faults
+use Rattle.vl_top.specs.Run.{CannotBeAsked, EndsCommand, GoesWell, IsAsked, IsNoCommand, IsRun}
+use Rattle.vl_top.specs.Run.{IsServe, IsTrial, ReportsUsage, Run, Says, pipe_run}
 use Rattle.vl_top.specs.Server.{HasFailedDoor}
 
 -- ---- what a command says
 
-module _ (run : Run) where
-  says_readable : (fields : Option (List ℕ)) (text : List ℕ) (status : Status) → IsCommand run.words (Pipe fields text)
-      → EndsReadable (pipe_run run.does fields text) status → Says run status
-  says_readable fields text Done is e =
-      (Pipe fields text, is, record { query = e.query; spelled = e.spelled; now = e.now; first = e.first; facts = e.ends })
-  says_readable fields text QueryRefused is e = inr
-      (Pipe fields text, is, record { query = e.query; spelled = e.spelled; now = e.now; first = e.first; facts = e.ends })
-  says_readable fields text Usage is e = absurd e.ends
-  says_readable fields text ReadFault is e =
-      (Pipe fields text, is, record { query = e.query; spelled = e.spelled; now = e.now; first = e.first; facts = e.ends })
-  says_readable fields text WriteFault is e =
-      (Pipe fields text, is, record { query = e.query; spelled = e.spelled; now = e.now; first = e.first; facts = e.ends })
-  says_readable fields text DoorFault is e = absurd e.ends
-  says_readable fields text Limit is e = (
-    e.ends.0,
-    (Pipe fields text, is, record { query = e.query; spelled = e.spelled; now = e.now; first = e.first; facts = e.ends.1 }),
-  )
-  says_readable fields text NoMemory is e = inr
-      (Pipe fields text, is, record { query = e.query; spelled = e.spelled; now = e.now; first = e.first; facts = e.ends })
+-- The clock's first reading was this.
+abbrev FirstReading : Run → ℕ → Type 0
+FirstReading run now = FirstTold run.does.moments_before run.does.moments_after now
 
-  says_refused : (fields : Option (List ℕ)) (text : List ℕ) (status : Status) → IsCommand run.words (Pipe fields text)
-      → EndsRefused (pipe_run run.does fields text) status → Says run status
-  says_refused fields text status is e = by_said e.refusal e.refused e.said
+module _ (run : Run) where
+  says_readable : (fields : Option (List ℕ)) (text : List ℕ) (now : ℕ) (status : Status)
+      → IsCommand run.words (Pipe fields text) → FirstReading run now
+      → EndsReadable (pipe_run run.does fields text now) status → Says run status
+  says_readable fields text now Done is first e =
+      (Pipe fields text, is, record { query = e.query; spelled = e.spelled; now = now; first = first; facts = e.ends })
+  says_readable fields text now QueryRefused is first e = inr
+      (Pipe fields text, is, record { query = e.query; spelled = e.spelled; now = now; first = first; facts = e.ends })
+  says_readable fields text now Usage is first e = absurd e.ends
+  says_readable fields text now ReadFault is first e =
+      (Pipe fields text, is, record { query = e.query; spelled = e.spelled; now = now; first = first; facts = e.ends })
+  says_readable fields text now WriteFault is first e =
+      (Pipe fields text, is, record { query = e.query; spelled = e.spelled; now = now; first = first; facts = e.ends })
+  says_readable fields text now DoorFault is first e = absurd e.ends
+  says_readable fields text now Limit is first e = (
+    e.ends.0,
+    (Pipe fields text, is, record { query = e.query; spelled = e.spelled; now = now; first = first; facts = e.ends.1 }),
+  )
+  says_readable fields text now NoMemory is first e = inr
+      (Pipe fields text, is, record { query = e.query; spelled = e.spelled; now = now; first = first; facts = e.ends })
+
+  says_refused : (fields : Option (List ℕ)) (text : List ℕ) (now : ℕ) (status : Status)
+      → IsCommand run.words (Pipe fields text) → EndsRefused (pipe_run run.does fields text now) status → Says run status
+  says_refused fields text now status is e = by_said e.refusal e.refused e.said
     where
       by_said : (refusal : QueryRefusal) → Refuses text refusal → ReportsRefused run.does.errors refusal status
           → Says run status
@@ -57,8 +66,8 @@ module _ (run : Run) where
 
   says : (command : Command) (status : Status) → IsCommand run.words command → EndsCommand run.does command status
       → Says run status
-  says (Pipe fields text) status is (inl e) = says_readable fields text status is e
-  says (Pipe fields text) status is (inr e) = says_refused fields text status is e
+  says (Pipe fields text) status is (now, first, inl e) = says_readable fields text now status is first e
+  says (Pipe fields text) status is (now, first, inr e) = says_refused fields text now status is e
   says (Trial seed rows) Done is e = (Trial seed rows, is, e)
   says (Trial seed rows) QueryRefused is e = absurd e.1.2
   says (Trial seed rows) Usage is e = absurd e.1.2
@@ -68,13 +77,13 @@ module _ (run : Run) where
   says (Trial seed rows) Limit is e = absurd e.1.2
   says (Trial seed rows) NoMemory is e = inl (e.0, e.1.2.1)
   says (Serve http syslog workers) Done is e = (Serve http syslog workers, is, (e.0, e.1, e.2.1, e.2.0))
-  says (Serve http syslog workers) QueryRefused is e = absurd e.2
-  says (Serve http syslog workers) Usage is e = absurd e.2
-  says (Serve http syslog workers) ReadFault is e = absurd e.2
-  says (Serve http syslog workers) WriteFault is e = absurd e.2
-  says (Serve http syslog workers) DoorFault is e = (Serve http syslog workers, is, (e.0, e.2.0, e.2.1, e.2.2))
-  says (Serve http syslog workers) Limit is e = absurd e.2
-  says (Serve http syslog workers) NoMemory is e = inl (e.0, e.2)
+  says (Serve http syslog workers) QueryRefused is e = absurd e.2.0
+  says (Serve http syslog workers) Usage is e = absurd e.2.0
+  says (Serve http syslog workers) ReadFault is e = absurd e.2.0
+  says (Serve http syslog workers) WriteFault is e = absurd e.2.0
+  says (Serve http syslog workers) DoorFault is e = (Serve http syslog workers, is, (e.0, e.2.0.0, e.2.0.1, e.2.1))
+  says (Serve http syslog workers) Limit is e = absurd e.2.0
+  says (Serve http syslog workers) NoMemory is e = inl (e.0, e.2.1)
 
 -- ---- what a command cannot come to
 
@@ -82,8 +91,8 @@ module _ (run : Run) where
   -- a query that cannot be asked is refused
   refuses : (command : Command) (status : Status) → EndsCommand run.does command status → CannotBeAsked command
       → (status ≡ QueryRefused) ⊎ (status ≡ NoMemory)
-  refuses (Pipe fields text) status (inl e) cannot = absurd (e.askable cannot)
-  refuses (Pipe fields text) status (inr e) cannot = by_said e.said
+  refuses (Pipe fields text) status (now, first, inl e) cannot = absurd (e.askable cannot)
+  refuses (Pipe fields text) status (now, first, inr e) cannot = by_said e.said
     where
       by_said : ReportsRefused run.does.errors e.refusal status → (status ≡ QueryRefused) ⊎ (status ≡ NoMemory)
       by_said (inl told) = inl told.0
@@ -91,23 +100,24 @@ module _ (run : Run) where
   refuses (Trial seed rows) status e cannot = absurd cannot
   refuses (Serve http syslog workers) status e cannot = absurd cannot
 
-  well : (fields : Option (List ℕ)) (text : List ℕ) (status : Status) → IsCommand run.words (Pipe fields text)
-      → EndsReadable (pipe_run run.does fields text) status → (HasFailed run.does.source → ⊥)
+  well : (fields : Option (List ℕ)) (text : List ℕ) (now : ℕ) (status : Status)
+      → IsCommand run.words (Pipe fields text) → FirstReading run now
+      → EndsReadable (pipe_run run.does fields text now) status → (HasFailed run.does.source → ⊥)
       → (HasFailed run.does.output → ⊥) → (HasFailed run.does.errors → ⊥) → GoesWell run status
-  well fields text Done is e source output errors = tt
-  well fields text QueryRefused is e source output errors =
-      (Pipe fields text, is, record { query = e.query; spelled = e.spelled; now = e.now; first = e.first; facts = e.ends })
-  well fields text Usage is e source output errors = absurd e.ends
-  well fields text ReadFault is e source output errors = absurd (source e.ends.behind.cause.0)
-  well fields text WriteFault is e source output errors = by_cut e.ends
+  well fields text now Done is first e source output errors = tt
+  well fields text now QueryRefused is first e source output errors =
+      (Pipe fields text, is, record { query = e.query; spelled = e.spelled; now = now; first = first; facts = e.ends })
+  well fields text now Usage is first e source output errors = absurd e.ends
+  well fields text now ReadFault is first e source output errors = absurd (source e.ends.behind.cause.0)
+  well fields text now WriteFault is first e source output errors = by_cut e.ends
     where
-      by_cut : IsAnswerCut e.query (arrival_at fields e.now) run.does.source run.does.output run.does.errors
-          ⊎ IsNamingCut (arrival_at fields e.now) run.does.source run.does.output run.does.errors → GoesWell run WriteFault
+      by_cut : IsAnswerCut e.query (arrival_at fields now) run.does.source run.does.output run.does.errors
+          ⊎ IsNamingCut (arrival_at fields now) run.does.source run.does.output run.does.errors → GoesWell run WriteFault
       by_cut (inl cut) = absurd (output cut.written.failed)
       by_cut (inr cut) = absurd (errors cut.fault.named.failed)
-  well fields text DoorFault is e source output errors = absurd e.ends
-  well fields text Limit is e source output errors = tt
-  well fields text NoMemory is e source output errors = tt
+  well fields text now DoorFault is first e source output errors = absurd e.ends
+  well fields text now Limit is first e source output errors = tt
+  well fields text now NoMemory is first e source output errors = tt
 
   well_refused : (refusal : QueryRefusal) (status : Status) → refusal ≡ Memory
       → ReportsRefused run.does.errors refusal status → GoesWell run status
@@ -117,8 +127,9 @@ module _ (run : Run) where
   goes_well : (command : Command) (status : Status) → IsCommand run.words command → EndsCommand run.does command status
       → IsAsked command → (HasFailed run.does.source → ⊥) → (HasFailed run.does.output → ⊥)
       → (HasFailed run.does.errors → ⊥) → GoesWell run status
-  goes_well (Pipe fields text) status is (inl e) asked source output errors = well fields text status is e source output errors
-  goes_well (Pipe fields text) status is (inr e) asked source output errors =
+  goes_well (Pipe fields text) status is (now, first, inl e) asked source output errors =
+      well fields text now status is first e source output errors
+  goes_well (Pipe fields text) status is (now, first, inr e) asked source output errors =
       well_refused e.refusal status (e.free asked) e.said
   goes_well (Trial seed rows) status is e asked source output errors = absurd asked
   goes_well (Serve http syslog workers) status is e asked source output errors = absurd asked
@@ -141,12 +152,12 @@ module _ (run : Run) where
   server_goes (Pipe fields text) status e serve doors = absurd serve
   server_goes (Trial seed rows) status e serve doors = absurd serve
   server_goes (Serve http syslog workers) Done e serve doors = inl refl
-  server_goes (Serve http syslog workers) QueryRefused e serve doors = absurd e.2
-  server_goes (Serve http syslog workers) Usage e serve doors = absurd e.2
-  server_goes (Serve http syslog workers) ReadFault e serve doors = absurd e.2
-  server_goes (Serve http syslog workers) WriteFault e serve doors = absurd e.2
-  server_goes (Serve http syslog workers) DoorFault e serve doors = absurd (doors e.2.0)
-  server_goes (Serve http syslog workers) Limit e serve doors = absurd e.2
+  server_goes (Serve http syslog workers) QueryRefused e serve doors = absurd e.2.0
+  server_goes (Serve http syslog workers) Usage e serve doors = absurd e.2.0
+  server_goes (Serve http syslog workers) ReadFault e serve doors = absurd e.2.0
+  server_goes (Serve http syslog workers) WriteFault e serve doors = absurd e.2.0
+  server_goes (Serve http syslog workers) DoorFault e serve doors = absurd (doors e.2.0.0)
+  server_goes (Serve http syslog workers) Limit e serve doors = absurd e.2.0
   server_goes (Serve http syslog workers) NoMemory e serve doors = inr refl
 
 -- ---- a run
@@ -168,20 +179,8 @@ module _ (run : Run) where
     server = λ other. server_goes run command status ends (subst IsServe (one other.0 command other.1 is) other.2);
   }
 
-  pub usage_runs : IsNoCommand run.words → IsTold run.does.errors [] usage_text → run.status ≡ status_number Usage
-      → IsRun run
-  usage_runs none told number = record {
-    status = Usage;
-    number = number;
-    says = (none, told);
-    unusable = λ _. inl refl;
-    unasked = λ other. absurd (none other.0 other.1);
-    query = λ other. absurd (none other.0 other.1);
-    trial = λ other. absurd (none other.0 other.1);
-    server = λ other. absurd (none other.0 other.1);
-  }
-
-  pub no_memory_runs : IsUnread run.does.source → IsTold run.does.errors [] (stop_text no_memory)
+  -- memory ran out, and nothing was read
+  pub no_memory_runs : IsUnread run.does.source → IsTold run.does.errors [] no_memory_text
       → run.status ≡ status_number NoMemory → IsRun run
   no_memory_runs unread told number = record {
     status = NoMemory;
@@ -194,8 +193,19 @@ module _ (run : Run) where
     server = λ _ _. inr refl;
   }
 
--- a trial of the words is within its limit
-pub bounded : (words : List (List ℕ)) (command : Command) → IsCommand words command → IsBounded command
-bounded words (Pipe fields text) is = tt
-bounded words (Trial seed rows) is = is.said.1.few
-bounded words (Serve http syslog workers) is = tt
+  -- no command was read
+  pub usage_runs : (fault : UsageFault) (status : Status) → (fault ≡ faults.Usage → IsNoCommand run.words)
+      → IsUnread run.does.source → ReportsUsage run.does.errors fault status → run.status ≡ status_number status
+      → IsRun run
+  usage_runs fault status none unread (inl told) number = record {
+    status = Usage;
+    number = number ∙ ap status_number told.0;
+    says = (none told.1, told.2);
+    unusable = λ _. inl refl;
+    unasked = λ other. absurd (none told.1 other.0 other.1);
+    query = λ other. absurd (none told.1 other.0 other.1);
+    trial = λ other. absurd (none told.1 other.0 other.1);
+    server = λ other. absurd (none told.1 other.0 other.1);
+  }
+  usage_runs fault status none unread (inr told) number =
+      no_memory_runs unread told.1 (number ∙ ap status_number told.0)

@@ -1,11 +1,13 @@
 -- How a server ends, by how its doors were served.
-use Rattle.std.proofs.Common.{◌≡◌, ℕ, suc, ◌+◌, ◌<◌, Bool, true, false, cond, List, [], ◌∷◌, ap, refl, arith}
+use Rattle.std.proofs.Common.{◌≡◌, ℕ, zero, suc, ◌+◌, ◌<◌, Bool, true, false, cond, List, [], ◌∷◌, ap, refl, subst, sym, arith}
 use Rattle.std.specs.Prelude.{count_by}
 use Rattle.std.specs.List.{AllByRecursion, AllZip}
 use Rattle.std.proofs.lemmas.List.Sums.{sum_by-cons}
-use Rattle.vl_io.specs.Visits.{HasNoVisit}
-use Rattle.vl_serve.specs.Doors.{AreServed, DoorChange, HasFailed, IsServed}
-use Rattle.vl_top.specs.Server.{AreDone, HasFailedDoor}
+use Rattle.vl_status.specs.declared.status.Status.{Status}
+use Rattle.vl_status.specs.declared.status.Status.TheVariants as statuses
+use Rattle.vl_top.specs.Doors.{AreServed, DoorChange, IsOver, IsServed}
+use Rattle.vl_top.specs.Server.{AreDone, AreEnded, HasFailedDoor}
+use Rattle.vl_top.specs.declared.serving.ServeEnd.{ServeEnd}
 
 counted : (is_fault : Bool) (ends : List Bool)
     → count_by (λ b. b) (is_fault ∷ ends) ≡ cond is_fault 1 0 + count_by (λ b. b) ends
@@ -30,12 +32,29 @@ none_failed (door ∷ doors) (true ∷ ends) each none = absurd (omega (arith, c
 none_failed (door ∷ doors) (false ∷ ends) each none =
     (each.0, none_failed doors ends each.1 (omega (arith, counted false ends, none)))
 
-pub has_failed : (doors : List DoorChange) (door_faults : ℕ) → AreServed doors door_faults → 0 < door_faults
+has_failed : (doors : List DoorChange) (door_faults : ℕ) → AreServed doors door_faults → 0 < door_faults
     → HasFailedDoor doors
 has_failed doors door_faults served some =
     some_failed doors served.ends served.each (omega (arith, served.counted, some))
 
-pub are_done : (doors : List DoorChange) (door_faults : ℕ) → AreServed doors door_faults → door_faults ≡ 0
+are_done : (doors : List DoorChange) (door_faults : ℕ) → AreServed doors door_faults → door_faults ≡ 0
     → AreDone doors
 are_done doors door_faults served none =
     none_failed doors served.ends served.each (omega (arith, served.counted, none))
+
+-- What the doors came to, by how serving ended and the status that is said of it.
+pub ends_server : (doors : List DoorChange) (end : ServeEnd) (status : Status) → AreServed doors end.door_faults
+    → AllByRecursion IsOver doors → (end.memory ≡ true → status ≡ statuses.NoMemory)
+    → (end.memory ≡ false → 0 < end.door_faults → status ≡ statuses.DoorFault)
+    → (end.memory ≡ false → end.door_faults ≡ 0 → status ≡ statuses.Done) → AreEnded doors status
+ends_server doors end status served over memory fault done = by_memory end.memory refl
+  where
+    by_faults : end.memory ≡ false → (count : ℕ) → end.door_faults ≡ count → AreEnded doors status
+    by_faults none zero is = subst (AreEnded doors) (sym (done none is)) (are_done doors end.door_faults served is)
+    by_faults none (suc count) is =
+        let some : 0 < end.door_faults = omega (arith, is) in
+        subst (AreEnded doors) (sym (fault none some)) (has_failed doors end.door_faults served some, over)
+
+    by_memory : (memory : Bool) → end.memory ≡ memory → AreEnded doors status
+    by_memory true is = subst (AreEnded doors) (sym (memory is)) tt
+    by_memory false is = by_faults is end.door_faults refl

@@ -1,7 +1,7 @@
 -- What is done with doors, and what is seen of the history meanwhile.
 use Rattle.std.specs.Prelude.{◌≡◌, ◌⊎◌, ℕ, ◌+◌, ◌-◌, ◌^◌, ◌==◌, nat_le, min, not, Bool, true, false, List, ◌++◌}
 use Rattle.std.specs.Prelude.{map, zip, count_by, Option, None, Some}
-use Rattle.std.specs.List.{AllByRecursion, AllZip}
+use Rattle.std.specs.List.{AllZip}
 use Rattle.vl_io.specs.Faults.{Rose}
 use Rattle.vl_io.specs.Visits.{HasNoVisit}
 use Rattle.log_model.specs.History.{History}
@@ -22,20 +22,20 @@ module _ {D : Type 0} (left : D → Option ℕ) (faults : D → ℕ) where
   door_changes olds news = map (λ pair. door_change pair.0 pair.1) (zip olds news)
 
 -- the door failed
-abbrev pub HasFailed : DoorChange → Type 0
-HasFailed change = Rose change.faults_before change.faults_after
+abbrev pub IsFailed : DoorChange → Type 0
+IsFailed change = Rose change.faults_before change.faults_after
 
 -- No more of it is served: it failed, or no visit is left.
 abbrev pub IsOver : DoorChange → Type 0
-IsOver change = HasFailed change ⊎ HasNoVisit change.left
+IsOver change = IsFailed change ⊎ HasNoVisit change.left
 
 -- Its visits were served to the end, and that was a fault or not.
 abbrev pub IsServed : DoorChange → Bool → Type 0
-IsServed change true = HasFailed change
+IsServed change true = IsFailed change
 IsServed change false = HasNoVisit change.left
 
-abbrev pub has_failed : DoorChange → Bool
-has_failed change = nat_le (min (change.faults_before + 1) (2 ^ 64 - 1)) change.faults_after
+abbrev pub is_failed : DoorChange → Bool
+is_failed change = nat_le (min (change.faults_before + 1) (2 ^ 64 - 1)) change.faults_after
 
 abbrev pub are_left : Option ℕ → Bool
 are_left None = false

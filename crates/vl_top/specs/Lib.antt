@@ -1,3 +1,5 @@
+pub mod Doors
 pub mod Run
 pub mod Server
 pub mod Trial
+pub mod Workers

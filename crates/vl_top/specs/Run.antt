@@ -1,5 +1,5 @@
 -- What one run of the program does to the objects of the outside.
-use Rattle.std.specs.Prelude.{◌≡◌, ◌⊎◌, ℕ, ◌≤◌, ◌++◌, ◌∷◌, List, [], Option, codes}
+use Rattle.std.specs.Prelude.{◌≡◌, ◌⊎◌, ℕ, ◌++◌, ◌∷◌, List, [], Option}
 use Rattle.std.specs.List.{AllByRecursion}
 use Rattle.vl_io.specs.Change.{Change, HasFailed, IsTold, IsUntold}
 use Rattle.vl_io.specs.Moments.{FirstTold}
@@ -7,18 +7,22 @@ use Rattle.lq_ast.specs.Question.{Question}
 use Rattle.lq_grammar.specs.Query.{IsQueryText}
 use Rattle.query_run.specs.Asked.{IsNoReadableQuery, IsReadableQuery}
 use Rattle.command_line.specs.Asked.{IsCommand}
+use Rattle.command_line.specs.Faults.{fault_text}
 use Rattle.command_line.specs.declared.command.Command.{Command}
 use Rattle.command_line.specs.declared.command.Command.TheVariants.{Pipe, Trial, Serve}
+use Rattle.command_line.specs.declared.fault.UsageFault.{UsageFault}
+use Rattle.command_line.specs.declared.fault.UsageFault.TheVariants as faults
 use Rattle.vl_pipe.specs.Ended.{IsAnswerCut, IsAnswered, IsNamingCut, IsStopped, IsUnanswered}
 use Rattle.vl_pipe.specs.Groups.{arrival_at}
 use Rattle.vl_pipe.specs.Pipe.{IsPiped, IsUnread, PipeRun}
 use Rattle.vl_pipe.specs.Program.{IsRefusedText, Limit, Refusal, Stop, beyond, no_memory, refusal_text, said_of_query}
-use Rattle.vl_pipe.specs.Program.{stop_text, unreadable}
-use Rattle.vl_pipe.specs.Status.{status_number}
-use Rattle.vl_pipe.specs.declared.status.Status.{Status}
-use Rattle.vl_pipe.specs.declared.status.Status.TheVariants.{Done, DoorFault, Limit as AtLimit, NoMemory, QueryRefused}
-use Rattle.vl_pipe.specs.declared.status.Status.TheVariants.{ReadFault, Usage, WriteFault}
-use Rattle.vl_serve.specs.Doors.{DoorChange, IsOver}
+use Rattle.vl_pipe.specs.Program.{unreadable}
+use Rattle.vl_status.specs.Said.{no_memory_text}
+use Rattle.vl_status.specs.Status.{status_number}
+use Rattle.vl_status.specs.declared.status.Status.{Status}
+use Rattle.vl_status.specs.declared.status.Status.TheVariants.{Done, DoorFault, Limit as AtLimit, NoMemory, QueryRefused}
+use Rattle.vl_status.specs.declared.status.Status.TheVariants.{ReadFault, Usage, WriteFault}
+use Rattle.vl_top.specs.Doors.{DoorChange, IsOver}
 use Rattle.vl_top.specs.Server.{AreDone, EndsServer, HasFailedDoor, door_fault_text}
 use Rattle.vl_top.specs.Trial.{EndsTrial, IsTrialCut, IsTrialDone}
 
@@ -50,24 +54,20 @@ IsNoCommand words = (command : Command) → IsCommand words command → ⊥
 -- the command asks a query that can be asked
 abbrev pub IsAsked : Command → Type 0
 IsAsked (Pipe fields text) = IsReadableQuery text
-IsAsked (Trial seed rows) = ⊥
-IsAsked (Serve http syslog workers) = ⊥
+IsAsked command = ⊥
 
 -- it asks one that cannot be asked
 abbrev pub CannotBeAsked : Command → Type 0
 CannotBeAsked (Pipe fields text) = IsNoReadableQuery text
-CannotBeAsked (Trial seed rows) = ⊥
-CannotBeAsked (Serve http syslog workers) = ⊥
+CannotBeAsked command = ⊥
 
 abbrev pub IsTrial : Command → Type 0
-IsTrial (Pipe fields text) = ⊥
 IsTrial (Trial seed rows) = Unit {0}
-IsTrial (Serve http syslog workers) = ⊥
+IsTrial command = ⊥
 
 abbrev pub IsServe : Command → Type 0
-IsServe (Pipe fields text) = ⊥
-IsServe (Trial seed rows) = ⊥
 IsServe (Serve http syslog workers) = Unit {0}
+IsServe command = ⊥
 
 -- the words have the input read
 abbrev pub Reads : List (List ℕ) → Type 0
@@ -108,43 +108,39 @@ IsCutShort does (Pipe fields text) =
     ⊎ IsNamingCut (arrival_at fields now) does.source does.output does.errors)
 IsCutShort does (Trial seed rows) =
     IsUnread does.source × ForMoment does (λ now. IsTrialCut seed rows now does.output does.errors)
-IsCutShort does (Serve http syslog workers) = ⊥
+IsCutShort does command = ⊥
 
 -- the query stopped for this cause
 abbrev pub HasStopped : Effects → Stop → Command → Type 0
 HasStopped does stop (Pipe fields text) =
     ForQuery does text (λ query now. IsStopped (arrival_at fields now) does.source does.errors stop)
-HasStopped does stop (Trial seed rows) = ⊥
-HasStopped does stop (Serve http syslog workers) = ⊥
+HasStopped does stop command = ⊥
 
 -- the query was refused before anything was read, for this cause, which is said
 abbrev pub IsRefused : Effects → Refusal → Command → Type 0
 IsRefused does refusal (Pipe fields text) =
     IsRefusedText text refusal × IsUnread does.source × IsTold does.errors [] (said_of_query (refusal_text refusal))
-IsRefused does refusal (Trial seed rows) = ⊥
-IsRefused does refusal (Serve http syslog workers) = ⊥
+IsRefused does refusal command = ⊥
 
 -- the evaluation of the query overflows
 abbrev pub HasNoAnswer : Effects → Command → Type 0
 HasNoAnswer does (Pipe fields text) =
     ForQuery does text (λ query now. IsUnanswered query (arrival_at fields now) does.source does.errors)
-HasNoAnswer does (Trial seed rows) = ⊥
-HasNoAnswer does (Serve http syslog workers) = ⊥
+HasNoAnswer does command = ⊥
 
 -- Each door was served until it failed or had no visit left, and one failed, which is said.
 abbrev pub IsDoorFault : Effects → Command → Type 0
-IsDoorFault does (Pipe fields text) = ⊥
-IsDoorFault does (Trial seed rows) = ⊥
 IsDoorFault does (Serve http syslog workers) =
     IsUnread does.source × HasFailedDoor does.doors × AllByRecursion IsOver does.doors
     × IsTold does.errors [] door_fault_text
+IsDoorFault does command = ⊥
 
 -- memory ran out, and nothing was read
 abbrev pub IsUnstarted : Effects → Type 0
-IsUnstarted does = IsUnread does.source × IsTold does.errors [] (stop_text no_memory)
+IsUnstarted does = IsUnread does.source × IsTold does.errors [] no_memory_text
 
 abbrev pub usage_text : List ℕ
-usage_text = codes "usage: pipe, load, query, trial or serve" ++ 10 ∷ []
+usage_text = fault_text faults.Usage ++ 10 ∷ []
 
 -- What each status says.
 abbrev pub Says : Run → Status → Type 0
@@ -167,12 +163,9 @@ Says run NoMemory = IsUnstarted run.does ⊎ ForCommand run.words (HasStopped ru
 abbrev pub GoesWell : Run → Status → Type 0
 GoesWell run Done = Unit {0}
 GoesWell run QueryRefused = ForCommand run.words (HasNoAnswer run.does)
-GoesWell run Usage = ⊥
-GoesWell run ReadFault = ⊥
-GoesWell run WriteFault = ⊥
-GoesWell run DoorFault = ⊥
 GoesWell run AtLimit = Unit {0}
 GoesWell run NoMemory = Unit {0}
+GoesWell run status = ⊥
 
 -- What the status says is so. Want of memory alone is free.
 pub record IsRun (run : Run) : Type 0 where
@@ -189,27 +182,25 @@ pub record IsRun (run : Run) : Type 0 where
 
 -- ---- commands that were read
 
--- what `pipe` is asked, and what it does
-abbrev pub pipe_run : Effects → Option (List ℕ) → List ℕ → PipeRun
-pipe_run does fields text = record {
-  asked = record { stream_fields = fields; query = text };
+-- what is said of words of which no command was read, and the status that it gives
+abbrev pub ReportsUsage : Change → UsageFault → Status → Type 0
+ReportsUsage errors fault status =
+    ((status ≡ Usage) × (fault ≡ faults.Usage) × IsTold errors [] usage_text)
+    ⊎ ((status ≡ NoMemory) × IsTold errors [] no_memory_text)
+
+-- what `pipe` is asked at this moment, and what it does
+abbrev pub pipe_run : Effects → Option (List ℕ) → List ℕ → ℕ → PipeRun
+pipe_run does fields text now = record {
+  asked = record { arrival = arrival_at fields now; query = text };
   source = does.source;
   output = does.output;
   errors = does.errors;
-  moments_before = does.moments_before;
-  moments_after = does.moments_after;
 }
 
 -- how a command ends, by its status
 abbrev pub EndsCommand : Effects → Command → Status → Type 0
-EndsCommand does (Pipe fields text) status = IsPiped (pipe_run does fields text) status
+EndsCommand does (Pipe fields text) status = ForMoment does (λ now. IsPiped (pipe_run does fields text now) status)
 EndsCommand does (Trial seed rows) status =
     IsUnread does.source × ForMoment does (λ now. EndsTrial seed rows now does.output does.errors status)
 EndsCommand does (Serve http syslog workers) status =
     IsUnread does.source × IsUntold does.output × EndsServer does.errors does.doors status
-
--- the number of rows of a trial is within its limit
-abbrev pub IsBounded : Command → Type 0
-IsBounded (Pipe fields text) = Unit {0}
-IsBounded (Trial seed rows) = rows ≤ 1_000_000
-IsBounded (Serve http syslog workers) = Unit {0}

@@ -3,10 +3,10 @@ use Rattle.std.specs.Prelude.{◌≡◌, ℕ, ◌++◌, ◌∷◌, List, [], cod
 use Rattle.std.specs.List.{AllByRecursion}
 use Rattle.vl_io.specs.Change.{Change, IsTold, IsUntold}
 use Rattle.vl_io.specs.Visits.{HasNoVisit}
-use Rattle.vl_pipe.specs.Program.{no_memory, stop_text}
-use Rattle.vl_pipe.specs.declared.status.Status.{Status}
-use Rattle.vl_pipe.specs.declared.status.Status.TheVariants as statuses
-use Rattle.vl_serve.specs.Doors.{DoorChange, HasFailed, IsOver}
+use Rattle.vl_status.specs.Said.{no_memory_text}
+use Rattle.vl_status.specs.declared.status.Status.{Status}
+use Rattle.vl_status.specs.declared.status.Status.TheVariants as statuses
+use Rattle.vl_top.specs.Doors.{DoorChange, IsFailed, IsOver}
 
 abbrev pub door_fault_text : List ℕ
 door_fault_text = codes "door fault" ++ 10 ∷ []
@@ -21,16 +21,22 @@ pub record HasFailedDoor (doors : List DoorChange) : Type 0 where
   pub door : DoorChange
   pub behind : List DoorChange
   pub are : doors ≡ before ++ door ∷ behind
-  pub failed : HasFailed door
+  pub failed : IsFailed door
 
--- how a server ends, by its status
+-- what is said of how a server ended, by its status
+abbrev pub TellsEnd : Change → Status → Type 0
+TellsEnd errors statuses.Done = IsUntold errors
+TellsEnd errors statuses.DoorFault = IsTold errors [] door_fault_text
+TellsEnd errors statuses.NoMemory = IsTold errors [] no_memory_text
+TellsEnd errors status = ⊥
+
+-- what the doors came to, by the status
+abbrev pub AreEnded : List DoorChange → Status → Type 0
+AreEnded doors statuses.Done = AreDone doors
+AreEnded doors statuses.DoorFault = HasFailedDoor doors × AllByRecursion IsOver doors
+AreEnded doors statuses.NoMemory = Unit {0}
+AreEnded doors status = ⊥
+
+-- How a server ends. Where memory runs out that is the status, whatever the doors came to.
 abbrev pub EndsServer : Change → List DoorChange → Status → Type 0
-EndsServer errors doors statuses.Done = AreDone doors × IsUntold errors
-EndsServer errors doors statuses.QueryRefused = ⊥
-EndsServer errors doors statuses.Usage = ⊥
-EndsServer errors doors statuses.ReadFault = ⊥
-EndsServer errors doors statuses.WriteFault = ⊥
-EndsServer errors doors statuses.DoorFault =
-    HasFailedDoor doors × AllByRecursion IsOver doors × IsTold errors [] door_fault_text
-EndsServer errors doors statuses.Limit = ⊥
-EndsServer errors doors statuses.NoMemory = IsTold errors [] (stop_text no_memory)
+EndsServer errors doors status = AreEnded doors status × TellsEnd errors status

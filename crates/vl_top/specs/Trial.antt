@@ -1,9 +1,9 @@
 -- How a trial ends.
-use Rattle.std.specs.Prelude.{◌≡◌, ℕ, List, []}
+use Rattle.std.specs.Prelude.{ℕ, List, []}
 use Rattle.vl_io.specs.Change.{Change, IsCut, IsTold, IsUntold, Took}
-use Rattle.vl_pipe.specs.Program.{no_memory, stop_text}
-use Rattle.vl_pipe.specs.declared.status.Status.{Status}
-use Rattle.vl_pipe.specs.declared.status.Status.TheVariants as statuses
+use Rattle.vl_status.specs.Said.{no_memory_text}
+use Rattle.vl_status.specs.declared.status.Status.{Status}
+use Rattle.vl_status.specs.declared.status.Status.TheVariants as statuses
 use Rattle.vl_trial.specs.Answer.{IsTrialAnswer}
 
 -- The answer was written.
@@ -18,15 +18,11 @@ IsTrialCut seed rows now output errors =
 
 -- Memory ran out, and nothing was written.
 abbrev pub IsTrialStopped : Change → Change → Type 0
-IsTrialStopped output errors = IsUntold output × IsTold errors [] (stop_text no_memory)
+IsTrialStopped output errors = IsUntold output × IsTold errors [] no_memory_text
 
 -- how a trial ends, by its status
 abbrev pub EndsTrial : ℕ → ℕ → ℕ → Change → Change → Status → Type 0
 EndsTrial seed rows now output errors statuses.Done = IsTrialDone seed rows now output errors
-EndsTrial seed rows now output errors statuses.QueryRefused = ⊥
-EndsTrial seed rows now output errors statuses.Usage = ⊥
-EndsTrial seed rows now output errors statuses.ReadFault = ⊥
 EndsTrial seed rows now output errors statuses.WriteFault = IsTrialCut seed rows now output errors
-EndsTrial seed rows now output errors statuses.DoorFault = ⊥
-EndsTrial seed rows now output errors statuses.Limit = ⊥
 EndsTrial seed rows now output errors statuses.NoMemory = IsTrialStopped output errors
+EndsTrial seed rows now output errors status = ⊥

@@ -1,10 +1,10 @@
 -- The workers of doors.
-use Rattle.std.specs.Prelude.{◌≡◌, ℕ, Bool, false, ⊤, List, map, count_by, MatchOption, is_some}
-use Rattle.std.specs.List.{AllByRecursion, AllZip}
+use Rattle.std.specs.Prelude.{◌≡◌, ℕ, Bool, ⊤, List, map, count_by, MatchOption, is_some}
+use Rattle.std.specs.List.{AllZip}
 use Rattle.turn_lock.specs.Passes.{IsPassOf, LockId, PassState}
 use Rattle.log_core.specs.declared.entries.EntryRows.{EntryRows}
-use Rattle.vl_serve.specs.Doors.{DoorChange, IsServed}
-use Rattle.vl_serve.specs.declared.worker.Worker.{Worker}
+use Rattle.vl_top.specs.Doors.{DoorChange, IsServed}
+use Rattle.vl_top.specs.declared.worker.Worker.{Worker}
 
 -- The pass is of this desk, and may not settle.
 abbrev pub IsWorkersPass : LockId → PassState EntryRows → Type 0

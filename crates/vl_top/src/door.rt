@@ -2,7 +2,7 @@
 ghost use Rattle.std.specs.Prelude.{◌≡◌, true, false};
 ghost use Rattle.turn_lock.specs.Passes.{IsPassOf};
 ghost use Rattle.log_desk.specs.Seen.{caller_of, seen_of};
-ghost use Rattle.vl_serve.specs.Doors.{GoesOn, IsServed, door_change};
+ghost use Rattle.vl_top.specs.Doors.{GoesOn, IsServed, door_change};
 
 use crate::visit::serve_visit;
 use log_desk::{Desk, Pass};

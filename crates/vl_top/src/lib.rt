@@ -3,24 +3,31 @@
 
 ghost use Rattle.std.specs.Prelude.{◌≡◌, ◌≢◌, ◌≤◌, length, map};
 ghost use Rattle.vl_io.specs.Change.{change_of};
-ghost use Rattle.vl_serve.specs.Doors.{door_changes};
+ghost use Rattle.vl_top.specs.Doors.{door_changes};
 ghost use Rattle.vl_top.specs.Run.{IsRun, Reads, Serves};
 
-mod command;
+mod door;
 mod report;
 mod server;
+mod serving;
 mod trial;
+mod visit;
+mod words;
+mod worker;
 
-use command::run_command;
 use command_line::command_law;
-pub use command_line::{Command, UsageFault, read_words};
+pub use command_line::{Command, UsageFault};
 pub use report::report_usage;
+use server::run_server;
+pub use serving::{ServeEnd, serve};
 use std::alloc::AllocGlobal;
 use std::sync::Wait;
 use std::thread::Threads;
+use trial::{Trial, run_trial};
 use vl_io::{Clock, Doors, Sink, Source};
-pub use vl_pipe::{Status, report_no_memory};
-pub use vl_serve::{ServeEnd, serve};
+use vl_pipe::{Arrival, Pipe, run_pipe};
+use vl_status::report_no_memory;
+pub use words::read_words;
 
 /// Does what the words ask for, and answers the status that the process ends with.
 ///
@@ -74,8 +81,22 @@ where
 {
     command_law();
     match read_words(rt.alloc(), words) {
-        Ok(command) => run_command(rt, command, src, out, err, doors, clock).number(),
-        Err(UsageFault::Usage) => report_usage(err).number(),
-        Err(UsageFault::Memory) => report_no_memory(err).number(),
+        Ok(
+            Command::Pipe {
+                stream_fields,
+                query,
+            },
+        ) => {
+            let Ok(arrival) = Arrival::at(rt.alloc(), &stream_fields, clock.now()) else {
+                return report_no_memory(err).number();
+            };
+            let asked = Pipe { arrival, query };
+            run_pipe(rt, &asked, src, out, err).number()
+        }
+        Ok(Command::Trial { seed, rows }) => {
+            run_trial(rt, Trial { seed, rows }, out, err, clock).number()
+        }
+        Ok(Command::Serve { .. }) => run_server(rt, err, doors, clock).number(),
+        Err(fault) => report_usage(rt.alloc(), fault, err).number(),
     }
 }

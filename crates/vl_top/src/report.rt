@@ -1,23 +1,49 @@
 //! What is said of words and of doors.
-ghost use Rattle.std.specs.Prelude.{◌≡◌, []};
+ghost use Rattle.std.specs.Prelude.{◌≡◌, ◌<◌, [], false, true};
 ghost use Rattle.vl_io.specs.Change.{IsTold, change_of};
-ghost use Rattle.vl_top.specs.Run.{usage_text};
-ghost use Rattle.vl_top.specs.Server.{door_fault_text};
+ghost use Rattle.vl_top.specs.Run.{ReportsUsage};
+ghost use Rattle.vl_top.specs.Server.{TellsEnd, door_fault_text};
 
+use crate::serving::ServeEnd;
+use command_line::UsageFault;
+use std::alloc::Global;
 use vl_io::Sink;
-use vl_pipe::{Status, say};
+use vl_status::{Status, report_no_memory, say};
 
-/// The words are no command.
-pub fn report_usage<E: Sink>(err: &mut E) -> Status
-    ensures status { result ≡ Status.Usage }
-    ensures said { IsTold (change_of E.written E.faults err.old err.new) [] usage_text }
+/// The words are no command. Where there is no memory to read them, or to say so, that is what is said.
+pub fn report_usage<E: Sink>(alloc: Global, fault: UsageFault, err: &mut E) -> Status
+    ensures { ReportsUsage (change_of E.written E.faults err.old err.new) fault result }
 {
-    say(err, "usage: pipe, load, query, trial or serve\n");
-    Status::Usage
+    if fault == UsageFault::Memory {
+        return report_no_memory(err);
+    }
+    match format!(in alloc; "{fault}\n") {
+        Ok(text) => {
+            say(err, text.as_str());
+            Status::Usage
+        }
+        Err(_) => report_no_memory(err),
+    }
+}
+
+/// How serving ended: want of memory before a door that failed.
+pub(crate) fn report_end<E: Sink>(end: &ServeEnd, err: &mut E) -> Status
+    ensures memory { end.now.memory ≡ true → result ≡ Status.NoMemory }
+    ensures fault { end.now.memory ≡ false → 0 < end.now.door_faults → result ≡ Status.DoorFault }
+    ensures done { end.now.memory ≡ false → end.now.door_faults ≡ 0 → result ≡ Status.Done }
+    ensures said { TellsEnd (change_of E.written E.faults err.old err.new) result }
+{
+    if end.memory {
+        return report_no_memory(err);
+    }
+    if end.door_faults > 0 {
+        return report_door_fault(err);
+    }
+    Status::Done
 }
 
 /// A door failed.
-pub(crate) fn report_door_fault<E: Sink>(err: &mut E) -> Status
+fn report_door_fault<E: Sink>(err: &mut E) -> Status
     ensures status { result ≡ Status.DoorFault }
     ensures said { IsTold (change_of E.written E.faults err.old err.new) [] door_fault_text }
 {

@@ -1,19 +1,19 @@
 //! The server.
 ghost use Rattle.std.specs.Prelude.{◌≡◌, ◌≤◌, length};
 ghost use Rattle.vl_io.specs.Change.{change_of};
-ghost use Rattle.vl_serve.specs.Doors.{door_changes};
+ghost use Rattle.vl_top.specs.Doors.{door_changes};
 ghost use Rattle.vl_top.specs.Server.{EndsServer};
 
-use crate::report::report_door_fault;
+use crate::report::report_end;
+use crate::serving::serve;
 use log_desk::Desk;
 use std::alloc::AllocGlobal;
 use std::sync::Wait;
 use std::thread::Threads;
 use vl_io::{Clock, Doors, Sink};
-use vl_pipe::{Status, report_no_memory};
-use vl_serve::serve;
+use vl_status::{Status, report_no_memory};
 
-/// Serves the doors over a new desk, and says how that ended: want of memory before a door that failed.
+/// Serves the doors over a new desk, and says how that ended.
 pub(crate) fn run_server<
     R: AllocGlobal + Threads + Wait + Sync,
     E: Sink,
@@ -28,7 +28,6 @@ where
     ensures ends { EndsServer (change_of E.written E.faults err.old err.new)
         (door_changes D.left D.faults doors.old.items doors.new.items) result }
     ensures doors { length doors.new.items ≡ length doors.old.items }
-    ensures clock { clock.new ≡ clock.old }
 {
     // One pass for each door, and the one that they are split from.
     let passes = doors.len() as u32 + 1;
@@ -36,11 +35,5 @@ where
         return report_no_memory(err);
     };
     let end = serve(rt, rt.alloc(), &desk, &mut pass, doors, clock);
-    if end.memory {
-        report_no_memory(err)
-    } else if end.door_faults > 0 {
-        report_door_fault(err)
-    } else {
-        Status::Done
-    }
+    report_end(&end, err)
 }

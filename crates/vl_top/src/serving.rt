@@ -3,8 +3,8 @@ ghost use Rattle.std.specs.Prelude.{◌≡◌, ◌<◌, ◌≤◌, All, [], coun
 ghost use Rattle.std.specs.List.{AllByRecursion, AllZip};
 ghost use Rattle.turn_lock.specs.Passes.{IsPassOf};
 ghost use Rattle.log_desk.specs.Seen.{seen_of};
-ghost use Rattle.vl_serve.specs.Doors.{AreServed, GoesOn, IsOver, door_change, door_changes, has_failed, has_visits};
-ghost use Rattle.vl_serve.specs.Workers.{HasWorked, HaveEnded, IsOfDesk};
+ghost use Rattle.vl_top.specs.Doors.{AreServed, GoesOn, IsOver, door_change, door_changes, is_failed, has_visits};
+ghost use Rattle.vl_top.specs.Workers.{HasWorked, HaveEnded, IsOfDesk};
 
 use crate::door::serve_door;
 use crate::worker::Worker;
@@ -51,14 +51,14 @@ where
     ensures over { AllByRecursion IsOver (door_changes D.left D.faults doors.old.items doors.new.items) }
 
     // Doors that failed are counted, and all are that have visits left.
-    ensures most { result.door_faults ≤ count_by has_failed
+    ensures most { result.door_faults ≤ count_by is_failed
         (door_changes D.left D.faults doors.old.items doors.new.items) }
     ensures least { count_by has_visits (door_changes D.left D.faults doors.old.items doors.new.items)
         ≤ result.door_faults }
     ensures pass { IsPassOf desk.now pass.new }
     ensures may_settle { pass.new.may_settle ≡ pass.old.may_settle }
     ensures goes_on { GoesOn (seen_of pass.old) (seen_of pass.new) }
-    ensures clock { clock.new ≡ clock.old }
+    ensures clock { C.moments clock.new ≡ C.moments clock.old }
 {
     let count = doors.len();
     let (Ok(workers), Ok(room)) = (
@@ -70,16 +70,16 @@ where
             memory: true,
         };
     };
-    let mut workers = hire(desk, pass, mem::replace(doors, room), workers);
+    let mut workers = assign_workers(desk, pass, mem::replace(doors, room), workers);
     work_side_by_side(rt, alloc, desk, workers.as_mut_slice());
     ServeEnd {
-        door_faults: gather(rt, alloc, desk, pass, workers, doors),
+        door_faults: join_workers(rt, desk, pass, workers, doors),
         memory: false,
     }
 }
 
 /// Gives each door a worker, for whom there is room, and a pass, while there are more.
-fn hire<D: Doors + Drop>(
+fn assign_workers<D: Doors + Drop>(
     desk: &Desk,
     pass: &mut Pass,
     doors: Vec<D>,
@@ -137,9 +137,8 @@ where
 
 /// Puts the doors of the workers back, for whom there is room, and their passes into this one. It answers how many
 /// doors ended at a fault. The doors of workers without a pass are served now.
-fn gather<R: Wait, D: Doors + Drop>(
+fn join_workers<R: Wait, D: Doors + Drop>(
     rt: &R,
-    alloc: Global,
     desk: &Desk,
     pass: &mut Pass,
     workers: Vec<Worker<D>>,
@@ -154,9 +153,10 @@ fn gather<R: Wait, D: Doors + Drop>(
     ensures may_settle { pass.new.may_settle ≡ pass.old.may_settle }
     ensures goes_on { GoesOn (seen_of pass.old) (seen_of pass.new) }
 {
+    let alloc = *doors.allocator();
     let mut door_faults = 0;
     for worker in workers {
-        let (door, is_fault) = worker.leave(rt, alloc, desk, pass);
+        let (door, is_fault) = worker.finish(rt, alloc, desk, pass);
         door_faults += u64::from(is_fault);
         let Ok(()) = doors.push(door) else {
             unreachable!()

@@ -2,7 +2,7 @@
 ghost use Rattle.std.specs.Prelude.{◌≡◌};
 ghost use Rattle.turn_lock.specs.Passes.{IsPassOf};
 ghost use Rattle.log_desk.specs.Seen.{caller_of, seen_of};
-ghost use Rattle.vl_serve.specs.Doors.{GoesOn};
+ghost use Rattle.vl_top.specs.Doors.{GoesOn};
 
 use log_desk::{Desk, Pass};
 use std::alloc::Global;

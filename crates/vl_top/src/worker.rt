@@ -2,8 +2,8 @@
 ghost use Rattle.std.specs.Prelude.{◌≡◌, All};
 ghost use Rattle.turn_lock.specs.Passes.{IsPassOf};
 ghost use Rattle.log_desk.specs.Seen.{seen_of};
-ghost use Rattle.vl_serve.specs.Doors.{GoesOn, IsServed, door_change};
-ghost use Rattle.vl_serve.specs.Workers.{EndsAs, HasWorked, IsOfDesk};
+ghost use Rattle.vl_top.specs.Doors.{GoesOn, IsServed, door_change};
+ghost use Rattle.vl_top.specs.Workers.{EndsAs, HasWorked, IsOfDesk};
 
 use crate::door::serve_door;
 use log_desk::{Desk, Pass};
@@ -35,7 +35,7 @@ impl<D: Doors + Drop> Worker<D> {
 
     /// Puts the worker's pass into this one, and gives its door, and whether that ended at a fault. The door of a
     /// worker without a pass is served now.
-    pub(crate) fn leave<R: Wait>(
+    pub(crate) fn finish<R: Wait>(
         self,
         rt: &R,
         alloc: Global,

@@ -11,7 +11,7 @@ use std::sync::{Arc, Wait};
 use std::test::Fail;
 use std::thread::Threads;
 use vl_io::{MemClock, MemDoors, SystemClock, Visit, VisitKind};
-use vl_serve::{ServeEnd, serve};
+use vl_top::{ServeEnd, serve};
 
 /// Doors whose visitors can wait for one another.
 pub(crate) type TestDoors<R> = MemDoors<WaitingSource<R>, CountingSink, MemClock>;

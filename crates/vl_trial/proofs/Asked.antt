@@ -7,12 +7,12 @@ use Rattle.lq_ast.specs.Evaluation.{evaluate}
 use Rattle.lq_ast.specs.Patterns.{CanBeRead, all_patterns}
 use Rattle.lq_ast.specs.Question.{Question}
 use Rattle.lq_grammar.specs.Query.{IsQueryText}
-use Rattle.trial_laws.specs.Safety.{AlwaysHasRecords}
+use Rattle.trial_laws.specs.Safety.{AlwaysEvaluates}
 use Rattle.trial_rows.specs.Trial.{trial_rows}
 use Rattle.vl_session.specs.Answer.{HasRecords}
 
 pub has_records : (text : List ℕ) (asked : Question) (now seed rows : ℕ) (history : History) → IsQueryText text asked
-    → all_patterns asked ≡ [] → AlwaysHasRecords asked → rows ≤ 1_000_000 → rows_of history ≡ trial_rows seed rows
+    → all_patterns asked ≡ [] → AlwaysEvaluates asked → rows ≤ 1_000_000 → rows_of history ≡ trial_rows seed rows
     → HasRecords text now history
 has_records text asked now seed rows history spelled none always few are =
     let found = always (pos now) seed rows few in (

@@ -1,4 +1,4 @@
-//! The self-test: rows that are made up, taken in as batches, and three queries over them.
+//! A trial: rows that are made up, taken in as batches, and three queries over them.
 #![tactic(auto)]
 
 mod trial;

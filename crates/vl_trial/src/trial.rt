@@ -42,9 +42,9 @@ pub fn trial_lines<R: Wait>(
     trial_law();
     let mut desk = LoneDesk::fresh(rt, alloc)?;
     insert_rows(&mut desk, alloc, seed, rows)?;
-    let counted = answer_lines(&mut desk, COUNTED, now)?;
-    let errors = answer_lines(&mut desk, ERRORS, now)?;
-    let slow = answer_lines(&mut desk, SLOW, now)?;
+    let counted = lines_of(&mut desk, COUNTED, now)?;
+    let errors = lines_of(&mut desk, ERRORS, now)?;
+    let slow = lines_of(&mut desk, SLOW, now)?;
     joined(alloc, counted.as_str(), errors.as_str(), slow.as_str())
 }
 
@@ -81,11 +81,7 @@ fn insert_rows<R: Wait>(
 }
 
 /// The lines of the answer to a query that has records.
-fn answer_lines<R: Wait>(
-    desk: &mut LoneDesk<'_, R>,
-    text: &str,
-    now: i64,
-) -> Result<Text, AllocError>
+fn lines_of<R: Wait>(desk: &mut LoneDesk<'_, R>, text: &str, now: i64) -> Result<Text, AllocError>
     requires has { HasRecords text.now (unsigned_abs now) desk.old.history }
     requires moment { pos 0 ≤ℤ now }
     ensures lines { IfOk result (AreLines text.now (unsigned_abs now) desk.old.history) }

@@ -1,8 +1,8 @@
 use Rattle.std.proofs.Common.{◌≡◌, ◌≤◌}
 use Rattle.turn_lock.specs.Passes.{IsPassOf}
 use Rattle.log_desk.specs.Seen.{caller_of, seen_of}
-use Rattle.vl_serve.specs.Doors.{GoesOn}
-use Rattle.vl_serve.proofs.door.serve_door.Given as goal
+use Rattle.vl_top.specs.Doors.{GoesOn}
+use Rattle.vl_top.proofs.door.serve_door.Given as goal
 
 abbrev pub invariant-visits : goal.invariant-visits
 invariant-visits g l =

@@ -3,8 +3,8 @@ use Rattle.std.specs.List.{AllByRecursion}
 use Rattle.std.specs.Vec.Iter.{into_iter_items}
 use Rattle.turn_lock.specs.Passes.{IsPassOf}
 use Rattle.log_desk.specs.Seen.{seen_of}
-use Rattle.vl_serve.specs.Workers.{IsOfDesk}
-use Rattle.vl_serve.proofs.serving.hire.Given as goal
+use Rattle.vl_top.specs.Workers.{IsOfDesk}
+use Rattle.vl_top.proofs.serving.assign_workers.Given as goal
 
 abbrev pub invariant-loop-door : goal.invariant-loop-door
 invariant-loop-door g l =

@@ -3,10 +3,10 @@ use Rattle.std.specs.List.{AllByRecursion}
 use Rattle.std.specs.Vec.Iter.{into_iter_items}
 use Rattle.turn_lock.specs.Passes.{IsPassOf}
 use Rattle.log_desk.specs.Seen.{seen_of}
-use Rattle.vl_serve.specs.Doors.{GoesOn, door_change}
-use Rattle.vl_serve.specs.Workers.{IsOfDesk}
-use Rattle.vl_serve.proofs.Ends.{HaveLeft}
-use Rattle.vl_serve.proofs.serving.gather.Given as goal
+use Rattle.vl_top.specs.Doors.{GoesOn, door_change}
+use Rattle.vl_top.specs.Workers.{IsOfDesk}
+use Rattle.vl_top.proofs.Ends.{HaveLeft}
+use Rattle.vl_top.proofs.serving.join_workers.Given as goal
 
 abbrev pub invariant-loop-worker : goal.invariant-loop-worker
 invariant-loop-worker g l =

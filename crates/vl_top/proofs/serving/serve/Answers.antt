@@ -1,10 +1,9 @@
-use Rattle.std.proofs.Common.{◌∙◌, ◌≡◌, ◌≤◌, ap, length, subst, arith}
-use Rattle.std.specs.Prelude.{count_by}
+use Rattle.std.proofs.Common.{◌∙◌, ◌≡◌, ap, length, subst, arith}
 use Rattle.std.specs.List.{AllZip}
-use Rattle.vl_serve.specs.Doors.{door_change, door_changes, has_failed, has_visits}
-use Rattle.vl_serve.specs.Workers.{HasWorked}
-use Rattle.vl_serve.proofs.Ends.{all_over, all_worked, are_served, as_many, at_least, at_most}
-use Rattle.vl_serve.proofs.serving.serve.Goals as goal
+use Rattle.vl_top.specs.Doors.{door_change}
+use Rattle.vl_top.specs.Workers.{HasWorked}
+use Rattle.vl_top.proofs.Ends.{all_over, all_worked, are_served, as_many, at_least, at_most}
+use Rattle.vl_top.proofs.serving.serve.Goals as goal
 
 pub returns-in_default-clause-over : goal.returns-in_default-clause-over
 returns-in_default-clause-over g c =
@@ -24,23 +23,23 @@ pub returns-clause-served : goal.returns-clause-served
 returns-clause-served g c =
     let change = door_change g.D.Doors.left g.D.Doors.faults in
     let worked = c.work_side_by_side.new.workers in
-    let same_len : c.hire-workers.result.len ≡ length worked = omega (arith, c.as_mut_slice.ensures.len, c.work_side_by_side.auto.workers) in
-    are_served change c.args.doors.now.items c.gather.new.doors.items c.hire-workers.result.items worked c.gather.result
-    (c.hire-workers.ensures.doors ∙ ap (λ doors. doors.items) c.replace.ensures.value)
+    let same_len : c.assign_workers-workers.result.len ≡ length worked = omega (arith, c.as_mut_slice.ensures.len, c.work_side_by_side.auto.workers) in
+    are_served change c.args.doors.now.items c.join_workers.new.doors.items c.assign_workers-workers.result.items worked c.join_workers.result
+    (c.assign_workers-workers.ensures.doors ∙ ap (λ doors. doors.items) c.replace.ensures.value)
     (subst (λ hired. AllZip (HasWorked change) hired worked) c.as_mut_slice.ensures.value c.work_side_by_side.ensures.worked)
-    (all_worked change c.hire-workers.result.len worked c.hire-workers.result.items c.gather.new.doors.items c.gather.result
-    same_len c.gather.ensures.ended)
+    (all_worked change c.assign_workers-workers.result.len worked c.assign_workers-workers.result.items c.join_workers.new.doors.items c.join_workers.result
+    same_len c.join_workers.ensures.ended)
 
 pub returns-clause-doors : goal.returns-clause-doors
 returns-clause-doors g c =
     let change = door_change g.D.Doors.left g.D.Doors.faults in
     let worked = c.work_side_by_side.new.workers in
-    let same_len : c.hire-workers.result.len ≡ length worked = omega (arith, c.as_mut_slice.ensures.len, c.work_side_by_side.auto.workers) in
-    as_many change c.args.doors.now.items c.gather.new.doors.items c.hire-workers.result.items worked c.gather.result
-    (c.hire-workers.ensures.doors ∙ ap (λ doors. doors.items) c.replace.ensures.value)
+    let same_len : c.assign_workers-workers.result.len ≡ length worked = omega (arith, c.as_mut_slice.ensures.len, c.work_side_by_side.auto.workers) in
+    as_many change c.args.doors.now.items c.join_workers.new.doors.items c.assign_workers-workers.result.items worked c.join_workers.result
+    (c.assign_workers-workers.ensures.doors ∙ ap (λ doors. doors.items) c.replace.ensures.value)
     (subst (λ hired. AllZip (HasWorked change) hired worked) c.as_mut_slice.ensures.value c.work_side_by_side.ensures.worked)
-    (all_worked change c.hire-workers.result.len worked c.hire-workers.result.items c.gather.new.doors.items c.gather.result
-    same_len c.gather.ensures.ended)
+    (all_worked change c.assign_workers-workers.result.len worked c.assign_workers-workers.result.items c.join_workers.new.doors.items c.join_workers.result
+    same_len c.join_workers.ensures.ended)
 
 pub returns-clause-over : goal.returns-clause-over
 returns-clause-over g c = let served = returns-clause-served g c in all_over _ served.ends served.each

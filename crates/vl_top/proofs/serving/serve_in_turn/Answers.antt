@@ -1,8 +1,8 @@
-use Rattle.std.proofs.Common.{◌∙◌, ◌≡◌, ◌+◌, suc, drop, length, take, ap, slice_index_or, slice_set, subst, sym, arith}
+use Rattle.std.proofs.Common.{◌∙◌, ◌≡◌, ◌+◌, suc, drop, take, ap, slice_set, subst, sym, arith}
 use Rattle.log_desk.specs.Seen.{seen_of}
-use Rattle.vl_serve.specs.Doors.{AreServed, IsServed, door_change, door_changes}
-use Rattle.vl_serve.proofs.Ends.{as_long, bit, bit_small, goes_on_far, same_behind, same_there, served_more}
-use Rattle.vl_serve.proofs.serving.serve_in_turn.Goals as goal
+use Rattle.vl_top.specs.Doors.{AreServed, IsServed, door_change, door_changes}
+use Rattle.vl_top.proofs.Ends.{as_long, bit, bit_small, goes_on_far, same_behind, same_there, served_more}
+use Rattle.vl_top.proofs.serving.serve_in_turn.Goals as goal
 
 pub loop-door-preserved : goal.loop-door-preserved
 loop-door-preserved g c =

@@ -1,8 +1,8 @@
 use Rattle.std.proofs.Common.{◌≡◌, ◌≤◌, drop, length, take}
 use Rattle.turn_lock.specs.Passes.{IsPassOf}
 use Rattle.log_desk.specs.Seen.{seen_of}
-use Rattle.vl_serve.specs.Doors.{AreServed, GoesOn, door_changes}
-use Rattle.vl_serve.proofs.serving.serve_in_turn.Given as goal
+use Rattle.vl_top.specs.Doors.{AreServed, GoesOn, door_changes}
+use Rattle.vl_top.proofs.serving.serve_in_turn.Given as goal
 
 abbrev pub invariant-loop-door : goal.invariant-loop-door
 invariant-loop-door g l =

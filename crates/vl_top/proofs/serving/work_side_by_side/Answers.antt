@@ -1,8 +1,8 @@
 use Rattle.std.proofs.Common.{subst, arith}
-use Rattle.vl_serve.specs.Doors.{door_change}
-use Rattle.vl_serve.specs.Workers.{HasWorked, IsOfDesk}
-use Rattle.vl_serve.proofs.Ends.{all_by_index, zip_by_index}
-use Rattle.vl_serve.proofs.serving.work_side_by_side.Goals as goal
+use Rattle.vl_top.specs.Doors.{door_change}
+use Rattle.vl_top.specs.Workers.{HasWorked, IsOfDesk}
+use Rattle.vl_top.proofs.Ends.{all_by_index, zip_by_index}
+use Rattle.vl_top.proofs.serving.work_side_by_side.Goals as goal
 
 pub returns-clause-worked : goal.returns-clause-worked
 returns-clause-worked g c =

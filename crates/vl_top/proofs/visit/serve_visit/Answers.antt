@@ -1,8 +1,7 @@
-use Rattle.std.proofs.Common.{◌≡◌}
 use Rattle.vl_io.specs.Change.{change_of}
 use Rattle.log_desk.specs.Seen.{caller_of, seen_of}
 use Rattle.vl_session.specs.Laws.{Connection, SyslogInput}
-use Rattle.vl_serve.proofs.visit.serve_visit.Goals as goal
+use Rattle.vl_top.proofs.visit.serve_visit.Goals as goal
 
 pub returns-in-Http-clause-goes_on : goal.returns-in-Http-clause-goes_on
 returns-in-Http-clause-goes_on g c =

@@ -7,25 +7,25 @@ use Rattle.vl_trial.specs.Answer.{AreLines}
 use Rattle.vl_trial.proofs.Asked.{has_records, if_ok}
 use Rattle.vl_trial.proofs.trial.trial_lines.Goals as goal
 
-pub answer_lines-requires-clause-has : goal.answer_lines-requires-clause-has
-answer_lines-requires-clause-has g c =
+pub lines_of-requires-clause-has : goal.lines_of-requires-clause-has
+lines_of-requires-clause-has g c =
     let fits : FitsSigned w64 c.args.now = c.ranges.now in
     simp to_z-of_z (has_records count_text all_counted (unsigned_abs c.args.now) c.args.seed c.args.rows
     c.insert_rows.new.desk.history c.trial_queries_law.ensures.counted refl c.trial_law.ensures.questions.0
     c.requires.rows c.in_ok-insert_rows.ensures.rows)
 
-pub answer_lines-requires-2-clause-has : goal.answer_lines-requires-2-clause-has
-answer_lines-requires-2-clause-has g c =
+pub lines_of-requires-2-clause-has : goal.lines_of-requires-2-clause-has
+lines_of-requires-2-clause-has g c =
     let fits : FitsSigned w64 c.args.now = c.ranges.now in
     simp to_z-of_z (has_records errors_text errors_by_app (unsigned_abs c.args.now) c.args.seed c.args.rows
-    c.answer_lines.new.desk.history c.trial_queries_law.ensures.errors refl c.trial_law.ensures.questions.1.0
+    c.lines_of.new.desk.history c.trial_queries_law.ensures.errors refl c.trial_law.ensures.questions.1.0
     c.requires.rows (ap rows_of c.in_ok-counted.ensures.same ∙ c.in_ok-insert_rows.ensures.rows))
 
-pub answer_lines-requires-3-clause-has : goal.answer_lines-requires-3-clause-has
-answer_lines-requires-3-clause-has g c =
+pub lines_of-requires-3-clause-has : goal.lines_of-requires-3-clause-has
+lines_of-requires-3-clause-has g c =
     let fits : FitsSigned w64 c.args.now = c.ranges.now in
     simp to_z-of_z (has_records slow_text slow_counted (unsigned_abs c.args.now) c.args.seed c.args.rows
-    c.answer_lines-2.new.desk.history c.trial_queries_law.ensures.slow refl c.trial_law.ensures.questions.1.1.0
+    c.lines_of-2.new.desk.history c.trial_queries_law.ensures.slow refl c.trial_law.ensures.questions.1.1.0
     c.requires.rows
     (ap rows_of (c.in_ok-errors.ensures.same ∙ c.in_ok-counted.ensures.same) ∙ c.in_ok-insert_rows.ensures.rows))
 
