@@ -1,25 +1,63 @@
 -- Columns are compared as the records that they were made of.
 use Rattle.std.proofs.Common.{◌≡◌, ℕ, zero, suc, ◌+◌, ◌<◌, ◌≤◌, cond, List, [], ◌∷◌, ◌++◌, map, length, get_or}
-use Rattle.std.proofs.Common.{take, refl, sym, ap}
-use Rattle.std.proofs.Common.{◌∙◌, arith}
+use Rattle.std.proofs.Common.{take, refl, sym, ap, subst}
+use Rattle.std.proofs.Common.{Bor, Option, Some, None, ◌∙◌, arith}
 use Rattle.std.proofs.lemmas.List.{get_or-map, length-map, map_more}
-use Rattle.std.specs.List.{slice_index}
-use Rattle.std.specs.Ordering.{nat_cmp, on, ordering_reverse, ordering_then}
+use Rattle.std.proofs.lemmas.Option.{slice_get-get_or, slice_get-map, slice_get_past}
+use Rattle.std.specs.List.{slice_get}
+use Rattle.std.specs.Option.{option_cmp, option_map}
+use Rattle.std.specs.Ordering.{on, ordering_reverse, ordering_then}
+use Rattle.std.specs.Slice.{IsItemAt}
 use Rattle.std.specs.declared.cmp.Ordering.{Ordering}
 use Rattle.std.specs.declared.cmp.Ordering.TheVariants.{Equal, Greater, Less}
 use Rattle.log_model.specs.Field.{field_value}
-use Rattle.log_model.specs.Order.{value_cmp}
+use Rattle.log_model.specs.Order.{Key, key_cmp, key_of, value_cmp}
 use Rattle.lq_ast.specs.PipeView.{sort_by}
 use Rattle.lq_ast.specs.Records.{Record}
 use Rattle.lq_ast.specs.Stage.{SortBy}
 use Rattle.lq_ast.specs.declared.pipe.SortKey.{SortKey}
-use Rattle.lq_order.specs.Column.{column_cmp, columns_cmp}
+use Rattle.lq_order.specs.Column.{column_cmp, columns_cmp, values_cmp}
 use Rattle.lq_order.specs.Mirror.{Mirrors}
 use Rattle.lq_ast.specs.Sorting.{field_cmp, record_cmp}
 use Rattle.lq_order.specs.declared.column.Column.{Column}
+use Rattle.lq_order.specs.declared.values.Values.{Values}
 
-pub mirrors_field : (column : Column) (key : SortBy) (records : List Record) → column.desc ≡ key.1
-    → Mirrors (on (slice_index column.ranks.items) nat_cmp) value_cmp (map (λ r. field_value r key.0) records)
+-- ---- the values of a field
+
+pub item_read : {A : Type 0} (items : List A) (i : ℕ) (found : Option (Bor A)) → IsItemAt items i found
+    → option_map (λ x. x.now) found ≡ slice_get items i
+item_read items i None (is, here, there, at, default) = sym (slice_get_past items i at)
+item_read items i (Some x) (is, here, there, at, default) = ap Some here ∙ sym (slice_get-get_or items i x.now at.0)
+
+lent_cmp : {A : Type 0} (order : A → A → Ordering) (p q : Option (Bor A))
+    → option_cmp (λ x y. order x.now y.now) p q ≡ option_cmp order (option_map (λ x. x.now) p) (option_map (λ x. x.now) q)
+lent_cmp order None None = refl
+lent_cmp order None (Some y) = refl
+lent_cmp order (Some x) None = refl
+lent_cmp order (Some x) (Some y) = refl
+
+-- what is read at two places is compared as what stands there
+pub read_cmp : {A : Type 0} (order : A → A → Ordering) (items : List A) (i j : ℕ) (p q : Option (Bor A))
+    → IsItemAt items i p → IsItemAt items j q
+    → option_cmp (λ x y. order x.now y.now) p q ≡ on (slice_get items) (option_cmp order) i j
+read_cmp order items i j p q at_i at_j =
+    lent_cmp order p q ∙ ap (λ o. option_cmp order o (option_map (λ x. x.now) q)) (item_read items i p at_i)
+    ∙ ap (option_cmp order (slice_get items i)) (item_read items j q at_j)
+
+-- keys are compared as the texts
+pub mirrors_keyed : (keys : List Key) (texts : List (List ℕ)) → keys ≡ map key_of texts
+    → Mirrors (on (slice_get keys) (option_cmp key_cmp)) value_cmp texts
+unfolding value_cmp
+mirrors_keyed keys texts is = record {
+  same = λ i j d at_i at_j.
+      let read = λ (k : ℕ) (within : k < length texts).
+      ap (λ l. slice_get l k) is ∙ slice_get-map key_of texts k ∙ ap (option_map key_of) (slice_get-get_or texts k d within) in
+      ap (λ o. option_cmp key_cmp o (slice_get keys j)) (read i at_i)
+      ∙ ap (option_cmp key_cmp (Some (key_of (get_or texts i d)))) (read j at_j);
+}
+
+mirrors_field : (column : Column) (key : SortBy) (records : List Record) → column.desc ≡ key.1
+    → Mirrors (values_cmp column.values) value_cmp (map (λ r. field_value r key.0) records)
     → Mirrors (column_cmp column) (field_cmp key) records
 mirrors_field column key records way m = record {
   same = λ i j d at_i at_j.
@@ -30,6 +68,16 @@ mirrors_field column key records way m = record {
       ∙ ap (λ t. cond t (ordering_reverse (value_cmp (value (get_or records i d)) (value (get_or records j d))))
       (value_cmp (value (get_or records i d)) (value (get_or records j d)))) way;
 }
+
+-- the column that has these values
+pub mirrors_made : (column : Column) (values : Values) (key : SortBy) (name : List ℕ) (records : List Record)
+    → column.values ≡ values → column.desc ≡ key.1 → name ≡ key.0
+    → Mirrors (values_cmp values) value_cmp (map (λ r. field_value r name) records)
+    → Mirrors (column_cmp column) (field_cmp key) records
+mirrors_made column values key name records is way named m =
+    mirrors_field column key records way
+    (subst (λ n. Mirrors (values_cmp column.values) value_cmp (map (λ r. field_value r n) records)) named
+    (subst (λ v. Mirrors (values_cmp v) value_cmp (map (λ r. field_value r name) records)) (sym is) m))
 
 then_assoc : (o p q : Ordering) → ordering_then (ordering_then o p) q ≡ ordering_then o (ordering_then p q)
 then_assoc Less p q = refl

@@ -92,7 +92,7 @@ module _ {A : Type 0} (order : A → A → Ordering) (total : IsTotalOrder order
 
 -- ---- numbers
 
-count_all : {A : Type 0} (p : A → Bool) (xs : List A) → AllByRecursion (λ x. p x ≡ true) xs → count_by p xs ≡ length xs
+pub count_all : {A : Type 0} (p : A → Bool) (xs : List A) → AllByRecursion (λ x. p x ≡ true) xs → count_by p xs ≡ length xs
 count_all p [] h = refl
 count_all p (x ∷ xs) h =
     let first = count_cons p x xs ∙ ap (λ t. cond t 1 0 + count_by p xs) h.0 in

@@ -1,6 +1,7 @@
 pub mod Answering
 pub mod Columns
 pub mod Dictionaries
+pub mod FirstPlaces
 pub mod Leading
 pub mod Named
 pub mod Orders

@@ -2,11 +2,16 @@
 use Rattle.std.proofs.Common.{◌≡◌, ℕ, Bool, true, false, cond, List, [], ◌∷◌, length, get_or, refl, sym, ap, ◌∙◌}
 use Rattle.std.proofs.Common.{slice_index, subst, arith}
 use Rattle.std.specs.Cmp.{IsTotalOrder, back_total, nat_cmp_total, on_total, then_total}
-use Rattle.std.specs.Ordering.{nat_cmp, on, ordering_reverse, ordering_then}
+use Rattle.std.specs.Cmp.Lexicographic.{options_total}
+use Rattle.std.specs.List.{slice_get}
+use Rattle.std.specs.Ordering.{on, ordering_reverse, ordering_then}
 use Rattle.std.specs.declared.cmp.Ordering.{Ordering}
 use Rattle.std.specs.declared.cmp.Ordering.TheVariants.{Equal, Greater, Less}
-use Rattle.lq_order.specs.Column.{column_cmp, columns_cmp}
+use Rattle.vl_row.specs.KeyOrder.{key_cmp_total}
+use Rattle.lq_order.specs.Column.{column_cmp, columns_cmp, placed_cmp, values_cmp}
 use Rattle.lq_order.specs.declared.column.Column.{Column}
+use Rattle.lq_order.specs.declared.values.Values.{Values}
+use Rattle.lq_order.specs.declared.values.Values.TheVariants.{Keys, Ranks}
 
 pub directed_total : {A : Type 0} (desc : Bool) (order : A → A → Ordering) → IsTotalOrder order
     → IsTotalOrder (λ a b. cond desc (ordering_reverse (order a b)) (order a b))
@@ -16,13 +21,19 @@ directed_total false order total = total
 pub level_total : {A : Type 0} → IsTotalOrder (λ (a b : A). Equal)
 level_total = record { antisymm = λ x y. refl; trans = λ x y z h k. h; congr = λ x y z h. refl }
 
+pub values_cmp_total : (values : Values) → IsTotalOrder (values_cmp values)
+values_cmp_total (Ranks ranks) = on_total (slice_index ranks.items) nat_cmp_total
+values_cmp_total (Keys keys) = on_total (slice_get keys.items) (options_total key_cmp_total)
+
 pub column_cmp_total : (column : Column) → IsTotalOrder (column_cmp column)
-column_cmp_total column = directed_total column.desc (on (slice_index column.ranks.items) nat_cmp)
-    (on_total (slice_index column.ranks.items) nat_cmp_total)
+column_cmp_total column = directed_total column.desc (values_cmp column.values) (values_cmp_total column.values)
 
 pub columns_cmp_total : (columns : List Column) → IsTotalOrder (columns_cmp columns)
 columns_cmp_total [] = level_total
 columns_cmp_total (column ∷ columns) = then_total (column_cmp_total column) (columns_cmp_total columns)
+
+pub placed_cmp_total : (columns : List Column) → IsTotalOrder (placed_cmp columns)
+placed_cmp_total columns = then_total (columns_cmp_total columns) nat_cmp_total
 
 then_equal : (o : Ordering) → ordering_then o Equal ≡ o
 then_equal Less = refl

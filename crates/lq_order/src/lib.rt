@@ -3,14 +3,17 @@
 
 mod column;
 mod dictionary;
+mod first;
 mod group;
 mod groups;
+mod kept;
 mod ranks;
 mod records;
 mod sort;
 mod tally;
 mod top;
 mod uniq;
+mod values;
 
 pub use sort::{sort_recs, sorted_places};
 pub use tally::Tally;

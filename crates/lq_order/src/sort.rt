@@ -1,14 +1,15 @@
 //! The `sort` pipe.
-ghost use Rattle.std.specs.Prelude.{◌≡◌, IfOk, drop, length, map, slice_index_or, []};
-ghost use Rattle.std.specs.List.{range_with_len};
-ghost use Rattle.lq_ast.specs.PipeView.{sorting};
+ghost use Rattle.std.specs.Prelude.{◌≡◌, ◌<◌, ◌≤◌, IfOk, IfSome, drop, length, map, slice_index_or, take, []};
+ghost use Rattle.lq_ast.specs.PipeView.{sort_by, sorting};
 ghost use Rattle.lq_ast.specs.Sorting.{at_most, sorted};
 ghost use Rattle.lq_ast.specs.Tuples.{sorted_by};
 ghost use Rattle.lq_order.specs.Column.{columns_cmp};
-ghost use Rattle.lq_order.specs.Places.{ArePlaces, sorted_places};
+ghost use Rattle.lq_order.specs.Places.{ArePlaces, IsWanted, places_in_order, sorted_places};
 
 use crate::column::{Column, columns, compare};
-use lq_ast::SortPipe;
+use crate::first::{all_places, first_places};
+use crate::kept::kept;
+use lq_ast::{SortKey, SortPipe};
 use std::alloc::{AllocError, Global};
 use std::mem;
 use vl_row::{FieldList, Recs};
@@ -32,35 +33,76 @@ pub fn sorted_places(
     ensures sorted { IfOk result (λ places. places.items ≡ sorted_places (sorting p.now) records.now) }
     ensures apart { IfOk result (λ places. ArePlaces (length records.now) places.items) }
 {
-    let columns = columns(alloc, p.keys.as_slice(), records)?;
-    let places = in_order(alloc, columns.as_slice(), records.len())?;
+    let places = enough_in_order(alloc, p, records)?;
     kept(places.as_slice(), p.offset, p.limit).to_vec(alloc)
 }
 
-/// The places of so many records by the columns. Those that are equal in these stand as they came.
-fn in_order(alloc: Global, columns: &[Column], count: usize) -> Result<Vec<usize>, AllocError>
-    ensures { IfOk result (λ places. places.items ≡ sorted_by (columns_cmp columns.now) (range_with_len 0 count)) }
+/// Places in the pipe's order, of which it keeps the same as of those of all records.
+fn enough_in_order(
+    alloc: Global,
+    p: &SortPipe,
+    records: &[FieldList],
+) -> Result<Vec<usize>, AllocError>
+    ensures { IfOk result (λ places. at_most p.now.limit (drop p.now.offset places.items)
+        ≡ at_most p.now.limit (drop p.now.offset (places_in_order (sorting p.now).keys records.now))) }
 {
-    let mut places = Vec::with_capacity(alloc, count)?;
-    for place in 0..count {
-        places.push(place)?;
+    match wanted(p.offset, p.limit, records.len()) {
+        Some(most) => first_in_order(alloc, p.keys.as_slice(), records, most),
+        None => all_in_order(alloc, p.keys.as_slice(), records),
     }
+}
+
+/// How many of so many records are to be put in order, where that is not all of them. It is one at least.
+fn wanted(offset: u64, limit: Option<u64>, count: usize) -> Option<usize>
+    ensures { IfSome result (IsWanted offset limit count) }
+{
+    let most = offset.checked_add(limit?)?.max(1);
+    if most < count as u64 {
+        Some(most as usize)
+    } else {
+        None
+    }
+}
+
+/// Where the records stand in the order of the keys.
+fn all_in_order(
+    alloc: Global,
+    keys: &[SortKey],
+    records: &[FieldList],
+) -> Result<Vec<usize>, AllocError>
+    ensures { IfOk result (λ places. places.items ≡ places_in_order (map sort_by keys.now) records.now) }
+{
+    let columns = columns(alloc, keys, records, true)?;
+    let places = all_places(alloc, records.len())?;
+    in_order(columns.as_slice(), places)
+}
+
+/// Where the first `most` of the records stand in the order of the keys. Only these are sorted.
+fn first_in_order(
+    alloc: Global,
+    keys: &[SortKey],
+    records: &[FieldList],
+    most: usize,
+) -> Result<Vec<usize>, AllocError>
+    requires some { 0 < most }
+    requires within { most ≤ length records.now }
+    ensures { IfOk result (λ places.
+        take most places.items ≡ take most (places_in_order (map sort_by keys.now) records.now)) }
+{
+    let columns = columns(alloc, keys, records, false)?;
+    let places = first_places(alloc, columns.as_slice(), records.len(), most)?;
+    in_order(columns.as_slice(), places)
+}
+
+/// The places by the columns. Those that are equal in these stand as they came.
+fn in_order(columns: &[Column<'_>], mut places: Vec<usize>) -> Result<Vec<usize>, AllocError>
+    ensures { IfOk result (λ sorted. sorted.items ≡ sorted_by (columns_cmp columns.now) places.items) }
+{
     match columns {
         [column] => places.sort_by(|a, b| column.compare(*a, *b))?,
         _ => places.sort_by(|a, b| compare(columns, *a, *b))?,
     }
     Ok(places)
-}
-
-/// What is left behind the first `offset` items, and no more than `limit` of it.
-pub(crate) fn kept<T>(items: &[T], offset: u64, limit: Option<u64>) -> &[T]
-    ensures { result.now ≡ at_most limit (drop offset items.entry.now) }
-{
-    let later = &items[items.len().min(offset as usize)..];
-    match limit {
-        Some(limit) => &later[..later.len().min(limit as usize)],
-        None => later,
-    }
 }
 
 /// The records of these places.

@@ -1,11 +1,11 @@
 //! How many records have each tuple of the values of some fields.
-ghost use Rattle.std.specs.Prelude.{◌<◌, ◌+◌, ◌^◌, ◌++◌, [], List, ℕ, OnOk, length};
+ghost use Rattle.std.specs.Prelude.{◌<◌, ◌+◌, ◌^◌, ◌++◌, [], List, ℕ, IfOk, OnOk, length};
 ghost use Rattle.lq_ast.specs.Records.{Record};
 ghost use Rattle.lq_order.specs.Tally.{TalliesRecord, Tallies};
 
 use lq_tuple::{Places, filled_text};
 use std::alloc::{AllocError, Global};
-use vl_row::{FieldList, Text};
+use vl_row::{FieldList, Recs, Text};
 
 /// How many of some records have each tuple of the values of some fields, but for a tuple that is wholly empty. The
 /// records may come in pieces; of them only the texts of the different tuples are kept. No number is greater than
@@ -29,6 +29,16 @@ impl<'p> Tally<'p> {
             scratch: String::new(alloc),
             hits: Vec::new(alloc),
         }
+    }
+
+    /// The tally of these records, for these fields. The records go, so that what is made of the tally has their memory.
+    pub(crate) fn of(alloc: Global, names: &'p [Text], r: Recs) -> Result<Tally<'p>, AllocError>
+        ensures { IfOk result (λ tally. Tallies tally names.entry.now r) }
+    {
+        let records = r.into_vec();
+        let mut tally = Tally::new(alloc, names);
+        tally.add_all(alloc, records.as_slice())?;
+        Ok(tally)
     }
 
     /// Takes more records. After want of memory the tally may only be dropped.

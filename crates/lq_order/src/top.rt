@@ -6,8 +6,8 @@ ghost use Rattle.lq_ast.specs.Sorting as sorting;
 ghost use Rattle.lq_order.specs.Groups.{IsNthGreatest};
 ghost use Rattle.lq_order.specs.Tally.{Tallies};
 
+use crate::kept::kept;
 use crate::records::records_of;
-use crate::sort::kept;
 use crate::tally::Tally;
 use lq_ast::TopPipe;
 use lq_tuple::in_tuple_order;
@@ -19,11 +19,7 @@ use vl_row::Recs;
 pub fn top_recs(alloc: Global, p: &TopPipe, r: Recs) -> Result<Recs, AllocError>
     ensures { IfOk result (λ records. records ≡ sorting.top (ranking p.now) r) }
 {
-    let records = r.into_vec();
-    let mut tally = Tally::new(alloc, p.names.as_slice());
-    tally.add_all(alloc, records.as_slice())?;
-    drop(records);
-    tally.top(alloc, p)
+    Tally::of(alloc, p.names.as_slice(), r)?.top(alloc, p)
 }
 
 impl<'p> Tally<'p> {

@@ -5,8 +5,8 @@ ghost use Rattle.lq_ast.specs.Records.{Record};
 ghost use Rattle.lq_ast.specs.Sorting as sorting;
 ghost use Rattle.lq_order.specs.Tally.{Tallies};
 
+use crate::kept::kept;
 use crate::records::records_of;
-use crate::sort::kept;
 use crate::tally::Tally;
 use lq_ast::UniqPipe;
 use lq_tuple::in_tuple_order;
@@ -18,11 +18,7 @@ use vl_row::Recs;
 pub fn uniq_recs(alloc: Global, p: &UniqPipe, r: Recs) -> Result<Recs, AllocError>
     ensures { IfOk result (λ records. records ≡ sorting.uniq (distinct p.now) r) }
 {
-    let records = r.into_vec();
-    let mut tally = Tally::new(alloc, p.names.as_slice());
-    tally.add_all(alloc, records.as_slice())?;
-    drop(records);
-    tally.uniq(alloc, p)
+    Tally::of(alloc, p.names.as_slice(), r)?.uniq(alloc, p)
 }
 
 impl<'p> Tally<'p> {

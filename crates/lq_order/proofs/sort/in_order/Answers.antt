@@ -1,24 +1,15 @@
-use Rattle.std.proofs.Common.{◌≡◌, ◌++◌, [], ◌∷◌, ◌∙◌, ap, sym, rules, arith}
-use Rattle.std.specs.List.{range_with_len}
+use Rattle.std.proofs.Common.{◌∙◌, ap, rules, arith}
 use Rattle.lq_ast.proofs.Sorted.{sorted_by_closure}
 use Rattle.lq_ast.specs.Tuples.{sorted_by}
 use Rattle.lq_order.specs.Column.{column_cmp, columns_cmp}
 use Rattle.lq_order.proofs.Orders.{column_cmp_total, columns_cmp_total, one_column}
-use Rattle.lq_order.proofs.Places.{range_more}
 use Rattle.lq_order.proofs.sort.in_order.Goals as goal
 use Rattle.lq_order.proofs.sort.in_order.Goals.{in-len1+in_ok-sort_by-in-len1, in_default+in_ok-sort_by-in_default}
 
-pub loop-place-preserved : goal.loop-place-preserved
-loop-place-preserved c =
-    c.in_ok-push.ensures.items ∙ ap (λ places. places ++ c.loop-place.place ∷ []) c.loop-place.invariant
-    ∙ sym (range_more 0 c.loop-place.place c.loop-place.place (omega arith))
-
 pub returns : goal.returns
 returns c =
-    let places = c.loop-place.places.items in
+    let places = c.args.places.items in
     let columns = c.args.columns.now in
-    let all : places ≡ range_with_len 0 c.args.count = c.loop-place.invariant
-    ∙ ap (range_with_len 0) (omega (arith, c.loop-place-test.false, c.loop-place.auto.place-end)) in
     elim c.if-columns-lt1.branch [
       | in-len1+in_ok-sort_by-in-len1 w ↦
           let column = w.column-item.result in
@@ -27,10 +18,9 @@ returns c =
           let sorted = sorted_by_closure (column_cmp column) (column_cmp_total column) places w.sort_by.new.self.items
           w.in_ok-sort_by-in-len1.ensures.sorted w.sort_by.ensures.stable (λ a o f called. search rules) in
           ap (λ v. v.items) w.places-is ∙ sorted ∙ (λ i. sorted_by (λ a b. one a b i) places)
-          ∙ ap (sorted_by (columns_cmp columns)) all
       | in_default+in_ok-sort_by-in_default w ↦
           let sorted = sorted_by_closure (columns_cmp columns) (columns_cmp_total columns) places
           w.sort_by-in_default.new.self.items w.in_ok-sort_by-in_default.ensures.sorted
           w.sort_by-in_default.ensures.stable (λ a o f called. search rules) in
-          ap (λ v. v.items) w.places-is ∙ sorted ∙ ap (sorted_by (columns_cmp columns)) all
+          ap (λ v. v.items) w.places-is ∙ sorted
     ]

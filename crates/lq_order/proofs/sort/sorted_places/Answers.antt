@@ -1,21 +1,24 @@
-use Rattle.std.proofs.Common.{◌≡◌, length, map, sym, ◌∙◌, subst}
+use Rattle.std.proofs.Common.{◌≡◌, length, refl, sym, ap, drop, ◌∙◌, subst}
 use Rattle.std.proofs.lemmas.Result.{IfOk-weaker}
-use Rattle.lq_ast.specs.PipeView.{sort_by, sorting}
-use Rattle.lq_ast.specs.Sorting.{record_cmp}
-use Rattle.lq_order.specs.Column.{columns_cmp}
-use Rattle.lq_order.specs.Places.{ArePlaces, sorted_places}
-use Rattle.lq_order.proofs.Picked.{places_as_items, places_kept}
+use Rattle.std.specs.List.{enumerate_from}
+use Rattle.std.specs.Ordering.{on}
+use Rattle.lq_ast.specs.PipeView.{sorting}
+use Rattle.lq_ast.specs.Sorting.{at_most, record_cmp}
+use Rattle.lq_ast.specs.Tuples.{sorted_by}
+use Rattle.lq_order.specs.Places.{ArePlaces, places_in_order, sorted_places}
+use Rattle.lq_order.proofs.Picked.{places_kept}
 use Rattle.lq_order.proofs.SortedPlaces.{places_apart}
 use Rattle.lq_order.proofs.sort.sorted_places.Goals as goal
 
-kept_is : (c : goal.After-drop-columns-2) → c.kept.result.now ≡ sorted_places (sorting c.args.p.now) c.args.records.now
+kept_is : (c : goal.After-drop-places) → c.kept.result.now ≡ sorted_places (sorting c.args.p.now) c.args.records.now
 kept_is c =
+    let p = c.args.p.now in
+    let keys = (sorting p).keys in
     let records = c.args.records.now in
-    let mirrors = rw (← c.as_slice-2.ensures.value, c.as_slice.ensures) at c.in_ok-columns.ensures in
-    let order = record_cmp (map sort_by c.args.p.now.keys) in
-    let places = c.as_slice-3.ensures.value ∙ c.in_ok-places.ensures
-    ∙ places_as_items records (columns_cmp c.as_slice-2.result.now) order mirrors in
-    places_kept c.kept.result.now c.as_slice-3.result.now c.args.p.now.offset c.args.p.now.limit _ c.kept.ensures places
+    places_kept c.kept.result.now (places_in_order keys records) p.offset p.limit
+    (sorted_by (on (λ p. p.1) (record_cmp keys)) (enumerate_from 0 records))
+    (c.kept.ensures ∙ ap (λ ps. at_most p.limit (drop p.offset ps)) c.as_slice.ensures.value ∙ c.in_ok-places.ensures)
+    refl
 
 pub returns-clause-sorted : goal.returns-clause-sorted
 returns-clause-sorted c = IfOk-weaker c.to_vec.result _ _

@@ -1,0 +1,20 @@
+use Rattle.std.proofs.Common.{map, ap, sym, subst, ◌∙◌}
+use Rattle.std.proofs.lemmas.Result.{IfOk-weaker}
+use Rattle.lq_ast.specs.PipeView.{sort_by}
+use Rattle.lq_ast.specs.Sorting.{record_cmp}
+use Rattle.lq_ast.specs.Tuples.{sorted_by}
+use Rattle.lq_order.specs.Column.{columns_cmp}
+use Rattle.lq_order.specs.Mirror.{Mirrors}
+use Rattle.lq_order.proofs.Picked.{places_as_items}
+use Rattle.lq_order.proofs.sort.all_in_order.Goals as goal
+
+pub returns : goal.returns
+returns c =
+    let records = c.args.records.now in
+    let columns = c.as_slice.result.now in
+    let order = record_cmp (map sort_by c.args.keys.now) in
+    let mirrors = subst (λ cs. Mirrors (columns_cmp cs) order records) (sym c.as_slice.ensures.value)
+    c.in_ok-columns.ensures in
+    let all = ap (sorted_by (columns_cmp columns)) c.in_ok-places.ensures
+    ∙ places_as_items records (columns_cmp columns) order mirrors in
+    IfOk-weaker c.in_order.result _ _ (λ places is. is ∙ all) c.in_order.ensures
