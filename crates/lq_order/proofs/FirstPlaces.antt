@@ -6,19 +6,21 @@ use Rattle.std.proofs.lemmas.Fn.{always_returns_same}
 use Rattle.std.proofs.lemmas.List.{drop-take}
 use Rattle.std.proofs.lemmas.List.Sorted.{length_permutation, sum_by-IsPermutation}
 use Rattle.std.proofs.lemmas.List.Sums.{length-filter}
+use Rattle.std.proofs.lemmas.Map.Keys.{IsDistinct-IsPermutation}
 use Rattle.std.specs.Cmp.{IsTotalOrder, nat_cmp_is, tied_itself, upto}
 use Rattle.std.specs.Fn.{Called, ComparesAs}
-use Rattle.std.specs.List.{AllByRecursion, count_by, filter, range_with_len}
+use Rattle.std.specs.List.{AllByRecursion, IsDistinct, count_by, filter, range_with_len}
 use Rattle.std.specs.List.Sorted.{IsPermutation, IsSplitAroundBy, IsSplitAroundByClosure}
-use Rattle.std.specs.Ordering.{is_gt, is_le, is_lt, nat_cmp, ordering_then, then_cmp}
+use Rattle.std.specs.Ordering.{is_eq, is_gt, is_le, is_lt, nat_cmp, ordering_reverse, ordering_then, then_cmp}
 use Rattle.std.specs.declared.cmp.Ordering.{Ordering}
 use Rattle.std.specs.declared.cmp.Ordering.TheVariants.{Equal, Greater, Less}
-use Rattle.lq_ast.proofs.Sorted.{Pairwise, all_from_places, all_sorted, is_gt_turned, split_bool, weak_order}
+use Rattle.lq_ast.proofs.Sorted.{Pairwise, all_from_places, all_sorted, all_weaker, is_gt_turned, permutation_sorted, split_bool, weak_order}
 use Rattle.lq_ast.specs.Sorting.{at_most}
 use Rattle.lq_ast.specs.Tuples.{insert_by, sorted_by}
 use Rattle.lq_tuple.proofs.Once.{count_cons, count_joined}
 use Rattle.lq_order.specs.Places.{IsWanted}
-use Rattle.lq_order.proofs.Leading.{count_all, take_sorted}
+use Rattle.lq_order.proofs.Leading.{count_all, count_none, take_sorted}
+use Rattle.lq_order.proofs.Columns.{take_whole}
 use denote.Param.Members.{Mut}
 use denote.Ref.{Bor}
 
@@ -70,6 +72,19 @@ module _ (order : ℕ → ℕ → Ordering) where
       ap (insert_by (then_cmp order nat_cmp) x) (sorted_placed xs h.1)
       ∙ inserted_placed x (sorted_by order xs) (all_sorted order (λ y. x < y) xs h.0)
 
+  earlier_apart : (o : Ordering) (x y : ℕ) → x < y → is_eq (ordering_then o (nat_cmp x y)) ≡ false
+  earlier_apart Less x y h = refl
+  earlier_apart Equal x y h = ap is_eq (sym (nat_cmp_is x y Less h))
+  earlier_apart Greater x y h = refl
+
+  pub placed_apart : (xs : List ℕ) → Pairwise ◌<◌ xs → IsDistinct (λ x y. is_eq (then_cmp order nat_cmp x y)) xs
+  unfolding IsDistinct
+  placed_apart [] h = tt
+  placed_apart (x ∷ xs) h = (
+    all_weaker (λ y. x < y) (λ y. is_eq (then_cmp order nat_cmp x y) ≡ false) (λ y. earlier_apart (order x y) x y) xs h.0,
+    placed_apart xs h.1,
+  )
+
 -- ---- those that do not stand behind one of them
 
 le_from : (o : Ordering) → is_gt o ≡ false → is_le o ≡ true
@@ -100,24 +115,55 @@ split_by_closure {A} order total {g = g} {f = f} front x back split answers =
     (λ a o f' called. (ap is_lt (answers a o f' called).0, (answers a o f' called).1)) in
     split lt (weak_order order total) compares
 
+reversed_is_eq : (o : Ordering) → is_eq (ordering_reverse o) ≡ is_eq o
+reversed_is_eq Less = refl
+reversed_is_eq Equal = refl
+reversed_is_eq Greater = refl
+
+-- what stands behind one of the items is not equal to it
+distinct_behind : {A : Type 0} (same : A → A → Bool) (front : List A) (x : A) (back : List A)
+    → IsDistinct same (front ++ x ∷ back) → AllByRecursion (λ y. same x y ≡ false) back
+unfolding IsDistinct
+distinct_behind same [] x back h = h.0
+distinct_behind same (y ∷ front) x back h = distinct_behind same front x back h.1
+
 module _ {A : Type 0} (order : A → A → Ordering) (total : IsTotalOrder order) (last : A) where
   abbrev up_to : A → Bool
   up_to x = is_le (order x last)
 
-  -- a front from which the last one is not less, and the last one itself
-  pub enough_split : (xs front back : List A) → IsPermutation xs (front ++ last ∷ back)
+  behind : (o p : Ordering) → p ≡ ordering_reverse o → is_lt p ≡ false → is_eq o ≡ false → is_le p ≡ false
+  behind Less p turned no_less no_tie = ap is_le turned
+  behind Equal p turned no_less no_tie = absurd cc
+  behind Greater p turned no_less no_tie = let bad : true ≡ false = sym (ap is_lt turned) ∙ no_less in absurd cc
+
+  none_up_to : (back : List A) → AllByRecursion (λ y. is_lt (order y last) ≡ false) back
+      → AllByRecursion (λ y. is_eq (order last y) ≡ false) back → AllByRecursion (λ y. up_to y ≡ false) back
+  none_up_to [] no_less no_tie = tt
+  none_up_to (y ∷ ys) no_less no_tie = (
+    behind (order last y) (order y last) (total.antisymm y last) no_less.0 no_tie.0,
+    none_up_to ys no_less.1 no_tie.1,
+  )
+
+  -- a front and a back around the last one: up to it are the front and the last one itself, where no two are equal
+  pub exact_split : (xs front back : List A) → IsPermutation xs (front ++ last ∷ back)
+      → IsDistinct (λ x y. is_eq (order x y)) xs
       → ((k : ℕ) (d : A) → k < length front → is_lt (order last (get_or front k d)) ≡ false)
-      → length front + 1 ≤ length (filter up_to xs)
-  enough_split xs front back same down =
+      → ((k : ℕ) (d : A) → k < length back → is_lt (order (get_or back k d) last) ≡ false)
+      → length (filter up_to xs) ≡ length front + 1
+  exact_split xs front back same distinct down up =
       let all = count_all up_to front (all_from_places (λ x. up_to x ≡ true) front
       (λ k d within. le_from (order (get_or front k d) last)
       (is_gt_turned order total (get_or front k d) last ∙ down k d within))) in
+      let moved = IsDistinct-IsPermutation (λ x y. is_eq (order x y))
+      (λ x y. ap is_eq (total.antisymm x y) ∙ reversed_is_eq (order y x)) xs (front ++ last ∷ back) same distinct in
+      let none = count_none up_to back (none_up_to back (all_from_places (λ y. is_lt (order y last) ≡ false) back up)
+      (distinct_behind (λ x y. is_eq (order x y)) front last back moved)) in
       let itself = le_from (order last last) (ap is_gt (tied_itself total last)) in
       let one = ap (λ t. cond t 1 0 + count_by up_to back) itself in
       let counts = length-filter up_to xs
       ∙ sym (sum_by-IsPermutation (λ x. cond (up_to x) 1 0) xs (front ++ last ∷ back) same)
       ∙ count_joined up_to front (last ∷ back) ∙ ap (λ m. count_by up_to front + m) (count_cons up_to last back) in
-      omega (arith, all, counts, one)
+      omega (arith, all, none, counts, one)
 
   pub up_to_apart : (x y : A) → up_to x ≡ false → up_to y ≡ true → is_gt (order x y) ≡ true
   up_to_apart x y out inside =
@@ -127,18 +173,21 @@ module _ {A : Type 0} (order : A → A → Ordering) (total : IsTotalOrder order
 
 -- ---- the first places
 
--- The first of all places in order are those of the ones that do not stand behind the last of them.
+-- The first of all places in order are those up to the last of them, in order.
 pub first_kept : (order : ℕ → ℕ → Ordering) (total : IsTotalOrder (then_cmp order nat_cmp)) (last most count : ℕ)
-    → most ≤ length (filter (λ place. is_le (then_cmp order nat_cmp place last)) (range_with_len 0 count))
-    → take most (sorted_by order (filter (λ place. is_le (then_cmp order nat_cmp place last)) (range_with_len 0 count)))
+    → length (filter (λ place. is_le (then_cmp order nat_cmp place last)) (range_with_len 0 count)) ≡ most
+    → sorted_by order (filter (λ place. is_le (then_cmp order nat_cmp place last)) (range_with_len 0 count))
     ≡ take most (sorted_by order (range_with_len 0 count))
-first_kept order total last most count enough =
+first_kept order total last most count exact =
     let placed = then_cmp order nat_cmp in
     let keep = λ (place : ℕ). is_le (placed place last) in
     let all = range_with_len 0 count in
+    let kept = filter keep all in
     let rises = range_rises 0 count in
-    ap (take most) (sym (sorted_placed order (filter keep all) (pairwise_filtered ◌<◌ keep all rises)))
-    ∙ sym (take_sorted placed total keep (up_to_apart placed total last) most all (omega (arith, enough)))
+    let long = length_permutation kept (sorted_by placed kept) (permutation_sorted placed kept) in
+    sym (sorted_placed order kept (pairwise_filtered ◌<◌ keep all rises))
+    ∙ sym (take_whole (sorted_by placed kept) most (omega (arith, long, exact)))
+    ∙ sym (take_sorted placed total keep (up_to_apart placed total last) most all (omega (arith, exact)))
     ∙ ap (take most) (sorted_placed order all rises)
 
 take_again : {A : Type 0} (n m : ℕ) → n ≤ m → (xs : List A) → take n (take m xs) ≡ take n xs
@@ -147,12 +196,10 @@ take_again (suc n) zero up xs = absurd (omega arith)
 take_again (suc n) (suc m) up [] = refl
 take_again (suc n) (suc m) up (x ∷ xs) = ap (λ l. x ∷ l) (take_again n m (omega arith) xs)
 
--- What an offset and a limit keep is the same of lists that begin alike.
-pub kept_alike : {A : Type 0} (xs ys : List A) (offset : ℕ) (limit : Option ℕ) (count most : ℕ)
-    → IsWanted offset limit count most → take most xs ≡ take most ys
-    → at_most limit (drop offset xs) ≡ at_most limit (drop offset ys)
-kept_alike xs ys offset limit count most wanted same =
-    let n = offset + wanted.size in
-    let first = sym (take_again n most wanted.enough xs) ∙ ap (take n) same ∙ take_again n most wanted.enough ys in
-    subst (λ l. at_most l (drop offset xs) ≡ at_most l (drop offset ys)) (sym wanted.limited)
-    (sym (drop-take offset wanted.size xs) ∙ ap (drop offset) first ∙ drop-take offset wanted.size ys)
+-- An offset and a limit keep the same of the first items that are wanted as of all.
+pub kept_of_first : {A : Type 0} (xs : List A) (offset : ℕ) (limit : Option ℕ) (count most : ℕ)
+    → IsWanted offset limit count most → at_most limit (drop offset (take most xs)) ≡ at_most limit (drop offset xs)
+kept_of_first xs offset limit count most wanted =
+    subst (λ l. at_most l (drop offset (take most xs)) ≡ at_most l (drop offset xs)) (sym wanted.limited)
+    (sym (drop-take offset wanted.size (take most xs))
+    ∙ ap (drop offset) (take_again (offset + wanted.size) most wanted.enough xs) ∙ drop-take offset wanted.size xs)

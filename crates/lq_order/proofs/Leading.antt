@@ -99,7 +99,7 @@ count_all p (x ∷ xs) h =
     let more = count_all p xs h.1 in
     omega arith
 
-count_none : {A : Type 0} (p : A → Bool) (xs : List A) → AllByRecursion (λ x. p x ≡ false) xs → count_by p xs ≡ 0
+pub count_none : {A : Type 0} (p : A → Bool) (xs : List A) → AllByRecursion (λ x. p x ≡ false) xs → count_by p xs ≡ 0
 count_none p [] h = refl
 count_none p (x ∷ xs) h =
     let first = count_cons p x xs ∙ ap (λ t. cond t 1 0 + count_by p xs) h.0 in

@@ -28,7 +28,7 @@ pub(crate) fn first_places(
 ) -> Result<Vec<usize>, AllocError>
     requires some { 0 < most }
     requires within { most ≤ count }
-    ensures { IfOk result (λ places. take most (sorted_by (columns_cmp columns.now) places.items)
+    ensures { IfOk result (λ places. sorted_by (columns_cmp columns.now) places.items
         ≡ take most (sorted_by (columns_cmp columns.now) (range_with_len 0 count))) }
 {
     let last = last_place(alloc, columns, count, most)?;
@@ -50,7 +50,7 @@ fn last_place(
 ) -> Result<usize, AllocError>
     requires some { 0 < most }
     requires within { most ≤ count }
-    ensures { IfOk result (λ last. most ≤ length (filter (is_up_to columns.now last) (range_with_len 0 count))) }
+    ensures { IfOk result (λ last. length (filter (is_up_to columns.now last) (range_with_len 0 count)) ≡ most) }
 {
     let mut places = all_places(alloc, count)?;
     let (_, last, _) = places

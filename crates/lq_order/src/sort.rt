@@ -86,8 +86,7 @@ fn first_in_order(
 ) -> Result<Vec<usize>, AllocError>
     requires some { 0 < most }
     requires within { most ≤ length records.now }
-    ensures { IfOk result (λ places.
-        take most places.items ≡ take most (places_in_order (map sort_by keys.now) records.now)) }
+    ensures { IfOk result (λ places. places.items ≡ take most (places_in_order (map sort_by keys.now) records.now)) }
 {
     let columns = columns(alloc, keys, records, false)?;
     let places = first_places(alloc, columns.as_slice(), records.len(), most)?;

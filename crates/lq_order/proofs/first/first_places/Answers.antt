@@ -1,4 +1,4 @@
-use Rattle.std.proofs.Common.{◌≡◌, Bool, true, false, is_le, [], ◌∷◌, ◌++◌, cond, ap, sym, refl, ◌∙◌, arith, take}
+use Rattle.std.proofs.Common.{◌≡◌, Bool, true, false, is_le, [], ◌∷◌, ◌++◌, cond, ap, sym, refl, ◌∙◌, arith}
 use Rattle.std.specs.List.{filter, range_with_len}
 use Rattle.lq_ast.specs.Tuples.{sorted_by}
 use Rattle.lq_tuple.proofs.Lists.{filter_more}
@@ -32,5 +32,5 @@ returns c =
     let all = c.loop-place.invariant
     ∙ ap (λ n. filter (is_up_to columns c.in_ok-last.last) (range_with_len 0 n))
     (omega (arith, c.loop-place-test.false, c.loop-place.auto.place-end)) in
-    ap (λ places. take c.args.most (sorted_by order places)) all
+    ap (sorted_by order) all
     ∙ first_kept order (placed_cmp_total columns) c.in_ok-last.last c.args.most c.args.count c.in_ok-last.ensures

@@ -3,7 +3,7 @@ use Rattle.std.proofs.lemmas.Result.{IfOk-weaker}
 use Rattle.lq_ast.specs.PipeView.{sort_by}
 use Rattle.lq_ast.specs.Sorting.{at_most}
 use Rattle.lq_order.specs.Places.{IsWanted, places_in_order}
-use Rattle.lq_order.proofs.FirstPlaces.{kept_alike}
+use Rattle.lq_order.proofs.FirstPlaces.{kept_of_first}
 use Rattle.lq_order.proofs.sort.enough_in_order.Goals as goal
 
 pub first_in_order-requires-clause-some : goal.first_in_order-requires-clause-some
@@ -25,8 +25,9 @@ returns-in-Some c =
     let most = c.in-Some.most in
     let all = ap (λ keys. take most (places_in_order (map sort_by keys) records)) c.as_slice.ensures in
     IfOk-weaker c.first_in_order.result _ _
-    (λ places is. kept_alike places.items (places_in_order (map sort_by p.keys) records) p.offset p.limit (length records)
-    most c.in-Some.ensures (is ∙ all)) c.first_in_order.ensures
+    (λ places is. ap (λ ps. at_most p.limit (drop p.offset ps)) (is ∙ all)
+    ∙ kept_of_first (places_in_order (map sort_by p.keys) records) p.offset p.limit (length records) most c.in-Some.ensures)
+    c.first_in_order.ensures
 
 pub returns-in-None : goal.returns-in-None
 returns-in-None c =

@@ -17,8 +17,8 @@ returns c =
     let mirrors = subst (λ cs. Mirrors (columns_cmp cs) order records) (sym c.as_slice-2.ensures.value)
     c.in_ok-columns.ensures in
     let first = subst
-    (λ cs. take c.args.most (sorted_by (columns_cmp cs) c.in_ok-places.places.items)
+    (λ cs. sorted_by (columns_cmp cs) c.in_ok-places.places.items
     ≡ take c.args.most (sorted_by (columns_cmp cs) (range_with_len 0 (length records))))
     (c.as_slice.ensures.value ∙ sym c.as_slice-2.ensures.value) c.in_ok-places.ensures in
     let all = first ∙ ap (take c.args.most) (places_as_items records (columns_cmp columns) order mirrors) in
-    IfOk-weaker c.in_order.result _ _ (λ places is. ap (take c.args.most) is ∙ all) c.in_order.ensures
+    IfOk-weaker c.in_order.result _ _ (λ places is. is ∙ all) c.in_order.ensures
