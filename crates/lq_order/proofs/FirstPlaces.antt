@@ -3,24 +3,30 @@ use Rattle.std.proofs.Common.{◌≡◌, ℕ, zero, suc, ◌+◌, ◌<◌, ◌�
 use Rattle.std.proofs.Common.{Option, get_or, take, drop, min, refl, sym, ap, subst, ◌∙◌, arith}
 use Rattle.std.proofs.Common.{length-append}
 use Rattle.std.proofs.lemmas.Fn.{always_returns_same}
-use Rattle.std.proofs.lemmas.List.{drop-take}
+use Rattle.std.proofs.lemmas.List.{drop-take, get_or-take, length-take}
+use Rattle.std.proofs.lemmas.List.Kept.{AllPairs-from_increasing, IsStrictlyIncreasing-filter}
 use Rattle.std.proofs.lemmas.List.Sorted.{length_permutation, sum_by-IsPermutation}
 use Rattle.std.proofs.lemmas.List.Sums.{length-filter}
 use Rattle.std.proofs.lemmas.Map.Keys.{IsDistinct-IsPermutation}
 use Rattle.std.specs.Cmp.{IsTotalOrder, nat_cmp_is, tied_itself, upto}
 use Rattle.std.specs.Fn.{Called, ComparesAs}
-use Rattle.std.specs.List.{AllByRecursion, IsDistinct, count_by, filter, range_with_len}
-use Rattle.std.specs.List.Sorted.{IsPermutation, IsSplitAroundBy, IsSplitAroundByClosure}
+use Rattle.std.specs.List.{AllByRecursion, AllPairs, IsDistinct, count_by, filter, range_with_len}
+use Rattle.std.specs.List.Sorted.{IsPermutation, IsSplitAroundBy, IsSplitAroundByClosure, IsStrictlyIncreasing}
 use Rattle.std.specs.Ordering.{is_eq, is_gt, is_le, is_lt, nat_cmp, ordering_reverse, ordering_then, then_cmp}
 use Rattle.std.specs.declared.cmp.Ordering.{Ordering}
 use Rattle.std.specs.declared.cmp.Ordering.TheVariants.{Equal, Greater, Less}
-use Rattle.lq_ast.proofs.Sorted.{Pairwise, all_from_places, all_sorted, all_weaker, is_gt_turned, permutation_sorted, split_bool, weak_order}
+use Rattle.lq_ast.proofs.Sorted.{Pairwise, all_from_places, all_sorted, all_weaker, is_gt_turned, pairs_from_pairwise, permutation_sorted}
+use Rattle.lq_ast.proofs.Sorted.{split_bool, weak_order}
 use Rattle.lq_ast.specs.Sorting.{at_most}
 use Rattle.lq_ast.specs.Tuples.{insert_by, sorted_by}
 use Rattle.lq_tuple.proofs.Once.{count_cons, count_joined}
+use Rattle.lq_order.specs.Column.{columns_cmp, is_up_to, placed_cmp}
+use Rattle.lq_order.specs.First.{HasFirst}
 use Rattle.lq_order.specs.Places.{IsWanted}
+use Rattle.lq_order.specs.declared.column.Column.{Column}
 use Rattle.lq_order.proofs.Leading.{count_all, count_none, take_sorted}
 use Rattle.lq_order.proofs.Columns.{take_whole}
+use Rattle.lq_order.proofs.Orders.{placed_cmp_total}
 use denote.Param.Members.{Mut}
 use denote.Ref.{Bor}
 
@@ -173,22 +179,69 @@ module _ {A : Type 0} (order : A → A → Ordering) (total : IsTotalOrder order
 
 -- ---- the first places
 
--- The first of all places in order are those up to the last of them, in order.
-pub first_kept : (order : ℕ → ℕ → Ordering) (total : IsTotalOrder (then_cmp order nat_cmp)) (last most count : ℕ)
-    → length (filter (λ place. is_le (then_cmp order nat_cmp place last)) (range_with_len 0 count)) ≡ most
-    → sorted_by order (filter (λ place. is_le (then_cmp order nat_cmp place last)) (range_with_len 0 count))
-    ≡ take most (sorted_by order (range_with_len 0 count))
-first_kept order total last most count exact =
-    let placed = then_cmp order nat_cmp in
-    let keep = λ (place : ℕ). is_le (placed place last) in
-    let all = range_with_len 0 count in
-    let kept = filter keep all in
-    let rises = range_rises 0 count in
-    let long = length_permutation kept (sorted_by placed kept) (permutation_sorted placed kept) in
-    sym (sorted_placed order kept (pairwise_filtered ◌<◌ keep all rises))
-    ∙ sym (take_whole (sorted_by placed kept) most (omega (arith, long, exact)))
-    ∙ sym (take_sorted placed total keep (up_to_apart placed total last) most all (omega (arith, exact)))
-    ∙ ap (take most) (sorted_placed order all rises)
+pub range_increases : (count : ℕ) → IsStrictlyIncreasing (range_with_len 0 count)
+range_increases count k within =
+    pairs_from_pairwise ◌<◌ (range_with_len 0 count) (range_rises 0 count) k (k + 1) 0 (omega arith) within
+
+pub taken_increases : (xs : List ℕ) (n : ℕ) → IsStrictlyIncreasing xs → IsStrictlyIncreasing (take n xs)
+taken_increases xs n up k within =
+    let long = length-take n xs in
+    rw (get_or-take n xs k 0 (omega (arith, long, within)), get_or-take n xs (k + 1) 0 (omega (arith, long, within)))
+    (up k (omega (arith, long, within)))
+
+pairwise_from_pairs : {A : Type 0} (R : A → A → Type 0) (xs : List A) → AllPairs R xs → Pairwise R xs
+pairwise_from_pairs R [] h = tt
+pairwise_from_pairs R (x ∷ xs) h = (
+  all_from_places (R x) xs (λ k d within. h 0 (suc k) d (omega arith) (omega arith)),
+  pairwise_from_pairs R xs (λ i j d up within. h (suc i) (suc j) d (omega arith) (omega arith)),
+)
+
+pub rises_from : (xs : List ℕ) → IsStrictlyIncreasing xs → Pairwise ◌<◌ xs
+rises_from xs up = pairwise_from_pairs ◌<◌ xs (AllPairs-from_increasing xs up)
+
+taken_fewer : {A : Type 0} (keep : A → Bool) (xs : List A) (n : ℕ)
+    → length (filter keep (take n xs)) ≤ length (filter keep xs)
+taken_fewer keep xs zero = omega arith
+taken_fewer keep [] (suc n) = omega arith
+taken_fewer keep (x ∷ xs) (suc n) =
+    let more = taken_fewer keep xs n in
+    elim (keep x) as (λ t. length (cond t (x ∷ filter keep (take n xs)) (filter keep (take n xs)))
+    ≤ length (cond t (x ∷ filter keep xs) (filter keep xs))) [
+      | true ↦ omega (arith, more)
+      | false ↦ more
+    ]
+
+-- Where so many of a sample stand up to the last one, those of all places up to it have the first of all.
+pub has_first : (columns : List Column) (places : List ℕ) (sample most last : ℕ) (kept : List ℕ)
+    → IsStrictlyIncreasing places
+    → length (filter (is_up_to columns last) (take sample places)) ≡ most
+    → kept ≡ filter (is_up_to columns last) places
+    → HasFirst columns places sample most kept
+has_first columns places sample most last kept up exact is =
+    let order = columns_cmp columns in
+    let placed = placed_cmp columns in
+    let keep = is_up_to columns last in
+    let left = filter keep places in
+    let total = placed_cmp_total columns in
+    let enough : most ≤ length left = omega (arith, exact, taken_fewer keep places sample) in
+    let rises = rises_from places up in
+    let first = ap (take most) (sym (sorted_placed order left (pairwise_filtered ◌<◌ keep places rises)))
+    ∙ sym (take_sorted placed total keep (up_to_apart placed total last) most places (omega (arith, enough)))
+    ∙ ap (take most) (sorted_placed order places rises) in
+    record {
+      first = ap (λ ps. take most (sorted_by order ps)) is ∙ first;
+      rising = subst IsStrictlyIncreasing (sym is) (IsStrictlyIncreasing-filter keep places up);
+      enough = rw is enough;
+      exact = λ whole. ap length is ∙ sym (ap (λ ps. length (filter keep ps)) (take_whole places sample (omega (arith, whole))))
+          ∙ exact;
+    }
+
+-- so many items in order, where there are no more
+pub sorted_whole : (order : ℕ → ℕ → Ordering) (xs : List ℕ) (most : ℕ) → length xs ≡ most
+    → take most (sorted_by order xs) ≡ sorted_by order xs
+sorted_whole order xs most exact =
+    let long = length_permutation xs (sorted_by order xs) (permutation_sorted order xs) in
+    take_whole (sorted_by order xs) most (omega (arith, long, exact))
 
 take_again : {A : Type 0} (n m : ℕ) → n ≤ m → (xs : List A) → take n (take m xs) ≡ take n xs
 take_again zero m up xs = refl

@@ -1,5 +1,6 @@
 pub mod Column
 pub mod Dictionary
+pub mod First
 pub mod Groups
 pub mod Mirror
 pub mod Places

@@ -1,36 +1,33 @@
-use Rattle.std.proofs.Common.{◌≡◌, Bool, true, false, is_le, [], ◌∷◌, ◌++◌, cond, ap, sym, refl, ◌∙◌, arith}
-use Rattle.std.specs.List.{filter, range_with_len}
-use Rattle.lq_ast.specs.Tuples.{sorted_by}
-use Rattle.lq_tuple.proofs.Lists.{filter_more}
-use Rattle.lq_order.specs.Column.{columns_cmp, is_up_to}
-use Rattle.lq_order.proofs.FirstPlaces.{first_kept}
-use Rattle.lq_order.proofs.Orders.{placed_cmp_total}
-use Rattle.lq_order.proofs.Places.{range_more}
+use Rattle.std.proofs.Common.{ap, refl, sym, subst, length, ◌∙◌, arith}
+use Rattle.std.proofs.lemmas.List.FromFn.{length-range_with_len}
+use Rattle.std.proofs.lemmas.Result.{IfOk-weaker}
+use Rattle.std.specs.List.{range_with_len}
+use Rattle.std.specs.List.Sorted.{IsStrictlyIncreasing}
+use Rattle.lq_order.specs.First.{HasFirst}
+use Rattle.lq_order.proofs.FirstPlaces.{range_increases}
 use Rattle.lq_order.proofs.first.first_places.Goals as goal
-use Rattle.lq_order.proofs.first.first_places.Goals.{then-is_le+in_ok-push, else-is_le}
+use Rattle.lq_order.proofs.first.first_places.Goals.{After-drop-all-2}
 
-pub loop-place-preserved : goal.loop-place-preserved
-loop-place-preserved c =
-    let keep = is_up_to c.args.columns.now c.in_ok-last.last in
-    let place = c.loop-place.place in
-    let all = range_with_len 0 place in
-    let tests = c.is_le.ensures ∙ ap is_le c.compare_placed.ensures in
-    let whole = ap (filter keep) (range_more 0 place place (omega arith)) ∙ filter_more keep all place in
-    let told = λ (t : Bool) (is : t ≡ c.is_le.result).
-    whole ∙ ap (λ b. cond b (filter keep all ++ place ∷ []) (filter keep all)) (sym (is ∙ tests)) in
-    elim c.if-is_le.branch [
-      | then-is_le+in_ok-push w ↦
-          ap (λ v. v.items) w.first-is ∙ w.in_ok-push.ensures.items ∙ ap (λ places. places ++ place ∷ []) c.loop-place.invariant
-          ∙ sym (told true (sym w.if-is_le.true))
-      | else-is_le w ↦ ap (λ v. v.items) w.first-is ∙ c.loop-place.invariant ∙ sym (told false (sym w.if-is_le.false))
-    ]
+pub up_to_nth-requires-clause-rising : goal.up_to_nth-requires-clause-rising
+up_to_nth-requires-clause-rising c =
+    subst IsStrictlyIncreasing (sym (c.as_slice.ensures.value ∙ c.in_ok-all.ensures)) (range_increases c.args.count)
 
-pub returns : goal.returns
-returns c =
-    let columns = c.args.columns.now in
-    let order = columns_cmp columns in
-    let all = c.loop-place.invariant
-    ∙ ap (λ n. filter (is_up_to columns c.in_ok-last.last) (range_with_len 0 n))
-    (omega (arith, c.loop-place-test.false, c.loop-place.auto.place-end)) in
-    ap (sorted_by order) all
-    ∙ first_kept order (placed_cmp_total columns) c.in_ok-last.last c.args.most c.args.count c.in_ok-last.ensures
+pub up_to_nth-requires-clause-sampled : goal.up_to_nth-requires-clause-sampled
+up_to_nth-requires-clause-sampled c =
+    let all = ap length (c.as_slice.ensures.value ∙ c.in_ok-all.ensures) in
+    omega (arith, all, length-range_with_len 0 c.args.count, c.min-sample.ensures)
+
+one_pass : (c : After-drop-all-2)
+    → HasFirst c.args.columns.now (range_with_len 0 c.args.count) c.min-sample.result c.args.most c.as_slice-near.result.now
+one_pass c =
+    subst (HasFirst c.args.columns.now (range_with_len 0 c.args.count) c.min-sample.result c.args.most)
+    (sym c.as_slice-near.ensures.value)
+    (subst (λ ps. HasFirst c.args.columns.now ps c.min-sample.result c.args.most c.in_ok-near.near.items)
+    (c.as_slice.ensures.value ∙ c.in_ok-all.ensures) c.in_ok-near.ensures)
+
+pub returns-clause-first : goal.returns-clause-first
+returns-clause-first c =
+    IfOk-weaker c.up_to_nth-2.result _ _ (λ places two. two.first ∙ (one_pass c).first) c.up_to_nth-2.ensures
+
+pub returns-clause-exact : goal.returns-clause-exact
+returns-clause-exact c = IfOk-weaker c.up_to_nth-2.result _ _ (λ places two. two.exact refl) c.up_to_nth-2.ensures
