@@ -4,7 +4,7 @@ use Rattle.std.proofs.Common.{slice_index, subst, arith}
 use Rattle.std.specs.Cmp.{IsTotalOrder, back_total, nat_cmp_total, on_total, then_total}
 use Rattle.std.specs.Cmp.Lexicographic.{options_total}
 use Rattle.std.specs.List.{slice_get}
-use Rattle.std.specs.Ordering.{on, ordering_reverse, ordering_then}
+use Rattle.std.specs.Ordering.{ordering_reverse, ordering_then}
 use Rattle.std.specs.declared.cmp.Ordering.{Ordering}
 use Rattle.std.specs.declared.cmp.Ordering.TheVariants.{Equal, Greater, Less}
 use Rattle.vl_row.specs.KeyOrder.{key_cmp_total}

@@ -45,7 +45,7 @@ pub(crate) fn first_places(
     up_to_nth(alloc, columns, near, near.len(), most)
 }
 
-/// Those of the places that do not stand behind the last one of the first `most` of a sample, which is the front of them.
+/// The places without those that stand behind each of the first `most` of a sample, which is the front of them.
 fn up_to_nth(
     alloc: Global,
     columns: &[Column<'_>],

@@ -31,7 +31,7 @@ impl<'p> Tally<'p> {
         }
     }
 
-    /// The tally of these records, for these fields. The records go, so that what is made of the tally has their memory.
+    /// The tally of these records, for these fields. The records go before anything is made of it.
     pub(crate) fn of(alloc: Global, names: &'p [Text], r: Recs) -> Result<Tally<'p>, AllocError>
         ensures { IfOk result (λ tally. Tallies tally names.entry.now r) }
     {

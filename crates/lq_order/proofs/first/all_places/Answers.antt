@@ -1,4 +1,4 @@
-use Rattle.std.proofs.Common.{◌≡◌, ◌++◌, [], ◌∷◌, ◌∙◌, ap, sym, arith}
+use Rattle.std.proofs.Common.{◌++◌, [], ◌∷◌, ◌∙◌, ap, sym, arith}
 use Rattle.std.specs.List.{range_with_len}
 use Rattle.lq_order.proofs.Places.{range_more}
 use Rattle.lq_order.proofs.first.all_places.Goals as goal

@@ -1,4 +1,4 @@
-use Rattle.std.proofs.Common.{ap, map, sym, ◌∙◌}
+use Rattle.std.proofs.Common.{map, sym, ◌∙◌}
 use Rattle.log_model.specs.Field.{field_value}
 use Rattle.log_model.specs.Order.{key_of}
 use Rattle.lq_tuple.proofs.Lists.{map_twice}
