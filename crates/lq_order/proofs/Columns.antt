@@ -30,7 +30,8 @@ item_read items i None (is, here, there, at, default) = sym (slice_get_past item
 item_read items i (Some x) (is, here, there, at, default) = ap Some here ∙ sym (slice_get-get_or items i x.now at.0)
 
 lent_cmp : {A : Type 0} (order : A → A → Ordering) (p q : Option (Bor A))
-    → option_cmp (λ x y. order x.now y.now) p q ≡ option_cmp order (option_map (λ x. x.now) p) (option_map (λ x. x.now) q)
+    → option_cmp (λ x y. order x.now y.now) p q
+    ≡ option_cmp order (option_map (λ x. x.now) p) (option_map (λ x. x.now) q)
 lent_cmp order None None = refl
 lent_cmp order None (Some y) = refl
 lent_cmp order (Some x) None = refl
@@ -51,7 +52,8 @@ unfolding value_cmp
 mirrors_keyed keys texts is = record {
   same = λ i j d at_i at_j.
       let read = λ (k : ℕ) (within : k < length texts).
-      ap (λ l. slice_get l k) is ∙ slice_get-map key_of texts k ∙ ap (option_map key_of) (slice_get-get_or texts k d within) in
+      ap (λ l. slice_get l k) is ∙ slice_get-map key_of texts k
+      ∙ ap (option_map key_of) (slice_get-get_or texts k d within) in
       ap (λ o. option_cmp key_cmp o (slice_get keys j)) (read i at_i)
       ∙ ap (option_cmp key_cmp (Some (key_of (get_or texts i d)))) (read j at_j);
 }

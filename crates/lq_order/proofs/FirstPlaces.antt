@@ -14,7 +14,8 @@ use Rattle.std.specs.List.Sorted.{IsPermutation, IsSplitAroundBy, IsSplitAroundB
 use Rattle.std.specs.Ordering.{is_eq, is_gt, is_le, is_lt, nat_cmp, ordering_reverse, ordering_then, then_cmp}
 use Rattle.std.specs.declared.cmp.Ordering.{Ordering}
 use Rattle.std.specs.declared.cmp.Ordering.TheVariants.{Equal, Greater, Less}
-use Rattle.lq_ast.proofs.Sorted.{Pairwise, all_from_places, all_sorted, all_weaker, is_gt_turned, pairs_from_pairwise, permutation_sorted}
+use Rattle.lq_ast.proofs.Sorted.{Pairwise, all_from_places, all_sorted, all_weaker, is_gt_turned}
+use Rattle.lq_ast.proofs.Sorted.{pairs_from_pairwise, permutation_sorted}
 use Rattle.lq_ast.proofs.Sorted.{split_bool, weak_order}
 use Rattle.lq_ast.specs.Sorting.{at_most}
 use Rattle.lq_ast.specs.Tuples.{insert_by, sorted_by}
@@ -42,18 +43,20 @@ range_rises start (suc m) = (above start m (start + 1) (omega arith), range_rise
 all_filtered : {A : Type 0} (P : A → Type 0) (keep : A → Bool) (xs : List A) → AllByRecursion P xs
     → AllByRecursion P (filter keep xs)
 all_filtered P keep [] h = tt
-all_filtered P keep (x ∷ xs) h = elim (keep x) as (λ t. AllByRecursion P (cond t (x ∷ filter keep xs) (filter keep xs))) [
-  | true ↦ (h.0, all_filtered P keep xs h.1)
-  | false ↦ all_filtered P keep xs h.1
-]
+all_filtered P keep (x ∷ xs) h =
+    elim (keep x) as (λ t. AllByRecursion P (cond t (x ∷ filter keep xs) (filter keep xs))) [
+      | true ↦ (h.0, all_filtered P keep xs h.1)
+      | false ↦ all_filtered P keep xs h.1
+    ]
 
 pub pairwise_filtered : {A : Type 0} (R : A → A → Type 0) (keep : A → Bool) (xs : List A) → Pairwise R xs
     → Pairwise R (filter keep xs)
 pairwise_filtered R keep [] h = tt
-pairwise_filtered R keep (x ∷ xs) h = elim (keep x) as (λ t. Pairwise R (cond t (x ∷ filter keep xs) (filter keep xs))) [
-  | true ↦ (all_filtered (R x) keep xs h.0, pairwise_filtered R keep xs h.1)
-  | false ↦ pairwise_filtered R keep xs h.1
-]
+pairwise_filtered R keep (x ∷ xs) h =
+    elim (keep x) as (λ t. Pairwise R (cond t (x ∷ filter keep xs) (filter keep xs))) [
+      | true ↦ (all_filtered (R x) keep xs h.0, pairwise_filtered R keep xs h.1)
+      | false ↦ pairwise_filtered R keep xs h.1
+    ]
 
 -- ---- places that rise are put in the same order where those that are equal are compared themselves
 
@@ -86,7 +89,8 @@ module _ (order : ℕ → ℕ → Ordering) where
   unfolding IsDistinct
   placed_apart [] h = tt
   placed_apart (x ∷ xs) h = (
-    all_weaker (λ y. x < y) (λ y. is_eq (then_cmp order nat_cmp x y) ≡ false) (λ y. earlier_apart (order x y) x y) xs h.0,
+    all_weaker (λ y. x < y) (λ y. is_eq (then_cmp order nat_cmp x y) ≡ false)
+        (λ y. earlier_apart (order x y) x y) xs h.0,
     placed_apart xs h.1,
   )
 
@@ -231,7 +235,9 @@ has_first columns places sample most last kept up exact is =
       first = ap (λ ps. take most (sorted_by order ps)) is ∙ first;
       rising = subst IsStrictlyIncreasing (sym is) (IsStrictlyIncreasing-filter keep places up);
       enough = rw is enough;
-      exact = λ whole. ap length is ∙ sym (ap (λ ps. length (filter keep ps)) (take_whole places sample (omega (arith, whole))))
+      exact = λ whole.
+          ap length is
+          ∙ sym (ap (λ ps. length (filter keep ps)) (take_whole places sample (omega (arith, whole))))
           ∙ exact;
     }
 

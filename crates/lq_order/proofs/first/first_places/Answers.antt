@@ -18,7 +18,8 @@ up_to_nth-requires-clause-sampled c =
     omega (arith, all, length-range_with_len 0 c.args.count, c.min-sample.ensures)
 
 one_pass : (c : After-drop-all-2)
-    → HasFirst c.args.columns.now (range_with_len 0 c.args.count) c.min-sample.result c.args.most c.as_slice-near.result.now
+    → HasFirst c.args.columns.now (range_with_len 0 c.args.count) c.min-sample.result c.args.most
+    c.as_slice-near.result.now
 one_pass c =
     subst (HasFirst c.args.columns.now (range_with_len 0 c.args.count) c.min-sample.result c.args.most)
     (sym c.as_slice-near.ensures.value)

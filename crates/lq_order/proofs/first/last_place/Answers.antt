@@ -20,8 +20,10 @@ returns c =
     let back = split.result.2.now in
     let places = c.args.places.now in
     let same = subst (λ xs. IsPermutation xs (front ++ last ∷ back))
-    (c.as_mut_slice.ensures.value ∙ c.in_ok-turned.ensures.items_if_clones_equal (λ x y e. e)) split.ensures.permutation in
-    let around = split_by_closure order total front last back split.ensures.partitioned (λ a o f called. search rules) in
+    (c.as_mut_slice.ensures.value ∙ c.in_ok-turned.ensures.items_if_clones_equal (λ x y e. e))
+    split.ensures.permutation in
+    let around = split_by_closure order total front last back split.ensures.partitioned
+    (λ a o f called. search rules) in
     let apart = placed_apart (columns_cmp c.args.columns.now) places (rises_from places c.requires.rising) in
     let exact = exact_split order total last places front back same apart around.0 around.1 in
     omega (arith, exact, split.ensures.front_len, c.requires.some)

@@ -28,7 +28,8 @@ loop-place-preserved c =
     whole ∙ ap (λ b. cond b (filter keep seen ++ place ∷ []) (filter keep seen)) (sym (is ∙ tests)) in
     elim c.if-is_le.branch [
       | then-is_le+in_ok-push w ↦
-          ap (λ v. v.items) w.kept-is ∙ w.in_ok-push.ensures.items ∙ ap (λ kept. kept ++ place ∷ []) c.loop-place.invariant
+          ap (λ v. v.items) w.kept-is ∙ w.in_ok-push.ensures.items
+          ∙ ap (λ kept. kept ++ place ∷ []) c.loop-place.invariant
           ∙ sym (told true (sym w.if-is_le.true))
       | else-is_le w ↦
           ap (λ v. v.items) w.kept-is ∙ c.loop-place.invariant ∙ sym (told false (sym w.if-is_le.false))

@@ -26,7 +26,8 @@ returns-in-Some c =
     let all = ap (λ keys. take most (places_in_order (map sort_by keys) records)) c.as_slice.ensures in
     IfOk-weaker c.first_in_order.result _ _
     (λ places is. ap (λ ps. at_most p.limit (drop p.offset ps)) (is ∙ all)
-    ∙ kept_of_first (places_in_order (map sort_by p.keys) records) p.offset p.limit (length records) most c.in-Some.ensures)
+    ∙ kept_of_first (places_in_order (map sort_by p.keys) records) p.offset p.limit (length records) most
+    c.in-Some.ensures)
     c.first_in_order.ensures
 
 pub returns-in-None : goal.returns-in-None

@@ -21,6 +21,7 @@ returns c =
     (λ cs. take c.args.most (sorted_by (columns_cmp cs) c.in_ok-places.places.items)
     ≡ take c.args.most (sorted_by (columns_cmp cs) (range_with_len 0 (length records))))
     (c.as_slice.ensures.value ∙ sym c.as_slice-2.ensures.value) c.in_ok-places.ensures.first in
-    let whole = sorted_whole (columns_cmp columns) c.in_ok-places.places.items c.args.most c.in_ok-places.ensures.exact in
+    let whole = sorted_whole (columns_cmp columns) c.in_ok-places.places.items c.args.most
+    c.in_ok-places.ensures.exact in
     let all = sym whole ∙ found ∙ ap (take c.args.most) (places_as_items records (columns_cmp columns) order mirrors) in
     IfOk-weaker c.in_order.result _ _ (λ places is. is ∙ all) c.in_order.ensures
