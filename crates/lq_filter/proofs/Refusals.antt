@@ -2,43 +2,46 @@
 use Rattle.std.proofs.Common.{◌≡◌, ◌<◌, ◌≤◌, ℕ, zero, suc, ◌+◌, ◌-◌, List, [], ◌∷◌, ◌++◌, length, drop, map, get_or}
 use Rattle.std.proofs.Common.{refl, sym}
 use Rattle.std.proofs.Common.{ap, ◌∙◌, append_assoc, length-append, arith}
-use Rattle.std.specs.Prelude.{IsSomeAnd, IsErrAnd, IfErr, Result, Ok, Err, slice_get, flat_map}
+use Rattle.std.specs.Prelude.{IsErrAnd, IfErr, Result, Ok, Err, flat_map}
 use Rattle.std.proofs.lemmas.List.{map-append}
 use Rattle.std.specs.List.{AllByRecursion}
 use Rattle.std.proofs.lemmas.List.{append-nil, drop_all}
 use Rattle.lq_ast.specs.Patterns.{Pattern, CanBeRead}
 use Rattle.vl_row.proofs.Sorted.{all_append}
-use Rattle.lq_filter.specs.Refusal.{IsRefusal}
+use Rattle.lq_filter.specs.Refusal.{IsFirstUnreadable, IsRefusal}
 use Rattle.lq_filter.specs.declared.fault.PrepareFault.{PrepareFault}
 use Rattle.lq_filter.specs.declared.fault.PrepareFault.TheVariants.{RegexRefused, Memory}
 use Rattle.lq_filter.proofs.Walks.{rest_is}
 
-some_more : {X : Type 0} (P : X → Type 0) (xs ys : List X) (k : ℕ) → IsSomeAnd (slice_get xs k) P
-    → IsSomeAnd (slice_get (xs ++ ys) k) P
-some_more P [] ys k h = absurd h
-some_more P (x ∷ xs) ys zero h = h
-some_more P (x ∷ xs) ys (suc k) h = some_more P xs ys k h
+-- ---- among more patterns
 
-some_later : {X : Type 0} (P : X → Type 0) (xs ys : List X) (k n : ℕ) → n ≡ length xs + k → IsSomeAnd (slice_get ys k) P
-    → IsSomeAnd (slice_get (xs ++ ys) n) P
-some_later P [] ys k n e h = let same : n ≡ k = omega arith in rw same h
-some_later P (x ∷ xs) ys k zero e h = absurd (omega arith)
-some_later P (x ∷ xs) ys k (suc n) e h = some_later P xs ys k n (omega arith) h
+first_before : (xs ys : List Pattern) (k : ℕ) → IsFirstUnreadable xs k → IsFirstUnreadable (xs ++ ys) k
+first_before [] ys k h = absurd h.1
+first_before (x ∷ xs) ys zero h = (tt, h.1)
+first_before (x ∷ xs) ys (suc k) h = let rest = first_before xs ys k (h.0.1, h.1) in ((h.0.0, rest.0), rest.1)
+
+first_behind : (xs ys : List Pattern) (k n : ℕ) → n ≡ length xs + k → AllByRecursion CanBeRead xs
+    → IsFirstUnreadable ys k → IsFirstUnreadable (xs ++ ys) n
+first_behind [] ys k n e reads h = let same : n ≡ k = omega arith in rw same h
+first_behind (x ∷ xs) ys k zero e reads h = absurd (omega arith)
+first_behind (x ∷ xs) ys k (suc n) e reads h =
+    let rest = first_behind xs ys k n (omega arith) reads.1 h in ((reads.0, rest.0), rest.1)
 
 pub refusal_before : (first : ℕ) (xs ys : List Pattern) (fault : PrepareFault) → IsRefusal first xs fault
     → IsRefusal first (xs ++ ys) fault
-refusal_before first xs ys (RegexRefused nth) h = (h.0, some_more _ xs ys (nth - first) h.1)
+refusal_before first xs ys (RegexRefused nth) h = (h.0, first_before xs ys (nth - first) h.1)
 refusal_before first xs ys Memory h = h
 
-pub refusal_behind : (first : ℕ) (xs ys : List Pattern) (fault : PrepareFault) → IsRefusal (first + length xs) ys fault
-    → IsRefusal first (xs ++ ys) fault
-refusal_behind first xs ys (RegexRefused nth) h =
-    (omega (arith, h.0), some_later _ xs ys (nth - (first + length xs)) (nth - first) (omega (arith, h.0)) h.1)
-refusal_behind first xs ys Memory h = h
+-- what stands before can be read
+pub refusal_behind : (first : ℕ) (xs ys : List Pattern) (fault : PrepareFault) → AllByRecursion CanBeRead xs
+    → IsRefusal (first + length xs) ys fault → IsRefusal first (xs ++ ys) fault
+refusal_behind first xs ys (RegexRefused nth) reads h =
+    (omega (arith, h.0), first_behind xs ys (nth - (first + length xs)) (nth - first) (omega (arith, h.0)) reads h.1)
+refusal_behind first xs ys Memory reads h = h
 
 pub refused_one : (nth : ℕ) (tried : Pattern) → (CanBeRead tried → ⊥) → IsRefusal nth (tried ∷ []) (RegexRefused nth)
 refused_one nth tried unreadable =
-    let none : nth - nth ≡ 0 = omega arith in (omega arith, rw none unreadable)
+    let none : nth - nth ≡ 0 = omega arith in (omega arith, rw none (tt, unreadable))
 
 -- What is left of a list to read: the number of the next pattern counts those of the elements that were passed, what is
 -- refused from here on is refused of the whole list, and all patterns can be read where those from here on can.
@@ -70,7 +73,7 @@ module _ {X : Type 0} (patterns : X → List Pattern) (xs : List X) (first : ℕ
             let split = ap (λ ys. length (flat_map patterns ys)) rest in
             omega (arith, split, unread.counted, length-append (patterns x) (flat_map patterns (drop (i + 1) xs)));
         refused = λ fault h. unread.refused fault
-            (rw rest (refusal_behind nth (patterns x) (flat_map patterns (drop (i + 1) xs)) fault (rw counted at h)));
+            (rw rest (refusal_behind nth (patterns x) (flat_map patterns (drop (i + 1) xs)) fault reads (rw counted at h)));
         readable = λ h. unread.readable
             (rw rest (all_append CanBeRead (patterns x) (flat_map patterns (drop (i + 1) xs)) reads h));
       }

@@ -3,7 +3,8 @@ use std::alloc::{AllocError, AllocFailed};
 /// Why a query is not prepared.
 #[derive(Clone, Copy, PartialEq, Eq, Debug, Drop)]
 pub enum PrepareFault {
-    /// The regular expression with this number, counted from 0 in the order of the text, cannot be read.
+    /// The regular expression with this number, counted from 0 in the order of the text, is the first that cannot be
+    /// read.
     RegexRefused { nth: u32 },
     /// Memory is wanting.
     Memory,

@@ -22,8 +22,8 @@ pub struct Inner {
 }
 
 /// Prepares a filter that is asked of records: each regular expression is read. It is prepared only where each of its
-/// regular expressions can be read, and `RegexRefused` comes only where the one with that number cannot be; numbers
-/// count from 0 within the filter, in the order of the text.
+/// regular expressions can be read, and `RegexRefused` comes only where the one with that number is the first that
+/// cannot be; numbers count from 0 within the filter, in the order of the text.
 pub fn prepare_inner(alloc: Global, f: &Filter) -> Result<Inner, PrepareFault>
     ensures same { IfOk result (λ inner. inner_condition inner ≡ condition f.now) }
     ensures readable { IfOk result (λ _. AllByRecursion CanBeRead (patterns_of (condition f.now))) }

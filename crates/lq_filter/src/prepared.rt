@@ -26,7 +26,7 @@ pub struct Prepared {
 
 /// Prepares a query: each regular expression is read, those of its pipes too, and all that does not depend on a row is
 /// done. A query is prepared only where each of its regular expressions can be read, and `RegexRefused` comes only
-/// where the one with that number cannot be; numbers count from 0 in the order of the text.
+/// where the one with that number is the first that cannot be; numbers count from 0 in the order of the text.
 pub fn prepare(alloc: Global, q: &Query) -> Result<Prepared, PrepareFault>
     ensures same { IfOk result (λ prepared. condition_of prepared ≡ condition q.now.filter) }
     ensures readable { IfOk result (λ _. AllByRecursion CanBeRead (all_patterns (question q.now))) }

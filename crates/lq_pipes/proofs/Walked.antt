@@ -1,6 +1,6 @@
 -- Walks over a list: what is said of its first elements, and of one more.
 use Rattle.std.proofs.Common.{◌≡◌, ℕ, zero, suc, ◌+◌, ◌<◌, ◌≤◌, List, [], ◌∷◌, ◌++◌, drop, flat_map, fold, get_or}
-use Rattle.std.proofs.Common.{length, map, take, refl, sym, ap, ◌∙◌, add-one, arith, length-append}
+use Rattle.std.proofs.Common.{length, map, take, refl, sym, ap, ◌∙◌, add-one, arith}
 use Rattle.std.proofs.lemmas.List.{append-nil, drop_all, map-append}
 use Rattle.std.proofs.lemmas.Grind.{flat_map-append}
 use Rattle.std.specs.List.{AllByRecursion}
@@ -34,7 +34,7 @@ fold_more g f a xs i x below is =
     ∙ ap (fold g a) (map-append f (take i xs) (x ∷ []))
     ∙ fold_append g a (map f (take i xs)) (f x ∷ [])
 
--- ---- the things that the elements have, and how many
+-- ---- the things that the elements have
 
 pub things_more : {A B C : Type 0} (p : A → List B) (f : C → A) (xs : List C) (i : ℕ) (x : C) → i < length xs
     → x ≡ get_or xs i x → flat_map p (map f (take (i + 1) xs)) ≡ flat_map p (map f (take i xs)) ++ p (f x)
@@ -43,12 +43,6 @@ things_more p f xs i x below is =
     ∙ ap (flat_map p) (map-append f (take i xs) (x ∷ []))
     ∙ flat_map-append p (map f (take i xs)) (f x ∷ [])
     ∙ ap (λ ys. flat_map p (map f (take i xs)) ++ ys) (append-nil (p (f x)))
-
-pub count_more : {A B C : Type 0} (p : A → List B) (f : C → A) (xs : List C) (i : ℕ) (x : C) → i < length xs
-    → x ≡ get_or xs i x
-    → length (flat_map p (map f (take (i + 1) xs))) ≡ length (flat_map p (map f (take i xs))) + length (p (f x))
-count_more p f xs i x below is =
-    ap length (things_more p f xs i x below is) ∙ length-append (flat_map p (map f (take i xs))) (p (f x))
 
 -- ---- what holds of all
 

@@ -1,5 +1,5 @@
 -- The faults of pipes.
-use Rattle.std.specs.Prelude.{◌≡◌, ◌+◌, ℕ, List, length, flat_map, Result, Err}
+use Rattle.std.specs.Prelude.{◌≡◌, ℕ, List, flat_map, Result, Err}
 use Rattle.std.specs.List.{AllByRecursion}
 use Rattle.lq_ast.specs.Patterns.{CanBeRead, Pattern, patterns_of_stage}
 use Rattle.lq_ast.specs.Pipes.{all_piped}
@@ -17,18 +17,15 @@ abbrev pub of_statistics : StatFault → PipeFault
 of_statistics (stat.Overflow name) = Overflow name
 of_statistics stat.Memory = Memory
 
--- What is refused is one of these patterns, which cannot be read. An overflow is none of reading them.
+abbrev pub of_preparing : PrepareFault → PipeFault
+of_preparing (prepare.RegexRefused nth) = RegexRefused nth
+of_preparing prepare.Memory = Memory
+
+-- What is refused is the first of these patterns that cannot be read. An overflow is none of reading them.
 abbrev pub IsRefused : List Pattern → PipeFault → Type 0
 IsRefused patterns (RegexRefused nth) = IsRefusal 0 patterns (prepare.RegexRefused nth)
 IsRefused patterns (Overflow name) = ⊥
 IsRefused patterns Memory = Unit {0}
-
--- the fault of what stands behind these patterns
-abbrev pub IsRefusedBehind : List Pattern → PrepareFault → PipeFault → Type 0
-IsRefusedBehind patterns (prepare.RegexRefused nth) (RegexRefused number) = number ≡ nth + length patterns
-IsRefusedBehind patterns fault (RegexRefused number) = ⊥
-IsRefusedBehind patterns fault (Overflow name) = ⊥
-IsRefusedBehind patterns fault Memory = Unit {0}
 
 -- The fault is one of making these records.
 abbrev pub IsMadeFault : Result (List Record) (List ℕ) → PipeFault → Type 0
@@ -36,8 +33,8 @@ IsMadeFault made (RegexRefused nth) = ⊥
 IsMadeFault made (Overflow name) = made ≡ Err name
 IsMadeFault made Memory = Unit {0}
 
--- A pattern is refused that cannot be read. All can be read where a total overflows: the first one of these pipes over
--- these records.
+-- The first pattern is refused that cannot be read. All can be read where a total overflows: the first one of these pipes
+-- over these records.
 abbrev pub IsPipeFault : List Stage → List Record → PipeFault → Type 0
 IsPipeFault stages records (RegexRefused nth) = IsRefused (flat_map patterns_of_stage stages) (RegexRefused nth)
 IsPipeFault stages records (Overflow name) =

@@ -1,3 +1,4 @@
+use lq_filter::PrepareFault;
 use lq_stats::StatFault;
 use std::alloc::{AllocError, AllocFailed};
 use vl_row::Text;
@@ -5,7 +6,8 @@ use vl_row::Text;
 /// Why pipes give no records.
 #[derive(Drop)]
 pub enum PipeFault {
-    /// The regular expression with this number, counted from 0 in the order of the pipes' text, cannot be read.
+    /// The regular expression with this number, counted from 0 in the order of the pipes' text, is the first that cannot
+    /// be read.
     RegexRefused { nth: u32 },
     /// The total of the function of `stats` with this name is no 64-bit integer.
     Overflow { name: Text },
@@ -32,6 +34,20 @@ impl<T: Drop> From<AllocFailed<T>> for PipeFault {
 
     fn from(_: AllocFailed<T>) -> PipeFault {
         PipeFault::Memory
+    }
+}
+
+impl From<PrepareFault> for PipeFault {
+    ghost use Rattle.std.specs.Prelude.{◌≡◌};
+    ghost use Rattle.lq_pipes.specs.Faults.{of_preparing};
+
+    ghost from_gives = { λ fault made. made ≡ of_preparing fault };
+
+    fn from(fault: PrepareFault) -> PipeFault {
+        match fault {
+            PrepareFault::RegexRefused { nth } => PipeFault::RegexRefused { nth },
+            PrepareFault::Memory => PipeFault::Memory,
+        }
     }
 }
 

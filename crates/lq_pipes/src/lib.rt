@@ -7,7 +7,6 @@ mod kept;
 mod members;
 mod needed;
 mod output;
-mod patterns;
 mod pipes;
 mod printed_stream;
 mod project;

@@ -1,24 +1,22 @@
 //! All pipes of a query.
-ghost use Rattle.std.specs.Prelude.{◌≡◌, ◌<◌, ◌≤◌, ◌^◌, IfErr, IfOk, Ok, flat_map, length, map, take};
+ghost use Rattle.std.specs.Prelude.{◌≡◌, ◌<◌, ◌^◌, IfErr, IfOk, Ok, flat_map, length, map};
 ghost use Rattle.std.specs.List.{AllByRecursion};
 ghost use Rattle.lq_ast.specs.Patterns.{CanBeRead, patterns_of_stage};
 ghost use Rattle.lq_ast.specs.PipeView.{stage};
 ghost use Rattle.lq_ast.specs.Pipes.{all_piped};
-ghost use Rattle.lq_pipes.specs.Faults.{IsMadeFault, IsPipeFault, IsRefused, IsRefusedBehind};
+ghost use Rattle.lq_pipes.specs.Faults.{IsMadeFault, IsPipeFault, IsRefused};
 ghost use Rattle.lq_pipes.specs.Steps.{IsFresh, stage_of};
 
 use crate::fault::PipeFault;
-use crate::patterns::number_behind;
 use crate::step::Step;
 use lq_ast::Pipe;
-use lq_filter::PrepareFault;
 use std::alloc::Global;
 use std::collections::VecDeque;
 use vl_row::Recs;
 
 /// The records that the pipes make of others, one pipe after another. All their regular expressions are read first:
-/// `RegexRefused` comes only where the one with that number cannot be read, and `Overflow` exactly where the first
-/// total that is no 64-bit integer is that of the function with this name.
+/// `RegexRefused` comes only where the one with that number is the first that cannot be read, and `Overflow` exactly
+/// where the first total that is no 64-bit integer is that of the function with this name.
 pub fn apply(alloc: Global, pipes: &[Pipe], r: Recs) -> Result<Recs, PipeFault>
     requires few { length r < 2 ^ 32 }
     ensures ok { IfOk result (λ made. all_piped (map stage pipes.now) r ≡ Ok made) }
@@ -37,28 +35,12 @@ pub(crate) fn steps<'p>(alloc: Global, pipes: &'p [Pipe]) -> Result<VecDeque<Ste
         (flat_map patterns_of_stage (map stage pipes.entry.now))) }
     ensures refused { IfErr result (IsRefused (flat_map patterns_of_stage (map stage pipes.entry.now))) }
 {
+    let mut nth = 0;
     let mut steps = VecDeque::with_capacity(alloc, pipes.len())?;
-    for (i, pipe) in pipes.iter().enumerate() {
-        match Step::of(alloc, pipe) {
-            Ok(step) => steps.push_back(step)?,
-            Err(fault) => return Err(refused(pipes, i, fault)),
-        }
+    for pipe in pipes {
+        steps.push_back(Step::of(alloc, pipe, &mut nth)?)?;
     }
     Ok(steps)
-}
-
-/// The fault of the pipe at this place, whose patterns are numbered behind those of the pipes before it.
-fn refused(pipes: &[Pipe], place: usize, fault: PrepareFault) -> PipeFault
-    requires { place ≤ length pipes.now }
-    ensures { IsRefusedBehind (flat_map patterns_of_stage (map stage (take place pipes.now))) fault result }
-{
-    match fault {
-        PrepareFault::RegexRefused { nth } => match number_behind(&pipes[..place], nth) {
-            Some(nth) => PipeFault::RegexRefused { nth },
-            None => PipeFault::Memory,
-        },
-        PrepareFault::Memory => PipeFault::Memory,
-    }
 }
 
 /// The records that these pipes make of others.

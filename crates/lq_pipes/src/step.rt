@@ -1,5 +1,5 @@
 //! One pipe after another.
-ghost use Rattle.std.specs.Prelude.{◌≡◌, ◌<◌, ◌^◌, [], IfErr, IfOk, Ok, length};
+ghost use Rattle.std.specs.Prelude.{◌≡◌, ◌+◌, ◌<◌, ◌^◌, [], IfErr, IfOk, IsOk, Ok, length};
 ghost use Rattle.std.specs.List.{AllByRecursion};
 ghost use Rattle.lq_ast.specs.Patterns.{CanBeRead, patterns_of_stage};
 ghost use Rattle.lq_ast.specs.PipeView.{grouping, stage};
@@ -14,7 +14,7 @@ use crate::fault::PipeFault;
 use crate::fields::{copy, delete_fields, keep_fields, rename};
 use crate::kept::{keep, limit, offset};
 use lq_ast::{Pair, Pipe, SortPipe, StatsPipe, TopPipe, UniqPipe};
-use lq_filter::{Inner, PrepareFault, prepare_inner};
+use lq_filter::{Inner, PrepareFault, prepare_inner_from};
 use lq_order::{sort_recs, top_recs, uniq_recs};
 use lq_stats::Partial;
 use std::alloc::Global;
@@ -37,12 +37,14 @@ pub(crate) enum Step<'p> {
 }
 
 impl<'p> Step<'p> {
-    /// Reads the regular expressions of a pipe, and numbers them from 0.
-    pub(crate) fn of(alloc: Global, pipe: &'p Pipe) -> Result<Step<'p>, PrepareFault>
+    /// Reads the regular expressions of a pipe, of which the first has the number `nth`, and raises it by how many there
+    /// are.
+    pub(crate) fn of(alloc: Global, pipe: &'p Pipe, nth: &mut u32) -> Result<Step<'p>, PrepareFault>
         ensures same { IfOk result (λ step. stage_of step ≡ stage pipe.entry.now) }
         ensures fresh { IfOk result IsFresh }
+        ensures counted { IsOk result → nth.new ≡ nth.old + length (patterns_of_stage (stage pipe.entry.now)) }
         ensures readable { IfOk result (λ _. AllByRecursion CanBeRead (patterns_of_stage (stage pipe.entry.now))) }
-        ensures refused { IfErr result (IsRefusal 0 (patterns_of_stage (stage pipe.entry.now))) }
+        ensures refused { IfErr result (IsRefusal nth.old (patterns_of_stage (stage pipe.entry.now))) }
     {
         match pipe {
             Pipe::Fields(names) => Ok(Step::Fields(names.as_slice())),
@@ -53,8 +55,8 @@ impl<'p> Step<'p> {
             Pipe::Offset(first) => Ok(Step::Offset(*first)),
             Pipe::Sort(sort) => Ok(Step::Sort(sort)),
             Pipe::Uniq(uniq) => Ok(Step::Uniq(uniq)),
-            Pipe::Stats(stats) => Ok(Step::Stats(stats, Partial::of(alloc, stats)?)),
-            Pipe::Keep(filter) => Ok(Step::Keep(prepare_inner(alloc, filter)?)),
+            Pipe::Stats(stats) => Ok(Step::Stats(stats, Partial::of_from(alloc, stats, nth)?)),
+            Pipe::Keep(filter) => Ok(Step::Keep(prepare_inner_from(alloc, filter, nth)?)),
             Pipe::Top(top) => Ok(Step::Top(top)),
         }
     }

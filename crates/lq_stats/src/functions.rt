@@ -68,17 +68,23 @@ fn only_of(
     }
 }
 
-/// Prepares the functions of a pipe. The patterns of their conditions count from 0.
-pub(crate) fn functions(alloc: Global, funcs: &[Func]) -> Result<Vec<Function>, PrepareFault>
+/// Prepares the functions of a pipe, whose first pattern has the number `nth`, and raises that by the number of their
+/// patterns.
+pub(crate) fn functions(
+    alloc: Global,
+    funcs: &[Func],
+    nth: &mut u32,
+) -> Result<Vec<Function>, PrepareFault>
     ensures same { IfOk result (λ made. map statistic_of made.items ≡ map statistic funcs.now) }
+    ensures counted { IsOk result →
+        nth.new ≡ nth.old + length (flat_map patterns_of_statistic (map statistic funcs.now)) }
     ensures readable { IfOk result (λ _.
         AllByRecursion CanBeRead (flat_map patterns_of_statistic (map statistic funcs.now))) }
-    ensures refused { IfErr result (IsRefusal 0 (flat_map patterns_of_statistic (map statistic funcs.now))) }
+    ensures refused { IfErr result (IsRefusal nth.old (flat_map patterns_of_statistic (map statistic funcs.now))) }
 {
-    let mut nth = 0;
     let mut made = Vec::with_capacity(alloc, funcs.len())?;
     for func in funcs {
-        made.push(Function::of(alloc, func, &mut nth)?)?;
+        made.push(Function::of(alloc, func, nth)?)?;
     }
     Ok(made)
 }

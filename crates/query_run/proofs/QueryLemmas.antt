@@ -71,7 +71,7 @@ all_but_one (p ∷ ps) (suc n) all one = all_but_one ps n all.1 one
 -- Where all patterns can be read, none is refused.
 pub only_memory_of : (patterns : List Pattern) → AllByRecursion CanBeRead patterns → (fault : PrepareFault)
     → IsRefusal 0 patterns fault → refused_pattern fault ≡ outcomes.Memory
-only_memory_of patterns all (refusals.RegexRefused nth) refusal = absurd (all_but_one patterns _ all refusal.1)
+only_memory_of patterns all (refusals.RegexRefused nth) refusal = absurd (all_but_one patterns _ all refusal.1.1)
 only_memory_of patterns all refusals.Memory refusal = refl
 
 -- What a prepared query was read from is a query whose patterns can all be read.

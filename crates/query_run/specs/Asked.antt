@@ -1,9 +1,10 @@
 -- Which texts are asked, which are refused and why, and what a search asks.
-use Rattle.std.specs.Prelude.{◌⊎◌, ℕ, List, Err, IsSomeAnd, flat_map, map, slice_get}
+use Rattle.std.specs.Prelude.{◌⊎◌, ℕ, List, Err, flat_map, map}
 use Rattle.std.specs.List.{AllByRecursion}
 use Rattle.lq_ast.specs.Patterns.{CanBeRead, all_patterns, patterns_of_stage}
 use Rattle.lq_ast.specs.PipeView.{stage}
 use Rattle.lq_ast.specs.Question.{Question}
+use Rattle.lq_filter.specs.Refusal.{IsFirstUnreadable}
 use Rattle.lq_filter.specs.Tree.{condition_of}
 use Rattle.lq_filter.specs.declared.fault.PrepareFault.{PrepareFault}
 use Rattle.lq_filter.specs.declared.fault.PrepareFault.TheVariants as preparing
@@ -30,12 +31,11 @@ IsNoReadableQuery text =
 abbrev pub IsUnspelled : List ℕ → QueryFault → Type 0
 IsUnspelled text fault = QueryOf text (Err fault)
 
--- The text spells a query whose regular expression with this number, counted from 0 in the order of the text, cannot
--- be read.
+-- The text spells a query whose regular expression with this number, counted from 0 in the order of the text, is the
+-- first that cannot be read.
 abbrev pub HasUnreadablePattern : List ℕ → ℕ → Type 0
 HasUnreadablePattern text nth =
-    (query : Question) × IsQueryText text query
-    × IsSomeAnd (slice_get (all_patterns query) nth) (λ pattern. CanBeRead pattern → ⊥)
+    (query : Question) × IsQueryText text query × IsFirstUnreadable (all_patterns query) nth
 
 -- why the text is refused; want of memory is free
 abbrev pub Refuses : List ℕ → QueryRefusal → Type 0

@@ -16,7 +16,8 @@ use std::alloc::Global;
 pub enum QueryRefusal {
     /// The text spells no query, for this fault, which is never want of memory.
     Unspelled(QueryFault),
-    /// The regular expression with this number, counted from 0 in the order of the text, cannot be read.
+    /// The regular expression with this number, counted from 0 in the order of the text, is the first that cannot be
+    /// read.
     Pattern { nth: u32 },
     /// Memory ran out.
     Memory,

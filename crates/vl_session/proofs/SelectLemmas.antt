@@ -65,7 +65,7 @@ module _ (have : HaveOne) (text : List ℕ) where
   all_read query nth spelled all (other, other_spelled, bad) =
       none_unread (all_patterns query) nth all
       (subst (λ query. IsSomeAnd (slice_get (all_patterns query) nth) (λ pattern. CanBeRead pattern → ⊥))
-      (same_query other query other_spelled spelled) bad)
+      (same_query other query other_spelled spelled) bad.1)
 
   -- a query that can be asked fails in its evaluation alone
   pub only_evaluation : (now : ℕ) (history : History) → IsReadableQuery text → (fault : AnswerFault)

@@ -1,13 +1,13 @@
-use Rattle.std.proofs.Common.{◌≡◌, flat_map, map, take}
+use Rattle.std.proofs.Common.{map}
 use Rattle.std.specs.List.{AllByRecursion}
-use Rattle.lq_ast.specs.Patterns.{CanBeRead, patterns_of_stage}
+use Rattle.lq_ast.specs.Patterns.{patterns_of_stage}
 use Rattle.lq_ast.specs.PipeView.{stage}
+use Rattle.lq_filter.proofs.Refusals.{Left}
 use Rattle.lq_pipes.specs.Steps.{IsFresh, stage_of}
 use Rattle.lq_pipes.proofs.pipes.steps.Given as goal
 
-abbrev pub invariant-loop-i : goal.invariant-loop-i
-invariant-loop-i l = record {
-  same : map stage_of l.steps.items ≡ map stage (take l.i l.pipes);
+abbrev pub invariant-loop-pipe : goal.invariant-loop-pipe
+invariant-loop-pipe l = record {
   fresh : AllByRecursion IsFresh l.steps.items;
-  readable : AllByRecursion CanBeRead (flat_map patterns_of_stage (map stage (take l.i l.pipes)));
+  left : Left stage (λ pipe. patterns_of_stage (stage pipe)) l.pipes 0 l.pipe-index (map stage_of l.steps.items) l.nth;
 }

@@ -7,5 +7,5 @@ use Rattle.lq_stats.proofs.functions.functions.Given as goal
 
 abbrev pub invariant-loop-func : goal.invariant-loop-func
 invariant-loop-func l =
-    Left statistic (λ func. patterns_of_statistic (statistic func)) l.funcs 0 l.func-index
+    Left statistic (λ func. patterns_of_statistic (statistic func)) l.funcs l.fn.nth l.func-index
     (map statistic_of l.made.items) l.nth
