@@ -1,7 +1,7 @@
 -- The rows that hold, over one part after another.
 use Rattle.std.proofs.Common.{◌≡◌, ℕ, ℤ, zero, suc, ◌+◌, ◌<◌, List, [], ◌∷◌, ◌++◌, map, flat_map, take, drop, length}
 use Rattle.std.specs.Prelude.{Result, Ok, Err, IfOk, IfErr, IsErrAnd}
-use Rattle.std.proofs.Common.{get_or, Some, true, ◌≤◌, arith, sym, ap, subst, ◌∙◌, add-one, refl}
+use Rattle.std.proofs.Common.{get_or, Some, true, ◌≤◌, arith, sym, ap, ◌∙◌, add-one, refl}
 use Rattle.std.proofs.lemmas.Grind.{flat_map-append}
 use denote.Ref.{Bor}
 use Rattle.std.proofs.lemmas.Bool.{le-ltb, lt-ltb}
