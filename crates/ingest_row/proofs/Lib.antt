@@ -4,3 +4,6 @@ pub mod RowsOfLines
 pub mod Taking
 pub mod Asked
 pub mod SyslogRows
+pub mod OnlyRow
+pub mod OnlyKind
+pub mod OnlyIntake

@@ -3,7 +3,7 @@ use Rattle.std.specs.Prelude.{◌≡◌, ◌⊎◌, ℕ, ℤ, ◌<◌, ◌≤◌
 use Rattle.log_model.specs.Field.{Field}
 use Rattle.vl_row.specs.Faults.{row_fault}
 use Rattle.vl_row.specs.declared.row.RowFault.TheVariants as row
-use Rattle.jsonline_in.specs.Faults.{IsFault}
+use Rattle.jsonline_in.specs.Faults.{IsFault, SaysNothing}
 use Rattle.jsonline_in.specs.declared.fault.JsonFault.TheVariants as json
 use Rattle.ingest_row.specs.Ingest.{Options, Says, IsTimeOf, time_text, row_fields}
 use Rattle.ingest_row.specs.declared.kind.LineKind.{LineKind}
@@ -20,7 +20,7 @@ IsLineFault LineLong line = 1_048_576 < length line
 IsLineFault NotUtf8 line = IsShort line × (at : ℕ) × IsFault (json.NotUtf8 at) line
 IsLineFault NotObject line = IsShort line × IsFault json.NotObject line
 IsLineFault TooDeep line = IsShort line × IsFault json.TooDeep line
-IsLineFault NotJson line = IsShort line × (at : ℕ) × IsFault (json.NotJson at) line
+IsLineFault NotJson line = IsShort line × SaysNothing line × (at : ℕ) × IsFault (json.NotJson at) line
 IsLineFault Memory line = Unit {0}
 IsLineFault other line = ⊥
 

@@ -5,6 +5,7 @@
 mod body;
 mod fault;
 mod kind;
+mod law;
 mod line;
 mod lines;
 mod options;
@@ -14,6 +15,7 @@ mod syslog;
 pub use body::{Intake, LineFault, batch_of_body};
 pub use fault::OptionFault;
 pub use kind::LineKind;
+pub use law::intake_law;
 pub use line::row_of_line;
 pub use options::Options;
 pub use read::argument;
