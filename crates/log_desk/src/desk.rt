@@ -20,7 +20,8 @@ use std::sync::Wait;
 use turn_lock::{SplitFault, TurnLock};
 use vl_row::{Batch, RowList};
 
-/// The state that all callers share. `insert`, `look` and `status` take one turn each.
+/// The state that all callers share. `insert`, `look` and `status` take one turn each; an insert that wants memory, one
+/// at most.
 #[derive(Drop)]
 pub struct Desk {
     lock: TurnLock<Shelf<RowList>>,
@@ -111,9 +112,9 @@ impl Desk {
     }
 
     /// Inserts the batch, in one turn, as the last one of the history that the pass has then seen, and answers its
-    /// number. After a refusal the batch comes back, in the same memory.
+    /// number. After a refusal the batch comes back.
     ///
-    /// All memory is taken before the history grows. Where it runs out, the turn was taken all the same.
+    /// All memory is taken before the history grows. Where memory runs out, a turn may have been taken.
     pub fn insert<R: Wait>(
         &self,
         rt: &R,
@@ -154,6 +155,7 @@ impl Desk {
         let _ = batch.rows();
         match self.commit(rt, alloc, pass, RowList::from(batch)) {
             Ok(number) => Ok(number),
+            // They are moved back, not copied.
             Err((fault, part)) => Err((fault, part.into_batch())),
         }
     }
