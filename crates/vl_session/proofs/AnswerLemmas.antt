@@ -1,5 +1,5 @@
 -- What is said to requests, and what has been seen then.
-use Rattle.std.proofs.Common.{◌≡◌, inl, inr, ℕ, ◌-◌, ◌^◌, ◌<◌, List, [], ◌∷◌, length, codes, decimal, pos, Option, Some, None, Ok, refl, sym, ap, subst, ◌∙◌, arith}
+use Rattle.std.proofs.Common.{◌≡◌, inl, inr, ℕ, ◌^◌, ◌<◌, List, [], ◌∷◌, length, codes, decimal, pos, Option, Some, None, Ok, refl, sym, ap, subst, ◌∙◌, arith}
 use Rattle.std.specs.Prelude.{IfSome, is_some}
 use Rattle.log_model.specs.Print.{line_text}
 use Rattle.log_model.specs.Row.{Batch}
@@ -16,8 +16,8 @@ use Rattle.ingest_row.specs.Intake.{Outcome, rows_read}
 use Rattle.vl_session.specs.Answer.{fault_effect}
 use Rattle.vl_session.specs.Answer as answering
 use Rattle.vl_session.specs.Answering.{Answered, IsAccepted, IsTurnedAway, SaysOutcome, TakesIn}
-use Rattle.vl_session.specs.Incoming.{HoldsRows, IsIncoming, IsUnread, batch_text, fault_of, fields_said}
-use Rattle.vl_session.specs.Incoming.{InsertsBatch, filled, outcome_of}
+use Rattle.vl_session.specs.Incoming.{HoldsRows, IsIncoming, IsNoBatch, batch_text, fault_of, fields_said}
+use Rattle.vl_session.specs.Incoming.{InsertsBatch, filled, insert_outcome_of}
 use Rattle.vl_session.specs.Insert.{CanBeBatch, HasInsertOutcome, InsertOutcome, insert_fields, insert_status, refusal_text}
 use Rattle.vl_session.specs.Insert as inserts
 use Rattle.vl_session.specs.Query.{QueryOutcome, many_rows, overflows, query_effect, unreadable, unspelled}
@@ -108,7 +108,7 @@ module _ (caller : Caller) (options : Options) (now : ℕ) (body : List ℕ) (in
   }
 
   -- the desk refused
-  refused_for : (why : InsertFault) (outcome : InsertOutcome) → outcome_of (fault_of why) ≡ Some outcome
+  refused_for : (why : InsertFault) (outcome : InsertOutcome) → insert_outcome_of (fault_of why) ≡ Some outcome
       → CanBeBatch options now body outcomes → IsRefused caller old new why
       → reply ≡ reply_bytes (insert_status outcome) (refusal_text outcome) delivery → IsAnswered
   refused_for (desk.Full held) outcome is_outcome can refused said =
@@ -124,7 +124,7 @@ module _ (caller : Caller) (options : Options) (now : ℕ) (body : List ℕ) (in
   refused_so : IsTurnedAway caller incoming old new delivery reply → IsAnswered
   refused_so away =
       let (some, (why, same, refused)) = away.why in
-      refused_for why away.outcome (ap outcome_of (sym same) ∙ away.is_outcome)
+      refused_for why away.outcome (ap insert_outcome_of (sym same) ∙ away.is_outcome)
       (can_insert caller options now body outcomes old new is.given incoming incoming.batch refl some is.holds) refused
       away.said
 
@@ -136,7 +136,7 @@ module _ (caller : Caller) (options : Options) (now : ℕ) (body : List ℕ) (in
 -- its rows are too heavy for a batch
 pub insert_unread : (caller : Caller) (options : Options) (now : ℕ) (body : List ℕ) (seen : Seen)
     (delivery : Delivery) (reply : List ℕ) (fault : InsertionFault) (outcome : InsertOutcome)
-    → IsUnread options (pos now) body fault → outcome_of fault ≡ Some outcome
+    → IsNoBatch options (pos now) body fault → insert_outcome_of fault ≡ Some outcome
     → reply ≡ reply_bytes (insert_status outcome) (refusal_text outcome) delivery
     → Answered caller (Ok (insert options)) body now seen seen delivery reply
 insert_unread caller options now body seen delivery reply (Large weight) outcome unread is_outcome said =
@@ -194,7 +194,7 @@ query_answered caller text now body old new delivery reply says = record {
 
 -- A query without an answer has the effect of what comes of it.
 pub fault_has : (caller : Caller) (old new : Seen) (fault : AnswerFault) (outcome : QueryOutcome)
-    → Has caller old new (fault_effect fault) → answering.outcome_of fault ≡ Some outcome
+    → Has caller old new (fault_effect fault) → answering.query_outcome_of fault ≡ Some outcome
     → Has caller old new (query_effect outcome)
 fault_has caller old new (Query fault) outcome has is =
     let same : unspelled fault ≡ outcome = cc in subst (λ o. Has caller old new (query_effect o)) same has

@@ -10,11 +10,11 @@ use Rattle.log_model.specs.Row.{Batch}
 use Rattle.log_desk.specs.Seen.{Caller, Follows, IsStrange, Seen, is_own}
 use Rattle.log_desk.proofs.SeenLaws.{none_beside_one, none_own}
 use Rattle.vl_session.specs.Laws.{Grows, IsOfCaller}
-use Rattle.vl_session.specs.Seen.{Effect, Has, added, adds, asks, looks, nothing, turns_of}
+use Rattle.vl_session.specs.Seen.{Effect, Has, added, adds, asks, looks, nothing, desk_turns}
 use Rattle.vl_session.specs.SyslogSession.{TakesAll, end_effect}
 use Rattle.vl_session.specs.declared.syslog_report.SyslogEnd.{SyslogEnd}
 use Rattle.vl_session.specs.declared.syslog_report.SyslogEnd.TheVariants as ends
-use Rattle.vl_session.specs.Turns.{AreTurns, Turn, accepted_in, turns_taken}
+use Rattle.vl_session.specs.Turns.{AreTurns, Turn, accepted_in, desk_turns_of}
 
 grows_none : (caller : Caller) (old new : Seen) → new ≡ old → Grows caller old new [] 0
 grows_none caller old new same = record {
@@ -57,7 +57,7 @@ grows_follows caller old new turns f took = record {
 }
 
 pub grows_by : (caller : Caller) (old new : Seen) (effect : Effect) → Has caller old new effect
-    → Grows caller old new (added effect) (turns_of effect)
+    → Grows caller old new (added effect) (desk_turns effect)
 grows_by caller old new nothing same = grows_none caller old new same
 grows_by caller old new asks f = grows_follows caller old new 0 f (omega (arith, f.turns))
 grows_by caller old new looks f = grows_follows caller old new 1 f.0 (omega (arith, f.1))
@@ -87,11 +87,11 @@ grows_then caller old mid new xs ys m n g h = record {
 
 -- The caller's own entries of a session are exactly the batches of its accepted inserts, in order.
 pub turns_grow : (caller : Caller) (before : ℕ) (old new : Seen) (turns : List Turn)
-    → AreTurns caller before old turns new → Grows caller old new (accepted_in turns) (turns_taken turns)
+    → AreTurns caller before old turns new → Grows caller old new (accepted_in turns) (desk_turns_of turns)
 turns_grow caller before old new [] same = grows_none caller old new same
 turns_grow caller before old new (turn ∷ turns) t =
-    grows_then caller old turn.seen new (added turn.effect) (accepted_in turns) (turns_of turn.effect)
-    (turns_taken turns) (grows_by caller old turn.seen turn.effect t.0.has)
+    grows_then caller old turn.seen new (added turn.effect) (accepted_in turns) (desk_turns turn.effect)
+    (desk_turns_of turns) (grows_by caller old turn.seen turn.effect t.0.has)
     (turns_grow caller _ turn.seen new turns t.1)
 
 -- ---- batches of a stream
@@ -111,7 +111,7 @@ takes_grow caller old new (batch ∷ batches) t =
     (grows_by caller old t.0 (adds batch) t.1.gains) (takes_grow caller t.0 new batches t.2))
 
 end_grows : (caller : Caller) (mid last : Seen) (end : SyslogEnd) → Has caller mid last (end_effect end)
-    → Grows caller mid last [] (turns_of (end_effect end))
+    → Grows caller mid last [] (desk_turns (end_effect end))
 end_grows caller mid last ends.Closed has = grows_by caller mid last nothing has
 end_grows caller mid last ends.Limit has = grows_by caller mid last nothing has
 end_grows caller mid last ends.SourceFault has = grows_by caller mid last nothing has
@@ -123,11 +123,11 @@ end_grows caller mid last ends.Memory has = grows_by caller mid last asks has
 -- The caller's own entries of a session of syslog are exactly its batches, in order.
 pub stream_grows : (caller : Caller) (first mid last : Seen) (batches : List Batch) (end : SyslogEnd)
     → TakesAll caller first batches mid → Has caller mid last (end_effect end)
-    → Grows caller first last batches (length batches + turns_of (end_effect end))
+    → Grows caller first last batches (length batches + desk_turns (end_effect end))
 stream_grows caller first mid last batches end taken has =
-    grows_as caller first last (batches ++ []) batches (length batches + turns_of (end_effect end))
-    (length batches + turns_of (end_effect end)) (append-nil batches) refl
-    (grows_then caller first mid last batches [] (length batches) (turns_of (end_effect end))
+    grows_as caller first last (batches ++ []) batches (length batches + desk_turns (end_effect end))
+    (length batches + desk_turns (end_effect end)) (append-nil batches) refl
+    (grows_then caller first mid last batches [] (length batches) (desk_turns (end_effect end))
     (takes_grow caller first mid batches taken) (end_grows caller mid last end has))
 
 -- ---- one caller

@@ -6,9 +6,9 @@ use Rattle.ingest_row.specs.Intake.{IsIntake, Outcome, rows_read}
 use Rattle.log_desk.specs.Seen.{Caller, Gains, Seen}
 use Rattle.log_desk.specs.declared.fault.InsertFault.{InsertFault}
 use Rattle.log_desk.specs.declared.fault.InsertFault.TheVariants as desk
-use Rattle.vl_session.specs.Incoming.{Commits, HoldsRows, InsertsBatch, IsIncoming, IsUncommitted, IsUnread, fault_of}
+use Rattle.vl_session.specs.Incoming.{Commits, HoldsRows, InsertsBatch, IsIncoming, IsUncommitted, IsNoBatch, fault_of}
 use Rattle.vl_session.specs.Insert.{CanBeBatch, HasInsertOutcome, insert_effect}
-use Rattle.vl_session.specs.Insertion.{Inserts, IsOfLines, RefusesLines, accepted, batch_number}
+use Rattle.vl_session.specs.Insertion.{IsInsertion, IsOfLines, RefusesLines, accepted, batch_number}
 use Rattle.vl_session.specs.Seen.{Has, HasLastNumber, HasRoom, IsFull, IsRefused}
 use Rattle.vl_session.specs.declared.insert.Incoming.{Incoming}
 use Rattle.vl_session.specs.declared.insert.Insertion.{Insertion}
@@ -42,7 +42,7 @@ module _ (caller : Caller) (options : Options) (now : ℕ) (body : List ℕ) (ou
   )
 
   pub inserts : (incoming : Incoming) (insertion : Insertion) → IsIncoming options (pos now) body outcomes incoming
-      → Commits caller incoming old new insertion → Inserts caller options now body old new insertion
+      → Commits caller incoming old new insertion → IsInsertion caller options now body old new insertion
   inserts incoming insertion is commits =
       let comes = comes_to (rows_read outcomes) incoming.batch insertion.batch refl is.holds commits.inserts in
       record {
@@ -86,7 +86,7 @@ refuses_with_room caller options now body old new Memory room why = tt
 
 -- why lines make no batch
 pub refuses_lines : (caller : Caller) (options : Options) (now : ℕ) (body : List ℕ) (seen : Seen)
-    (fault : InsertionFault) → IsUnread options (pos now) body fault
+    (fault : InsertionFault) → IsNoBatch options (pos now) body fault
     → RefusesLines caller options now body seen seen fault
 refuses_lines caller options now body seen (Large weight) unread = (refl, unread)
 refuses_lines caller options now body seen (Full limit) unread = absurd unread

@@ -7,6 +7,7 @@ pub mod StatusLemmas
 mod InsertLemmas
 mod PreparedLemmas
 mod InsertionLemmas
+mod InsertLaws
 mod AnswerLemmas
 mod QueryLemmas
 mod ResultLemmas

@@ -16,7 +16,7 @@ use Rattle.query_run.specs.declared.evaluation.RunFault.{RunFault}
 use Rattle.query_run.specs.declared.evaluation.RunFault.TheVariants.{ManyRows, Overflow, Memory}
 use Rattle.query_run.specs.declared.query.QueryRefusal.{QueryRefusal}
 use Rattle.query_run.specs.declared.query.QueryRefusal.TheVariants as refusals
-use Rattle.vl_session.specs.Answer.{FailsQuery, IsQueryAnswer, fault_of_refusal, fault_of_run, outcome_of}
+use Rattle.vl_session.specs.Answer.{FailsQuery, IsQueryAnswer, fault_of_refusal, fault_of_run, query_outcome_of}
 use Rattle.vl_session.specs.Query.{Evaluates, HasQueryOutcome, QueryOutcome, many_rows, overflows, unreadable, unspelled}
 use Rattle.vl_session.specs.declared.answer.Answer.{Answer}
 use Rattle.vl_session.specs.declared.answer.AnswerFault.{AnswerFault}
@@ -75,7 +75,7 @@ answered_run text now query rows history answer from are spelled readable front 
 
 -- what comes of it for a session
 pub outcome_has : (text : List ℕ) (now : ℕ) (history : History) (fault : AnswerFault) (outcome : QueryOutcome)
-    → FailsQuery text now history fault → outcome_of fault ≡ Some outcome → HasQueryOutcome text now history outcome
+    → FailsQuery text now history fault → query_outcome_of fault ≡ Some outcome → HasQueryOutcome text now history outcome
 outcome_has text now history (Query fault) outcome fails is =
     let same : unspelled fault ≡ outcome = cc in subst (HasQueryOutcome text now history) same fails.1
 outcome_has text now history (RegexRefused nth) outcome fails is =

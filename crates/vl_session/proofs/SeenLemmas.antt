@@ -1,5 +1,5 @@
 -- What the calls of the desk do to what has been seen.
-use Rattle.std.proofs.Common.{◌≡◌, ◌≢◌, ℕ, ◌+◌, ◌-◌, ◌≤◌, [], length, refl, sym, ◌∙◌, arith, append-nil}
+use Rattle.std.proofs.Common.{◌≡◌, ◌≢◌, ℕ, ◌+◌, ◌≤◌, [], length, refl, sym, ◌∙◌, arith, append-nil}
 use Rattle.log_model.specs.Core.{held_limit}
 use Rattle.turn_lock.specs.Passes.{PassState}
 use Rattle.log_core.specs.declared.entries.EntryRows.{EntryRows}

@@ -11,8 +11,8 @@ use Rattle.log_desk.specs.Seen.{Caller, Seen}
 use Rattle.log_desk.specs.declared.fault.InsertFault.{InsertFault}
 use Rattle.log_desk.specs.declared.fault.InsertFault.TheVariants as desk
 use Rattle.vl_session.specs.Seen.{Has, IsRefused, Takes}
-use Rattle.vl_session.specs.SyslogSession.{AreBatches, IsOutcome, TakesAll, end_effect, moment_of, rows_read}
-use Rattle.vl_session.specs.SyslogTaking.{BeginWith, HoldsUp, TakesSome, TakesUp, batch_of, end_of_insert}
+use Rattle.vl_session.specs.SyslogSession.{AreBatches, IsMessageOutcome, TakesAll, end_effect, moment_of, message_rows}
+use Rattle.vl_session.specs.SyslogTaking.{BeginWith, HoldsUp, TakesSome, TakesUp, batches_from, end_of_insert}
 use Rattle.vl_session.specs.Turns.{GaveMoments}
 use Rattle.vl_session.specs.declared.syslog_intake.Counts.{Counts}
 use Rattle.vl_session.specs.declared.syslog_report.SyslogEnd.{SyslogEnd}
@@ -29,24 +29,24 @@ row_is_no_memory fault same = absurd cc
 
 -- it has a row
 pub rows_more : (rows new : List Row) (outcomes : List (Option Row)) (outcome : Option Row) (row : Row)
-    → rows ≡ rows_read outcomes → outcome ≡ Some row → new ≡ rows ++ row ∷ []
-    → new ≡ rows_read (outcomes ++ outcome ∷ [])
+    → rows ≡ message_rows outcomes → outcome ≡ Some row → new ≡ rows ++ row ∷ []
+    → new ≡ message_rows (outcomes ++ outcome ∷ [])
 rows_more rows new outcomes outcome row are is grown =
     grown ∙ ap (λ l. l ++ row ∷ []) are ∙ sym (rows_append outcomes (Some row ∷ []))
-    ∙ ap (λ o. rows_read (outcomes ++ o ∷ [])) (sym is)
+    ∙ ap (λ o. message_rows (outcomes ++ o ∷ [])) (sym is)
 
 -- it has none
-pub rows_same : (rows : List Row) (outcomes : List (Option Row)) (outcome : Option Row) → rows ≡ rows_read outcomes
-    → outcome ≡ None → rows ≡ rows_read (outcomes ++ outcome ∷ [])
+pub rows_same : (rows : List Row) (outcomes : List (Option Row)) (outcome : Option Row) → rows ≡ message_rows outcomes
+    → outcome ≡ None → rows ≡ message_rows (outcomes ++ outcome ∷ [])
 rows_same rows outcomes outcome are is =
-    are ∙ sym (rows_append outcomes (None ∷ []) ∙ append-nil (rows_read outcomes))
-    ∙ ap (λ o. rows_read (outcomes ++ o ∷ [])) (sym is)
+    are ∙ sym (rows_append outcomes (None ∷ []) ∙ append-nil (message_rows outcomes))
+    ∙ ap (λ o. message_rows (outcomes ++ o ∷ [])) (sym is)
 
 -- ---- one batch
 
 -- the rows are one batch
 pub takes_one : (caller : Caller) (old new : Seen) (rows : List Row) → 0 < length rows → Takes caller old new rows
-    → TakesAll caller old (batch_of rows) new
+    → TakesAll caller old (batches_from rows) new
 takes_one caller old new [] some takes = absurd (omega (arith, some))
 takes_one caller old new (row ∷ rows) some takes = (new, takes, refl)
 
@@ -75,9 +75,9 @@ takes_first caller now messages seen counts = record {
   refused = omega arith;
 }
 
-full_more : (outcomes more : List (Option Row)) (batches : List Batch) (rows : List Row) → rows ≡ rows_read more
-    → length rows ≡ 256 → length (rows_read outcomes) ≡ 256 * length batches
-    → length (rows_read (outcomes ++ more)) ≡ 256 * length (batches ++ batch_of rows)
+full_more : (outcomes more : List (Option Row)) (batches : List Batch) (rows : List Row) → rows ≡ message_rows more
+    → length rows ≡ 256 → length (message_rows outcomes) ≡ 256 * length batches
+    → length (message_rows (outcomes ++ more)) ≡ 256 * length (batches ++ batches_from rows)
 full_more outcomes more batches rows are one full = omega (
   arith,
   full,
@@ -85,38 +85,38 @@ full_more outcomes more batches rows are one full = omega (
   ap length are,
   one_full rows one,
   ap length (rows_append outcomes more),
-  length-append (rows_read outcomes) (rows_read more),
-  length-append batches (batch_of rows),
+  length-append (message_rows outcomes) (message_rows more),
+  length-append batches (batches_from rows),
 )
 
 pub takes_more : (caller : Caller) (now at : ℕ) (messages : List (List ℕ)) (old mid new : Seen) (before counts after : Counts)
     (outcomes more : List (Option Row)) (batches : List Batch) (rows : List Row)
     → TakesUp caller now messages old mid before counts outcomes batches → at ≡ length outcomes
-    → BeginWith now (drop at messages) more → rows ≡ rows_read more → length rows ≤ 256
+    → BeginWith now (drop at messages) more → rows ≡ message_rows more → length rows ≤ 256
     → at < length messages → (at + length more < length messages → length rows ≡ 256)
-    → TakesAll caller mid (batch_of rows) new → after.accepted ≡ counts.accepted + length rows
+    → TakesAll caller mid (batches_from rows) new → after.accepted ≡ counts.accepted + length rows
     → after.refused ≡ counts.refused + (length more - length rows)
-    → TakesUp caller now messages old new before after (outcomes ++ more) (batches ++ batch_of rows)
+    → TakesUp caller now messages old new before after (outcomes ++ more) (batches ++ batches_from rows)
 takes_more caller now at messages old mid new before counts after outcomes more batches rows t at_is given are few below last
     taken accepted refused =
-    let full : length (rows_read outcomes) ≡ 256 * length batches = t.full (omega (arith, at_is, below)) in
+    let full : length (message_rows outcomes) ≡ 256 * length batches = t.full (omega (arith, at_is, below)) in
     let behind : BeginWith now (drop (length outcomes) messages) more =
     subst (λ n. BeginWith now (drop n messages) more) at_is given in
     record {
-      given = zip_append (IsOutcome now) messages outcomes more t.given behind;
-      cut = subst (λ l. AreBatches l (batches ++ batch_of rows))
-          (ap (λ l. rows_read outcomes ++ l) are ∙ sym (rows_append outcomes more))
-          (batches_append (rows_read outcomes) rows batches (batch_of rows) t.cut full (one_batch rows few));
+      given = zip_append (IsMessageOutcome now) messages outcomes more t.given behind;
+      cut = subst (λ l. AreBatches l (batches ++ batches_from rows))
+          (ap (λ l. message_rows outcomes ++ l) are ∙ sym (rows_append outcomes more))
+          (batches_append (message_rows outcomes) rows batches (batches_from rows) t.cut full (one_batch rows few));
       full = λ less. full_more outcomes more batches rows are
           (last (omega (arith, at_is, less, length-append outcomes more))) full;
-      taken = takes_append caller old mid new batches (batch_of rows) t.taken taken;
+      taken = takes_append caller old mid new batches (batches_from rows) t.taken taken;
       accepted = omega (
         arith,
         t.accepted,
         accepted,
         ap length are,
         ap length (rows_append outcomes more),
-        length-append (rows_read outcomes) (rows_read more),
+        length-append (message_rows outcomes) (message_rows more),
       );
       refused = omega (
         arith,
@@ -129,7 +129,7 @@ takes_more caller now at messages old mid new before counts after outcomes more 
     }
 
 -- there are no more rows than messages
-pub few_rows : (more : List (Option Row)) (rows : List Row) → rows ≡ rows_read more → length rows ≤ length more
+pub few_rows : (more : List (Option Row)) (rows : List Row) → rows ≡ message_rows more → length rows ≤ length more
 few_rows more rows are = omega (arith, ap length are, rows_or_none more)
 
 -- so the counts go no further than the messages
@@ -160,7 +160,7 @@ takes_none caller messages seen counts t none = (
 pub takes_some : (caller : Caller) (now : ℕ) (messages : List (List ℕ)) (old mid new : Seen) (before after : Counts)
     (outcomes later : List (Option Row)) (batches : List Batch) (end : SyslogEnd)
     → TakesUp caller now messages old mid before after outcomes batches → Has caller mid new (end_effect end)
-    → BeginWith now (drop (length outcomes) messages) later → HoldsUp (rows_read later) new end
+    → BeginWith now (drop (length outcomes) messages) later → HoldsUp (message_rows later) new end
     → length outcomes < length messages
     → TakesSome caller now messages old new before after outcomes batches end
 takes_some caller now messages old mid new before after outcomes later batches end t has given held fewer = record {

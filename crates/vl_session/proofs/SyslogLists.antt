@@ -9,9 +9,9 @@ use Rattle.std.proofs.lemmas.List.Sums.{sum_by-append}
 use Rattle.log_model.specs.Field.{weight}
 use Rattle.log_model.specs.Row.{Batch, IsRow, Row, batch_weight}
 use Rattle.log_desk.specs.Seen.{Caller, Seen}
-use Rattle.vl_session.specs.SyslogSession.{AreBatches, IsOutcome, IsTakenUp, Read, TakesAll, batches_of, outcomes_of}
-use Rattle.vl_session.specs.SyslogSession.{rows_read}
-use Rattle.vl_session.specs.SyslogTaking.{BeginWith, batch_of}
+use Rattle.vl_session.specs.SyslogSession.{AreBatches, IsMessageOutcome, IsTakenUp, Read, TakesAll, batches_of, outcomes_of}
+use Rattle.vl_session.specs.SyslogSession.{message_rows}
+use Rattle.vl_session.specs.SyslogTaking.{BeginWith, batches_from}
 
 -- ---- what holds of the first elements of a list and those of another
 
@@ -62,7 +62,7 @@ flat_more f xs x = flat_map-append f xs (x ∷ []) ∙ ap (λ l. flat_map f xs +
 
 -- ---- the rows of messages
 
-pub rows_append : (xs ys : List (Option Row)) → rows_read (xs ++ ys) ≡ rows_read xs ++ rows_read ys
+pub rows_append : (xs ys : List (Option Row)) → message_rows (xs ++ ys) ≡ message_rows xs ++ message_rows ys
 rows_append [] ys = refl
 rows_append (Some row ∷ xs) ys = ap (λ rows. row ∷ rows) (rows_append xs ys)
 rows_append (None ∷ xs) ys = rows_append xs ys
@@ -71,7 +71,7 @@ pub none_append : (xs ys : List (Option Row)) → count_by is_none (xs ++ ys) �
 none_append xs ys = sum_by-append (λ x. cond (is_none x) 1 0) xs ys
 
 -- each message has a row or none
-pub rows_or_none : (xs : List (Option Row)) → length xs ≡ length (rows_read xs) + count_by is_none xs
+pub rows_or_none : (xs : List (Option Row)) → length xs ≡ length (message_rows xs) + count_by is_none xs
 rows_or_none [] = omega arith
 rows_or_none (Some row ∷ xs) = omega (arith, rows_or_none xs)
 rows_or_none (None ∷ xs) = omega (arith, rows_or_none xs, none_append (None ∷ []) xs)
@@ -106,12 +106,12 @@ drop_all (suc n) (x ∷ xs) few = drop_all n xs (omega (arith, few))
 pub taken_all : {X : Type 0} (n : ℕ) (xs : List X) → n ≡ length xs → take n xs ≡ xs
 taken_all n xs all = take_all n xs (omega (arith, all))
 
-pub one_batch : (rows : List Row) → length rows ≤ 256 → AreBatches rows (batch_of rows)
+pub one_batch : (rows : List Row) → length rows ≤ 256 → AreBatches rows (batches_from rows)
 one_batch [] few = refl
 one_batch (row ∷ rows) few =
     (omega arith, sym (take_all 256 (row ∷ rows) few), drop_all 256 (row ∷ rows) few)
 
-pub one_full : (rows : List Row) → length rows ≡ 256 → length (batch_of rows) ≡ 1
+pub one_full : (rows : List Row) → length rows ≡ 256 → length (batches_from rows) ≡ 1
 one_full [] full = absurd (omega (arith, full))
 one_full (row ∷ rows) full = refl
 
@@ -131,11 +131,11 @@ takes_append caller old mid new (batch ∷ batches) others a b =
 -- one message more has an outcome
 pub read_more : (now start end : ℕ) (messages : List (List ℕ)) (outcomes : List (Option Row)) (message : List ℕ)
     (outcome : Option Row) → BeginWith now (drop start messages) outcomes → end ≡ start + length outcomes
-    → slice_get messages end ≡ Some message → IsOutcome now message outcome
+    → slice_get messages end ≡ Some message → IsMessageOutcome now message outcome
     → BeginWith now (drop start messages) (outcomes ++ outcome ∷ [])
 read_more now start end messages outcomes message outcome given end_is at is =
-    zip_append (IsOutcome now) (drop start messages) outcomes (outcome ∷ []) given
-    (zip_one (IsOutcome now) (drop start messages) (length outcomes) message outcome
+    zip_append (IsMessageOutcome now) (drop start messages) outcomes (outcome ∷ []) given
+    (zip_one (IsMessageOutcome now) (drop start messages) (length outcomes) message outcome
     (slice_drop start (length outcomes) messages ∙ ap (slice_get messages) (sym end_is) ∙ at) is)
 
 -- one row more is not too heavy
@@ -159,11 +159,11 @@ batches_joined rows (batch ∷ batches) are =
 
 -- So are those of all reads.
 pub reads_joined : (reads : List Read) → AllByRecursion IsTakenUp reads
-    → flat_map (λ batch. batch) (batches_of reads) ≡ rows_read (outcomes_of reads)
+    → flat_map (λ batch. batch) (batches_of reads) ≡ message_rows (outcomes_of reads)
 reads_joined [] each = refl
 reads_joined (read ∷ reads) each =
     flat_map-append (λ (batch : Batch). batch) read.batches (batches_of reads)
     ∙ ap (λ (rows : List Row). rows ++ flat_map (λ batch. batch) (batches_of reads))
-    (batches_joined (rows_read read.outcomes) read.batches each.0.cut)
-    ∙ ap (λ (rows : List Row). rows_read read.outcomes ++ rows) (reads_joined reads each.1)
+    (batches_joined (message_rows read.outcomes) read.batches each.0.cut)
+    ∙ ap (λ (rows : List Row). message_rows read.outcomes ++ rows) (reads_joined reads each.1)
     ∙ sym (rows_append read.outcomes (outcomes_of reads))

@@ -15,11 +15,11 @@ use Rattle.syslog_in.specs.Framing.{AreFrames, CanGoOn}
 use Rattle.syslog_in.specs.declared.fault.FrameFault.TheVariants as faults
 use Rattle.log_desk.specs.Seen.{Caller, Seen}
 use Rattle.vl_session.specs.Seen.{Has}
-use Rattle.vl_session.specs.SyslogSession.{AreReads, AreTakenUp, Ends, GivesEnd, GivesPiece, IsFront}
-use Rattle.vl_session.specs.SyslogSession.{IsHeldUp, IsOutcome, IsSyslogSession, IsTakenUp, IsUnread, IsWhole, Read}
+use Rattle.vl_session.specs.SyslogSession.{AreReads, AreTakenUp, EndsStream, GivesEnd, GivesPiece, IsFront}
+use Rattle.vl_session.specs.SyslogSession.{IsHeldUp, IsMessageOutcome, IsSyslogSession, IsTakenUp, IsLeft, IsWhole, Read}
 use Rattle.vl_session.specs.SyslogSession.{TakesAll, end_effect}
-use Rattle.vl_session.specs.SyslogSession.{batches_of, bytes_of, messages_of, moment_of, moments_of, outcomes_of}
-use Rattle.vl_session.specs.SyslogSession.{rows_read, session_limit, taken_up}
+use Rattle.vl_session.specs.SyslogSession.{batches_of, bytes_read, messages_of, moment_of, moments_read, outcomes_of}
+use Rattle.vl_session.specs.SyslogSession.{message_rows, session_limit, taken_up}
 use Rattle.vl_session.specs.SyslogTaking.{BeginWith, Comes, Feeds, StopsAt, TakesUp, report_of}
 use Rattle.vl_session.specs.Turns.{GaveMoments}
 use Rattle.vl_session.specs.declared.syslog_intake.Counts.{Counts}
@@ -50,11 +50,11 @@ are_reads source fed (read ∷ reads) a =
     (inl a.0, λ some. a.1, are_reads source (fed ++ read.bytes) reads a.2)
 
 behind_one : (fed : List ℕ) (read : Read) (reads : List Read)
-    → fed ++ bytes_of (read ∷ reads) ≡ (fed ++ read.bytes) ++ bytes_of reads
-behind_one fed read reads = sym (append_assoc fed read.bytes (bytes_of reads))
+    → fed ++ bytes_read (read ∷ reads) ≡ (fed ++ read.bytes) ++ bytes_read reads
+behind_one fed read reads = sym (append_assoc fed read.bytes (bytes_read reads))
 
 pieces_more : (fed : List ℕ) (reads : List Read) (read : Read) → ArePieces fed reads
-    → GivesPiece (fed ++ bytes_of reads) read → IsWhole read → ArePieces fed (reads ++ read ∷ [])
+    → GivesPiece (fed ++ bytes_read reads) read → IsWhole read → ArePieces fed (reads ++ read ∷ [])
 pieces_more fed [] read a b whole = (subst (λ l. GivesPiece l read) (append-nil fed) b, whole, tt)
 pieces_more fed (first ∷ reads) read a b whole = (
   a.0,
@@ -71,7 +71,7 @@ abbrev GivesLast : Change → Read → List ℕ → Type 0
 GivesLast source read fed = GivesPiece fed read ⊎ (GivesEnd source fed read × (no_reads ≡ []))
 
 last_more : (source : Change) (fed : List ℕ) (reads : List Read) (read : Read) → ArePieces fed reads
-    → GivesLast source read (fed ++ bytes_of reads) → AreReads source fed (reads ++ read ∷ [])
+    → GivesLast source read (fed ++ bytes_read reads) → AreReads source fed (reads ++ read ∷ [])
 last_more source fed [] read a b =
     (subst (GivesLast source read) (append-nil fed) b, λ some. absurd (omega (arith, some)), tt)
 last_more source fed (first ∷ reads) read a b = (
@@ -143,16 +143,16 @@ handled_more caller first mid last t0 t1 t2 before after reads bytes messages no
     let read = read_of bytes messages now outcomes batches in
     let all : outcomes_of (reads ++ read ∷ []) ≡ outcomes_of reads ++ outcomes =
     flat_more (λ (r : Read). r.outcomes) reads read in
-    let rows : length (rows_read (outcomes_of (reads ++ read ∷ [])))
-    ≡ length (rows_read (outcomes_of reads)) + length (rows_read outcomes) =
-    ap (λ l. length (rows_read l)) all ∙ ap length (rows_append (outcomes_of reads) outcomes)
-    ∙ length-append (rows_read (outcomes_of reads)) (rows_read outcomes) in
+    let rows : length (message_rows (outcomes_of (reads ++ read ∷ [])))
+    ≡ length (message_rows (outcomes_of reads)) + length (message_rows outcomes) =
+    ap (λ l. length (message_rows l)) all ∙ ap length (rows_append (outcomes_of reads) outcomes)
+    ∙ length-append (message_rows (outcomes_of reads)) (message_rows outcomes) in
     let others : count_by is_none (outcomes_of (reads ++ read ∷ []))
     ≡ count_by is_none (outcomes_of reads) + count_by is_none outcomes =
     ap (λ l. count_by is_none l) all ∙ none_append (outcomes_of reads) outcomes in
     record {
       told = subst (GaveMoments t0 t2) (sym (flat_more (λ (r : Read). moment_of r.messages r.now) reads read))
-          (told_append t0 t1 t2 (moments_of reads) (moment_of messages now) a.told told);
+          (told_append t0 t1 t2 (moments_read reads) (moment_of messages now) a.told told);
       each = each_append IsTakenUp reads (read ∷ []) a.each (
         record
             { given = u.given; cut = u.cut; full = u.full },
@@ -171,13 +171,13 @@ handled_none : (caller : Caller) (first mid last : Seen) (t0 t1 t2 : Option (Lis
     → TakesUp caller now messages mid last before after outcomes batches
     → AreTakenUp caller first last t0 t2 after.accepted after.refused reads
 handled_none caller first mid last t0 t1 t2 before after reads messages now (outcome ∷ outcomes) batches none a told u =
-    absurd (omega (arith, zip_within (IsOutcome now) messages (outcome ∷ outcomes) u.given, ap length none))
+    absurd (omega (arith, zip_within (IsMessageOutcome now) messages (outcome ∷ outcomes) u.given, ap length none))
 handled_none caller first mid last t0 t1 t2 before after reads messages now [] batches none a told u =
     let silent : GaveMoments t1 t2 [] = subst (λ l. GaveMoments t1 t2 (moment_of l now)) none told in
     let same : last ≡ mid = subst (λ l. TakesAll caller mid l last) (no_batches batches u.cut) u.taken in
     record {
-      told = subst (GaveMoments t0 t2) (append-nil (moments_of reads))
-          (told_append t0 t1 t2 (moments_of reads) [] a.told silent);
+      told = subst (GaveMoments t0 t2) (append-nil (moments_read reads))
+          (told_append t0 t1 t2 (moments_read reads) [] a.told silent);
       each = a.each;
       taken = subst (λ seen. TakesAll caller first (batches_of reads) seen) (sym same) a.taken;
       accepted_is = omega (arith, a.accepted_is, u.accepted);
@@ -190,7 +190,7 @@ handled_few : (reads : List Read) → AllByRecursion IsTakenUp reads
 handled_few [] a = refl
 handled_few (read ∷ reads) a = omega (
   arith,
-  zip_length (IsOutcome read.now) (taken_up read) read.outcomes a.0.given,
+  zip_length (IsMessageOutcome read.now) (taken_up read) read.outcomes a.0.given,
   handled_few reads a.1,
   length-append read.outcomes (outcomes_of reads),
   length-append (taken_up read) (messages_of reads),
@@ -201,11 +201,11 @@ handled_few (read ∷ reads) a = omega (
 pub record Going (caller : Caller) (first last : Seen) (source : Change) (t0 t1 : Option (List ℕ)) (counts : Counts) (framer : Framing)
     (taken : ℕ) : Type 0 where
   pub reads : List Read
-  pub gave : Gave source (bytes_of reads)
+  pub gave : Gave source (bytes_read reads)
   pub pieces : ArePieces [] reads
-  pub frames : AreFrames (bytes_of reads) (messages_of reads) framer.rest
-  pub holds : HasTaken framer (bytes_of reads)
-  pub counted : length (bytes_of reads) ≡ taken
+  pub frames : AreFrames (bytes_read reads) (messages_of reads) framer.rest
+  pub holds : HasTaken framer (bytes_read reads)
+  pub counted : length (bytes_read reads) ≡ taken
   pub handled : AreTakenUp caller first last t0 t1 counts.accepted counts.refused reads
 
 no_messages : (messages : List (List ℕ)) → length messages ≤ 0 → messages ≡ []
@@ -237,14 +237,14 @@ all_taken reads bytes messages now outcomes batches all =
 
 bytes_more : (reads : List Read) (bytes : List ℕ) (messages : List (List ℕ)) (now : ℕ) (outcomes : List (Option Row))
     (batches : List Batch)
-    → bytes_of (reads ++ read_of bytes messages now outcomes batches ∷ []) ≡ bytes_of reads ++ bytes
+    → bytes_read (reads ++ read_of bytes messages now outcomes batches ∷ []) ≡ bytes_read reads ++ bytes
 bytes_more reads bytes messages now outcomes batches =
     flat_more (λ (r : Read). r.bytes) reads (read_of bytes messages now outcomes batches)
 
 pub going_more : (caller : Caller) (first mid last : Seen) (l0 l1 l2 t0 t1 t2 : Option (List ℕ)) (s0 s1 s2 : ℕ) (before after : Counts)
     (old new : Framing) (was is : ℕ) (messages : List (List ℕ)) (now : ℕ) (outcomes : List (Option Row))
     (batches : List Batch) → (g : Going caller first mid (change l0 l1 s0 s1) t0 t1 before old was)
-    → Comes (bytes_of g.reads) (change l1 l2 s1 s2) old new messages is None
+    → Comes (bytes_read g.reads) (change l1 l2 s1 s2) old new messages is None
     → GaveMoments t1 t2 (moment_of messages now)
     → TakesUp caller now messages mid last before after outcomes batches → length outcomes ≡ length messages
     → Going caller first last (change l0 l2 s0 s2) t0 t2 after new is
@@ -253,22 +253,22 @@ going_more caller first mid last l0 l1 l2 t0 t1 t2 s0 s1 s2 before after old new
     all =
     let piece = c.0 in
     let f = c.1 in
-    let bytes : bytes_of (g.reads ++ read_of piece messages now outcomes batches ∷ []) ≡ bytes_of g.reads ++ piece =
+    let bytes : bytes_read (g.reads ++ read_of piece messages now outcomes batches ∷ []) ≡ bytes_read g.reads ++ piece =
     bytes_more g.reads piece messages now outcomes batches in
     record {
       reads = g.reads ++ read_of piece messages now outcomes batches ∷ [];
-      gave = subst (Consumes l0 l2) (sym bytes) (Consumes-trans l0 l1 l2 (bytes_of g.reads) piece g.gave f.gave);
+      gave = subst (Consumes l0 l2) (sym bytes) (Consumes-trans l0 l1 l2 (bytes_read g.reads) piece g.gave f.gave);
       pieces = pieces_more [] g.reads (read_of piece messages now outcomes batches) g.pieces
-          (gives_piece (bytes_of g.reads) piece old.rest new.rest (messages_of g.reads) (change l1 l2 s1 s2) messages now
+          (gives_piece (bytes_read g.reads) piece old.rest new.rest (messages_of g.reads) (change l1 l2 s1 s2) messages now
           outcomes batches f g.frames g.holds.goes_on
-          (frames_more (bytes_of g.reads) piece old.rest new.rest (messages_of g.reads) messages g.frames f.completes))
+          (frames_more (bytes_read g.reads) piece old.rest new.rest (messages_of g.reads) messages g.frames f.completes))
           all;
       frames = subst (λ l. AreFrames l (messages_of (g.reads ++ read_of piece messages now outcomes batches ∷ []))
           new.rest)
           (sym bytes)
-          (subst (λ l. AreFrames (bytes_of g.reads ++ piece) l new.rest)
+          (subst (λ l. AreFrames (bytes_read g.reads ++ piece) l new.rest)
           (sym (all_taken g.reads piece messages now outcomes batches all))
-          (frames_more (bytes_of g.reads) piece old.rest new.rest (messages_of g.reads) messages g.frames
+          (frames_more (bytes_read g.reads) piece old.rest new.rest (messages_of g.reads) messages g.frames
           f.completes));
       holds = subst (HasTaken new) (sym bytes) c.2;
       counted = ap length bytes ∙ c.3;
@@ -279,10 +279,10 @@ going_more caller first mid last l0 l1 l2 t0 t1 t2 s0 s1 s2 before after old new
 -- ---- it ends
 
 made : (caller : Caller) (first mid last : Seen) (source : Change) (t0 t1 : Option (List ℕ)) (counts : Counts)
-    (end : SyslogEnd) (reads : List Read) (left all : List ℕ) → all ≡ bytes_of reads ++ left → IsUnread end left
+    (end : SyslogEnd) (reads : List Read) (left all : List ℕ) → all ≡ bytes_read reads ++ left → IsLeft end left
     → Gave source all → length all ≤ session_limit → AreReads source [] reads
     → AreTakenUp caller first mid t0 t1 counts.accepted counts.refused reads → Has caller mid last (end_effect end)
-    → Ends source reads all last end → IsSyslogSession caller first last source t0 t1 (report_of counts end)
+    → EndsStream source reads all last end → IsSyslogSession caller first last source t0 t1 (report_of counts end)
 made caller first mid last source t0 t1 counts end reads left all is unread gave few are handled has e = record {
   reads = reads;
   left = left;
@@ -293,7 +293,7 @@ made caller first mid last source t0 t1 counts end reads left all is unread gave
   mid = mid;
   taken = handled;
   has = has;
-  ended = subst (λ l. Ends source reads l last end) is e;
+  ended = subst (λ l. EndsStream source reads l last end) is e;
 }
 
 module _ (caller : Caller) (first mid last : Seen) (l0 l1 l2 t0 t1 t2 : Option (List ℕ)) (s0 s1 s2 : ℕ) (before after : Counts)
@@ -308,7 +308,7 @@ module _ (caller : Caller) (first mid last : Seen) (l0 l1 l2 t0 t1 t2 : Option (
   step = change l1 l2 s1 s2
 
   abbrev fed : List ℕ
-  fed = bytes_of g.reads
+  fed = bytes_read g.reads
 
   abbrev with_read : List ℕ → List Read
   with_read piece = g.reads ++ read_of piece messages now outcomes batches ∷ []
@@ -320,12 +320,12 @@ module _ (caller : Caller) (first mid last : Seen) (l0 l1 l2 t0 t1 t2 : Option (
 
   -- behind a piece
   by_piece : (piece rest : List ℕ) (end : SyslogEnd) (final : Seen) → Has caller last final (end_effect end)
-      → Feeds fed piece step messages rest → IsUnread end [] → Ends source (with_read piece) (fed ++ piece) final end
+      → Feeds fed piece step messages rest → IsLeft end [] → EndsStream source (with_read piece) (fed ++ piece) final end
       → IsSyslogSession caller first final source t0 t2 (report_of after end)
   by_piece piece rest end final others f unread e =
       made caller first last final source t0 t2 after end (with_read piece) [] (fed ++ piece)
       (sym (bytes_more g.reads piece messages now outcomes batches)
-      ∙ sym (append-nil (bytes_of (with_read piece)))) unread
+      ∙ sym (append-nil (bytes_read (with_read piece)))) unread
       (Consumes-trans l0 l1 l2 fed piece g.gave f.gave) f.within
       (last_more source [] g.reads (read_of piece messages now outcomes batches) g.pieces
       (inl (gives_piece fed piece old.rest rest (messages_of g.reads) step messages now outcomes batches f g.frames
@@ -335,13 +335,13 @@ module _ (caller : Caller) (first mid last : Seen) (l0 l1 l2 t0 t1 t2 : Option (
 
   -- behind the input's end
   by_end : (end : SyslogEnd) (final : Seen) → Has caller last final (end_effect end) → was < session_limit → Gave step []
-      → IsSpent step → EndsInput old [] messages → IsUnread end [] → Ends source (with_read []) fed final end
+      → IsSpent step → EndsInput old [] messages → IsLeft end [] → EndsStream source (with_read []) fed final end
       → IsSyslogSession caller first final source t0 t2 (report_of after end)
   by_end end final others within gave spent e unread ended =
-      let bytes : bytes_of (with_read []) ≡ fed =
+      let bytes : bytes_read (with_read []) ≡ fed =
       bytes_more g.reads [] messages now outcomes batches ∙ append-nil fed in
       made caller first last final source t0 t2 after end (with_read []) [] fed
-      (sym bytes ∙ sym (append-nil (bytes_of (with_read [])))) unread
+      (sym bytes ∙ sym (append-nil (bytes_read (with_read [])))) unread
       (subst (Consumes l0 l2) (append-nil fed) (Consumes-trans l0 l1 l2 fed [] g.gave gave))
       (omega (arith, g.counted, within))
       (last_more source [] g.reads (read_of [] messages now outcomes batches) g.pieces
@@ -351,7 +351,7 @@ module _ (caller : Caller) (first mid last : Seen) (l0 l1 l2 t0 t1 t2 : Option (
 
   -- without a message
   by_none : (left : List ℕ) (end : SyslogEnd) → Has caller last last (end_effect end) → messages ≡ []
-      → Gave step left → length (fed ++ left) ≤ session_limit → IsUnread end left → Ends source g.reads (fed ++ left) last end
+      → Gave step left → length (fed ++ left) ≤ session_limit → IsLeft end left → EndsStream source g.reads (fed ++ left) last end
       → IsSyslogSession caller first last source t0 t2 (report_of after end)
   by_none left end has none gave few unread e =
       made caller first last last source t0 t2 after end g.reads left (fed ++ left) refl unread
@@ -407,7 +407,7 @@ module _ (caller : Caller) (first mid last : Seen) (l0 l1 l2 t0 t1 t2 : Option (
       (c.1, frames_all c.0 c.1 all c.2, c.3)
   ends_behind new is (ends.BadFrame (faults.Cut at)) stays within c all =
       by_none [] (ends.BadFrame (faults.Cut at)) refl c.2 c.0 (omega (arith, few_bytes within)) refl
-      (subst (λ l. Ends source g.reads l last (ends.BadFrame (faults.Cut at))) (sym same_bytes)
+      (subst (λ l. EndsStream source g.reads l last (ends.BadFrame (faults.Cut at))) (sym same_bytes)
       (old.rest, g.frames, c.1))
   ends_behind new is (ends.BadFrame (faults.Ended first₁ at)) stays within c all = absurd c
   ends_behind new is (ends.BadFrame faults.Memory) stays within c all = absurd c
@@ -452,7 +452,7 @@ module _ (caller : Caller) (first mid last : Seen) (l0 l1 l2 t0 t1 t2 : Option (
       }
 
   held_by : (piece : List ℕ) (later : List (Option Row)) → BeginWith now (drop (length outcomes) messages) later
-      → 0 < length (rows_read later) → IsHeldUp (with_read piece)
+      → 0 < length (message_rows later) → IsHeldUp (with_read piece)
   held_by piece later given some = record {
     front = g.reads;
     read = read_of piece messages now outcomes batches;
@@ -463,7 +463,7 @@ module _ (caller : Caller) (first mid last : Seen) (l0 l1 l2 t0 t1 t2 : Option (
   }
 
   stop_ends : (piece all : List ℕ) (end : SyslogEnd) (final : Seen) → IsFront all (messages_of (with_read piece))
-      → StopsAt now messages outcomes final end → Ends source (with_read piece) all final end
+      → StopsAt now messages outcomes final end → EndsStream source (with_read piece) all final end
   stop_ends piece all ends.Closed final f s = absurd s.2
   stop_ends piece all ends.Limit final f s = absurd s.2
   stop_ends piece all ends.SourceFault final f s = absurd s.2
@@ -472,7 +472,7 @@ module _ (caller : Caller) (first mid last : Seen) (l0 l1 l2 t0 t1 t2 : Option (
   stop_ends piece all ends.Spent final f s = (f, held_by piece s.0 s.1 s.2.0, s.2.1, s.2.2)
   stop_ends piece all ends.Memory final f s = f
 
-  nothing_unread : (end : SyslogEnd) → IsUnread end []
+  nothing_unread : (end : SyslogEnd) → IsLeft end []
   nothing_unread ends.Closed = refl
   nothing_unread ends.Limit = refl
   nothing_unread ends.SourceFault = refl
@@ -514,7 +514,7 @@ pub few_come : (caller : Caller) (first last : Seen) (source step : Change) (t0 
     (old new : Framing)
     (was is : ℕ) (messages : List (List ℕ)) (then : Option SyslogEnd)
     → (g : Going caller first last source t0 t1 counts old was)
-    → was < session_limit → Comes (bytes_of g.reads) step old new messages is then
+    → was < session_limit → Comes (bytes_read g.reads) step old new messages is then
     → counts.accepted + counts.refused + length messages < 2 ^ 64
 few_come caller first last source step t0 t1 counts old new was is messages then g within c =
     omega (
@@ -526,23 +526,23 @@ few_come caller first last source step t0 t1 counts old new was is messages then
       g.handled.refused_is,
     )
   where
-    before : length (messages_of g.reads) ≤ length (bytes_of g.reads)
-    before = few_messages (bytes_of g.reads) old.rest (messages_of g.reads) g.frames
+    before : length (messages_of g.reads) ≤ length (bytes_read g.reads)
+    before = few_messages (bytes_read g.reads) old.rest (messages_of g.reads) g.frames
 
-    with_piece : (piece rest : List ℕ) → Feeds (bytes_of g.reads) piece step messages rest
+    with_piece : (piece rest : List ℕ) → Feeds (bytes_read g.reads) piece step messages rest
         → length (messages_of g.reads) + length messages ≤ session_limit
     with_piece piece rest f = omega (
       arith,
       f.within,
       length-append (messages_of g.reads) messages,
-      few_messages (bytes_of g.reads ++ piece) rest (messages_of g.reads ++ messages)
-          (frames_more (bytes_of g.reads) piece old.rest rest (messages_of g.reads) messages g.frames f.completes),
+      few_messages (bytes_read g.reads ++ piece) rest (messages_of g.reads ++ messages)
+          (frames_more (bytes_read g.reads) piece old.rest rest (messages_of g.reads) messages g.frames f.completes),
     )
 
     none : messages ≡ [] → length (messages_of g.reads) + length messages ≤ session_limit
     none same = omega (arith, before, g.counted, within, ap length same)
 
-    of : (then : Option SyslogEnd) → Comes (bytes_of g.reads) step old new messages is then
+    of : (then : Option SyslogEnd) → Comes (bytes_read g.reads) step old new messages is then
         → length (messages_of g.reads) + length messages ≤ session_limit
     of None c = with_piece c.0 new.rest c.1
     of (Some ends.Closed) c =
@@ -566,7 +566,7 @@ pub ends_at_once : (caller : Caller) (first last : Seen) (l0 l1 t0 t1 : Option (
     (taken : ℕ) → Going caller first last (change l0 l1 s0 s1) t0 t1 counts framer taken → taken < session_limit
     → IsSyslogSession caller first last (change l0 l1 s0 s1) t0 t1 (report_of counts ends.Memory)
 ends_at_once caller first last l0 l1 t0 t1 s0 s1 counts framer taken g within =
-    let bytes = bytes_of g.reads in
+    let bytes = bytes_read g.reads in
     made caller first last last (change l0 l1 s0 s1) t0 t1 counts ends.Memory g.reads [] (bytes ++ []) refl
     (omega arith)
     (subst (Consumes l0 l1) (sym (append-nil bytes)) g.gave) (omega

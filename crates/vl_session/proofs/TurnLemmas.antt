@@ -1,6 +1,6 @@
 -- One turn, and one turn more.
 use Rattle.std.proofs.Common.{◌≡◌, ℕ, suc, ◌+◌, ◌<◌, Bool, List, [], ◌∷◌, ◌++◌, length, take, refl, ap, sym, subst, ◌∙◌}
-use Rattle.std.proofs.Common.{arith, append_assoc, append-nil, pos}
+use Rattle.std.proofs.Common.{arith, append_assoc, append-nil, pos, unsigned_abs, ℤ}
 use Rattle.std.specs.Prelude.{None, Option, Some}
 use Rattle.std.specs.List.{AllZip}
 use Rattle.vl_io.specs.Bytes.{Appends}
@@ -40,9 +40,11 @@ pub serves_as : (caller other : Caller) (asked : Asked) (old new : Seen) (dones 
 serves_as caller other asked old new dones dones_new turn same s =
     subst (λ m. Serves m asked old new dones dones_new turn) same s
 
-pub told_at : (a b : Option (List ℕ)) (now : ℕ) (turn : Turn) → turn.now ≡ now → Tells a b (pos now)
+pub told_at : (a b : Option (List ℕ)) (now : ℤ) (turn : Turn) → turn.now ≡ unsigned_abs now → Tells a b now
     → Tells a b (pos turn.now)
-told_at a b now turn at t = subst (λ n. Tells a b (pos n)) (sym at) t
+told_at a None now turn at t = tt
+told_at None (Some new) now turn at t = t
+told_at (Some old) (Some new) now turn at t = t ∙ ap (λ (n : ℕ). old ++ n ∷ []) (sym at)
 
 -- a proper prefix of the reply was written
 pub reply_cut : (w0 w1 : Option (List ℕ)) (k0 k1 : ℕ) (turn : Turn) (text : List ℕ) → turn.reply ≡ text

@@ -67,9 +67,9 @@ fault_of_run (running.Overflow name) = Overflow name
 fault_of_run running.Memory = Memory
 
 -- what a fault is to a session; want of memory is no outcome
-abbrev pub outcome_of : AnswerFault → Option QueryOutcome
-outcome_of (Query fault) = Some (unspelled fault)
-outcome_of (RegexRefused nth) = Some (unreadable nth)
-outcome_of ManyRows = Some many_rows
-outcome_of (Overflow name) = Some (overflows name)
-outcome_of Memory = None
+abbrev pub query_outcome_of : AnswerFault → Option QueryOutcome
+query_outcome_of (Query fault) = Some (unspelled fault)
+query_outcome_of (RegexRefused nth) = Some (unreadable nth)
+query_outcome_of ManyRows = Some many_rows
+query_outcome_of (Overflow name) = Some (overflows name)
+query_outcome_of Memory = None

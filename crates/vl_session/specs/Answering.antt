@@ -8,7 +8,7 @@ use Rattle.http_reply.specs.declared.status.Kind.TheVariants as kinds
 use Rattle.http_reply.specs.declared.status.Status.TheVariants as statuses
 use Rattle.http_route.specs.Route.{Wanted}
 use Rattle.http_route.specs.declared.refusal.Refusal.{Refusal}
-use Rattle.vl_session.specs.Incoming.{Commits, IsUncommitted, fields_said, outcome_of}
+use Rattle.vl_session.specs.Incoming.{Commits, IsUncommitted, fields_said, insert_outcome_of}
 use Rattle.vl_session.specs.Insert.{InsertOutcome, insert_status, refusal_text}
 use Rattle.vl_session.specs.Query.{HasQueryOutcome, QueryOutcome, query_content, query_effect, query_status}
 use Rattle.vl_session.specs.Reply.{Answers}
@@ -39,7 +39,7 @@ pub record IsTurnedAway (caller : Caller) (incoming : Incoming) (old new : Seen)
   pub fault : InsertionFault
   pub why : IsUncommitted caller incoming old new fault
   pub outcome : InsertOutcome
-  pub is_outcome : outcome_of fault ≡ Some outcome
+  pub is_outcome : insert_outcome_of fault ≡ Some outcome
   pub said : reply ≡ reply_bytes (insert_status outcome) (refusal_text outcome) delivery
 
 abbrev pub TakesIn : Caller → Incoming → Seen → Seen → Delivery → List ℕ → Type 0

@@ -1,6 +1,6 @@
 -- Lines that were read, on their way to the desk.
-use Rattle.std.specs.Prelude.{◌≡◌, ◌≢◌, ℕ, ℤ, ◌+◌, ◌-◌, ◌^◌, ◌<◌, ◌≤◌, List, [], ◌∷◌, ◌++◌, length, min, Option, None, Some}
-use Rattle.std.specs.Prelude.{Bool, codes, decimal, if◌then◌else◌, is_some}
+use Rattle.std.specs.Prelude.{◌≡◌, ◌≢◌, ℕ, ℤ, ◌-◌, ◌^◌, ◌<◌, ◌≤◌, List, [], ◌∷◌, ◌++◌, length, min, Option}
+use Rattle.std.specs.Prelude.{None, Some, Bool, codes, decimal, if◌then◌else◌, is_some}
 use Rattle.log_model.specs.Field.{Field}
 use Rattle.log_model.specs.Row.{Batch, Row, batch_limit, batch_weight}
 use Rattle.log_desk.specs.Seen.{Caller, Seen}
@@ -29,14 +29,14 @@ pub record IsIncoming (options : Options) (now : ℤ) (body : List ℕ) (outcome
   pub holds : HoldsRows incoming.batch (rows_read outcomes)
 
 -- why the rows are no batch
-abbrev pub IsUnread : Options → ℤ → List ℕ → InsertionFault → Type 0
-IsUnread options now body (Large weight) =
+abbrev pub IsNoBatch : Options → ℤ → List ℕ → InsertionFault → Type 0
+IsNoBatch options now body (Large weight) =
     (outcomes : List Outcome) × IsIntake options now body outcomes
     × (weight ≡ min (batch_weight (rows_read outcomes)) (2 ^ 64 - 1))
     × (batch_limit < batch_weight (rows_read outcomes))
-IsUnread options now body (Full held) = ⊥
-IsUnread options now body Spent = ⊥
-IsUnread options now body Memory = Unit {0}
+IsNoBatch options now body (Full held) = ⊥
+IsNoBatch options now body Spent = ⊥
+IsNoBatch options now body Memory = Unit {0}
 
 -- The batch was inserted, if there is one, and this is its number.
 abbrev pub InsertsBatch : Caller → Option Batch → Seen → Seen → Option ℕ → Type 0
@@ -77,8 +77,8 @@ fields_said incoming number =
     ++ (fault_fields incoming.refused ++ (codes "refused", decimal (length incoming.refused)) ∷ []))
 
 -- what a fault is to the caller; want of memory is no outcome
-abbrev pub outcome_of : InsertionFault → Option InsertOutcome
-outcome_of (Large weight) = Some (large weight)
-outcome_of (Full limit) = Some full
-outcome_of Spent = Some spent
-outcome_of Memory = None
+abbrev pub insert_outcome_of : InsertionFault → Option InsertOutcome
+insert_outcome_of (Large weight) = Some (large weight)
+insert_outcome_of (Full limit) = Some full
+insert_outcome_of Spent = Some spent
+insert_outcome_of Memory = None

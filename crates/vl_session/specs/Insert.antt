@@ -1,5 +1,5 @@
 -- What becomes of a body that is to be taken in (VictoriaLogs, "Data ingestion").
-use Rattle.std.specs.Prelude.{◌≡◌, ℕ, ◌+◌, ◌-◌, ◌^◌, ◌<◌, ◌≤◌, pos, List, [], ◌∷◌, ◌++◌, length, map, take, codes}
+use Rattle.std.specs.Prelude.{◌≡◌, ℕ, ◌-◌, ◌^◌, ◌<◌, ◌≤◌, pos, List, [], ◌∷◌, ◌++◌, length, map, take, codes}
 use Rattle.std.specs.Prelude.{decimal, flat_map, min}
 use Rattle.log_model.specs.Field.{Field}
 use Rattle.log_model.specs.Print.{line_text}

@@ -24,7 +24,7 @@ accepted (row ∷ rows) outcomes = taken outcomes
 
 -- The lines of the body have these outcomes. Their rows are one entry more, which is the caller's own and the last, if
 -- there are any.
-pub record Inserts (caller : Caller) (options : Options) (now : ℕ) (body : List ℕ) (old new : Seen)
+pub record IsInsertion (caller : Caller) (options : Options) (now : ℕ) (body : List ℕ) (old new : Seen)
     (insertion : Insertion) : Type 0 where
   pub outcomes : List Outcome
   pub given : IsIntake options (pos now) body outcomes

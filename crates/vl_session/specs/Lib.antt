@@ -8,6 +8,7 @@ pub mod Sent
 pub mod Insertion
 pub mod Answer
 pub mod Select
+pub mod InsertRequest
 pub mod Said
 pub mod Incoming
 pub mod Prepared

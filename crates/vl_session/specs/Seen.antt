@@ -24,11 +24,11 @@ added looks = []
 added (adds batch) = batch ∷ []
 
 -- how many turns it takes at least
-abbrev pub turns_of : Effect → ℕ
-turns_of nothing = 0
-turns_of asks = 0
-turns_of looks = 1
-turns_of (adds batch) = 1
+abbrev pub desk_turns : Effect → ℕ
+desk_turns nothing = 0
+desk_turns asks = 0
+desk_turns looks = 1
+desk_turns (adds batch) = 1
 
 -- A turn was taken, in which the caller added nothing.
 abbrev pub Looks : Caller → Seen → Seen → Type 0

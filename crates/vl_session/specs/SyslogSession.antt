@@ -1,5 +1,5 @@
 -- One session of syslog: what a stream of messages comes to (RFC 5424, in the frames of RFC 6587).
-use Rattle.std.specs.Prelude.{◌≡◌, ◌⊎◌, ℕ, ◌+◌, ◌-◌, ◌*◌, ◌<◌, ◌≤◌, pos, true, false, List, [], ◌∷◌, ◌++◌}
+use Rattle.std.specs.Prelude.{◌≡◌, ◌⊎◌, ℕ, ◌*◌, ◌<◌, ◌≤◌, pos, true, false, List, [], ◌∷◌, ◌++◌}
 use Rattle.std.specs.Prelude.{length, take, drop, flat_map, count_by, Option, None, Some, is_none}
 use Rattle.std.specs.List.{AllByRecursion, AllZip}
 use Rattle.vl_io.specs.Change.{Change, Gave, HasFailed, IsSpent}
@@ -32,15 +32,15 @@ batch_rows = 256
 -- ---- messages, rows and batches
 
 -- A message that came in at this moment has this row, or it has none.
-abbrev pub IsOutcome : ℕ → List ℕ → Option Row → Type 0
-IsOutcome now message (Some row) = IsRowOfSyslog (pos now) message row
-IsOutcome now message None = (row : Row) → IsRowOfSyslog (pos now) message row → ⊥
+abbrev pub IsMessageOutcome : ℕ → List ℕ → Option Row → Type 0
+IsMessageOutcome now message (Some row) = IsRowOfSyslog (pos now) message row
+IsMessageOutcome now message None = (row : Row) → IsRowOfSyslog (pos now) message row → ⊥
 
 -- the rows of the readable messages
-abbrev pub rows_read : List (Option Row) → List Row
-rows_read [] = []
-rows_read (Some row ∷ outcomes) = row ∷ rows_read outcomes
-rows_read (None ∷ outcomes) = rows_read outcomes
+abbrev pub message_rows : List (Option Row) → List Row
+message_rows [] = []
+message_rows (Some row ∷ outcomes) = row ∷ message_rows outcomes
+message_rows (None ∷ outcomes) = message_rows outcomes
 
 -- The rows in batches of 256, of which the last may have fewer.
 abbrev pub AreBatches : List Row → List Batch → Type 0
@@ -69,8 +69,8 @@ pub record Read : Type 0 where
   -- the batches of these rows
   pub batches : List Batch
 
-abbrev pub bytes_of : List Read → List ℕ
-bytes_of reads = flat_map (λ read. read.bytes) reads
+abbrev pub bytes_read : List Read → List ℕ
+bytes_read reads = flat_map (λ read. read.bytes) reads
 
 -- the messages that were taken up
 abbrev pub taken_up : Read → List (List ℕ)
@@ -90,8 +90,8 @@ abbrev pub moment_of : List (List ℕ) → ℕ → List ℕ
 moment_of [] now = []
 moment_of (message ∷ messages) now = now ∷ []
 
-abbrev pub moments_of : List Read → List ℕ
-moments_of reads = flat_map (λ read. moment_of read.messages read.now) reads
+abbrev pub moments_read : List Read → List ℕ
+moments_read reads = flat_map (λ read. moment_of read.messages read.now) reads
 
 -- It gave a piece behind these bytes, which completes its messages.
 pub record GivesPiece (fed : List ℕ) (read : Read) : Type 0 where
@@ -129,19 +129,19 @@ AreReads source fed (read ∷ reads) =
 
 -- what became of the messages of a read
 pub record IsTakenUp (read : Read) : Type 0 where
-  pub given : AllZip (IsOutcome read.now) (taken_up read) read.outcomes
-  pub cut : AreBatches (rows_read read.outcomes) read.batches
+  pub given : AllZip (IsMessageOutcome read.now) (taken_up read) read.outcomes
+  pub cut : AreBatches (message_rows read.outcomes) read.batches
   -- Where some were not taken up, those that were end with a batch of 256.
   pub full : length read.outcomes < length read.messages
-      → length (rows_read read.outcomes) ≡ batch_rows * length read.batches
+      → length (message_rows read.outcomes) ≡ batch_rows * length read.batches
 
 -- What became of the messages of these reads, and of what had been seen.
 pub record AreTakenUp (caller : Caller) (first last : Seen) (moments_old moments_new : Option (List ℕ))
     (accepted refused : ℕ) (reads : List Read) : Type 0 where
-  pub told : GaveMoments moments_old moments_new (moments_of reads)
+  pub told : GaveMoments moments_old moments_new (moments_read reads)
   pub each : AllByRecursion IsTakenUp reads
   pub taken : TakesAll caller first (batches_of reads) last
-  pub accepted_is : accepted ≡ length (rows_read (outcomes_of reads))
+  pub accepted_is : accepted ≡ length (message_rows (outcomes_of reads))
   pub refused_is : refused ≡ count_by is_none (outcomes_of reads)
 
 -- ---- ends
@@ -174,8 +174,9 @@ pub record IsHeldUp (reads : List Read) : Type 0 where
   pub read : Read
   pub is_last : reads ≡ front ++ read ∷ []
   pub outcomes : List (Option Row)
-  pub given : AllZip (IsOutcome read.now) (take (length outcomes) (drop (length read.outcomes) read.messages)) outcomes
-  pub some : 0 < length (rows_read outcomes)
+  pub given : AllZip (IsMessageOutcome read.now)
+      (take (length outcomes) (drop (length read.outcomes) read.messages)) outcomes
+  pub some : 0 < length (message_rows outcomes)
 
 -- what the end did to what had been seen: where a batch is refused there was a turn
 abbrev pub end_effect : SyslogEnd → Effect
@@ -188,43 +189,43 @@ end_effect ends.Spent = looks
 end_effect ends.Memory = asks
 
 -- Why the session ends, where its source gave these bytes, these messages were taken up, and `last` has been seen.
-abbrev pub Ends : Change → List Read → List ℕ → Seen → SyslogEnd → Type 0
-Ends source reads bytes last ends.Closed =
+abbrev pub EndsStream : Change → List Read → List ℕ → Seen → SyslogEnd → Type 0
+EndsStream source reads bytes last ends.Closed =
     (whole : List (List ℕ)) × (rest : List ℕ) × AreAll bytes whole rest × (begins_length rest ≡ false)
     × (messages_of reads ≡ whole ++ unless_empty rest) × IsSpent source × (length bytes < session_limit)
-Ends source reads bytes last ends.Limit =
+EndsStream source reads bytes last ends.Limit =
     (rest : List ℕ) × AreAll bytes (messages_of reads) rest × (length bytes ≡ session_limit)
-Ends source reads bytes last ends.SourceFault =
+EndsStream source reads bytes last ends.SourceFault =
     (rest : List ℕ) × AreAll bytes (messages_of reads) rest × HasFailed source × (length bytes < session_limit)
-Ends source reads bytes last (ends.BadFrame fault) =
+EndsStream source reads bytes last (ends.BadFrame fault) =
     (rest : List ℕ) × AreFrames bytes (messages_of reads) rest × IsBadFrame source bytes rest fault
-Ends source reads bytes last (ends.Full held) =
+EndsStream source reads bytes last (ends.Full held) =
     IsFront bytes (messages_of reads) × IsHeldUp reads × (held ≡ held_limit) × IsFull last
-Ends source reads bytes last ends.Spent =
+EndsStream source reads bytes last ends.Spent =
     IsFront bytes (messages_of reads) × IsHeldUp reads × (IsFull last → ⊥) × HasLastNumber last
-Ends source reads bytes last ends.Memory = IsFront bytes (messages_of reads)
+EndsStream source reads bytes last ends.Memory = IsFront bytes (messages_of reads)
 
 -- For want of memory, the last piece that the source gave may not have been looked at.
-abbrev pub IsUnread : SyslogEnd → List ℕ → Type 0
-IsUnread ends.Closed left = left ≡ []
-IsUnread ends.Limit left = left ≡ []
-IsUnread ends.SourceFault left = left ≡ []
-IsUnread (ends.BadFrame fault) left = left ≡ []
-IsUnread (ends.Full held) left = left ≡ []
-IsUnread ends.Spent left = left ≡ []
-IsUnread ends.Memory left = length left ≤ read_limit
+abbrev pub IsLeft : SyslogEnd → List ℕ → Type 0
+IsLeft ends.Closed left = left ≡ []
+IsLeft ends.Limit left = left ≡ []
+IsLeft ends.SourceFault left = left ≡ []
+IsLeft (ends.BadFrame fault) left = left ≡ []
+IsLeft (ends.Full held) left = left ≡ []
+IsLeft ends.Spent left = left ≡ []
+IsLeft ends.Memory left = length left ≤ read_limit
 
 -- One session of a caller that had seen `first` before, and `last` then.
 pub record IsSyslogSession (caller : Caller) (first last : Seen) (source : Change)
     (moments_old moments_new : Option (List ℕ)) (report : SyslogReport) : Type 0 where
   pub reads : List Read
   pub left : List ℕ
-  pub unread : IsUnread report.end left
-  pub gave : Gave source (bytes_of reads ++ left)
-  pub few : length (bytes_of reads ++ left) ≤ session_limit
+  pub unread : IsLeft report.end left
+  pub gave : Gave source (bytes_read reads ++ left)
+  pub few : length (bytes_read reads ++ left) ≤ session_limit
   pub are_reads : AreReads source [] reads
   pub mid : Seen
   pub taken : AreTakenUp caller first mid moments_old moments_new report.accepted report.refused reads
   -- behind its last batch
   pub has : Has caller mid last (end_effect report.end)
-  pub ended : Ends source reads (bytes_of reads ++ left) last report.end
+  pub ended : EndsStream source reads (bytes_read reads ++ left) last report.end

@@ -1,5 +1,5 @@
 -- How a session of syslog takes its input, a read at a time.
-use Rattle.std.specs.Prelude.{◌≡◌, ℕ, ◌*◌, ◌+◌, ◌-◌, ◌<◌, ◌≤◌, List, [], ◌∷◌, ◌++◌, length, take, drop}
+use Rattle.std.specs.Prelude.{◌≡◌, ℕ, ◌*◌, ◌+◌, ◌<◌, ◌≤◌, List, [], ◌∷◌, ◌++◌, length, take, drop}
 use Rattle.std.specs.Prelude.{count_by, Option, None, Some, is_none}
 use Rattle.std.specs.List.{AllZip}
 use Rattle.vl_io.specs.Change.{Change, Gave, HasFailed, IsSpent}
@@ -12,8 +12,8 @@ use Rattle.syslog_in.specs.declared.fault.FrameFault.{FrameFault}
 use Rattle.syslog_in.specs.declared.fault.FrameFault.TheVariants as faults
 use Rattle.log_desk.specs.Seen.{Caller, Seen}
 use Rattle.vl_session.specs.Seen.{Has, HasLastNumber, IsFull}
-use Rattle.vl_session.specs.SyslogSession.{AreBatches, IsBadFrame, IsOutcome, TakesAll, batch_rows}
-use Rattle.vl_session.specs.SyslogSession.{end_effect, read_limit, rows_read}
+use Rattle.vl_session.specs.SyslogSession.{AreBatches, IsBadFrame, IsMessageOutcome, TakesAll, batch_rows}
+use Rattle.vl_session.specs.SyslogSession.{end_effect, read_limit, message_rows}
 use Rattle.vl_session.specs.SyslogSession.{session_limit}
 use Rattle.vl_session.specs.declared.syslog_intake.Chunk.{Chunk}
 use Rattle.vl_session.specs.declared.syslog_intake.Counts.{Counts}
@@ -39,19 +39,19 @@ end_of_frame faults.Memory = ends.Memory
 
 -- These messages, which came in at that moment, begin with some that have these outcomes.
 abbrev pub BeginWith : ℕ → List (List ℕ) → List (Option Row) → Type 0
-BeginWith now messages outcomes = AllZip (IsOutcome now) (take (length outcomes) messages) outcomes
+BeginWith now messages outcomes = AllZip (IsMessageOutcome now) (take (length outcomes) messages) outcomes
 
 -- The rows of the messages from one place to another.
 pub record IsChunk (now : ℕ) (messages : List (List ℕ)) (start : ℕ) (chunk : Chunk) : Type 0 where
   pub outcomes : List (Option Row)
   pub given : BeginWith now (drop start messages) outcomes
   pub end_is : chunk.end ≡ start + length outcomes
-  pub rows : chunk.rows.items ≡ rows_read outcomes
+  pub rows : chunk.rows.items ≡ message_rows outcomes
 
 -- rows that are one batch, if there are any
-abbrev pub batch_of : List Row → List Batch
-batch_of [] = []
-batch_of (row ∷ rows) = (row ∷ rows) ∷ []
+abbrev pub batches_from : List Row → List Batch
+batches_from [] = []
+batches_from (row ∷ rows) = (row ∷ rows) ∷ []
 
 -- what stands against rows that are one batch
 abbrev pub HoldsUp : List Row → Seen → SyslogEnd → Type 0
@@ -69,17 +69,17 @@ HoldsUp rows seen ends.Memory = Unit {0}
 pub record TakesUp (caller : Caller) (now : ℕ) (messages : List (List ℕ)) (old new : Seen) (before after : Counts)
     (outcomes : List (Option Row)) (batches : List Batch) : Type 0 where
   pub given : BeginWith now messages outcomes
-  pub cut : AreBatches (rows_read outcomes) batches
-  pub full : length outcomes < length messages → length (rows_read outcomes) ≡ batch_rows * length batches
+  pub cut : AreBatches (message_rows outcomes) batches
+  pub full : length outcomes < length messages → length (message_rows outcomes) ≡ batch_rows * length batches
   pub taken : TakesAll caller old batches new
-  pub accepted : after.accepted ≡ before.accepted + length (rows_read outcomes)
+  pub accepted : after.accepted ≡ before.accepted + length (message_rows outcomes)
   pub refused : after.refused ≡ before.refused + count_by is_none outcomes
 
 -- Why no more of them were.
 abbrev pub StopsAt : ℕ → List (List ℕ) → List (Option Row) → Seen → SyslogEnd → Type 0
 StopsAt now messages outcomes seen end =
     (later : List (Option Row)) × BeginWith now (drop (length outcomes) messages) later
-    × HoldsUp (rows_read later) seen end
+    × HoldsUp (message_rows later) seen end
 
 -- Some of these messages were taken up, but not all, and this is what the end did behind that.
 pub record TakesSome (caller : Caller) (now : ℕ) (messages : List (List ℕ)) (old new : Seen) (before after : Counts)

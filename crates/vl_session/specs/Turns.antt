@@ -5,7 +5,7 @@ use Rattle.log_model.specs.Row.{Batch}
 use Rattle.http_in.specs.Message.{Asked}
 use Rattle.vl_session.specs.Reply.{IsServed}
 use Rattle.log_desk.specs.Seen.{Caller, Seen}
-use Rattle.vl_session.specs.Seen.{Effect, added, turns_of}
+use Rattle.vl_session.specs.Seen.{Effect, added, desk_turns}
 use Rattle.vl_session.specs.declared.report.Done.{Done}
 
 -- the most requests of one connection
@@ -44,9 +44,9 @@ abbrev pub accepted_in : List Turn → List Batch
 accepted_in turns = flat_map (λ turn. added turn.effect) turns
 
 -- how many turns at the desk they took at least
-abbrev pub turns_taken : List Turn → ℕ
-turns_taken [] = 0
-turns_taken (turn ∷ turns) = turns_of turn.effect + turns_taken turns
+abbrev pub desk_turns_of : List Turn → ℕ
+desk_turns_of [] = 0
+desk_turns_of (turn ∷ turns) = desk_turns turn.effect + desk_turns_of turns
 
 abbrev pub moments_of : List Turn → List ℕ
 moments_of turns = map (λ turn. turn.now) turns

@@ -1,5 +1,5 @@
 //! The desk as the log of one of its callers.
-ghost use Rattle.std.specs.Prelude.{◌≡◌, ◌<◌, ◌≤ℤ◌, ◌^◌, IfOk, IsOkAnd, OnErr, pos, string_bytes, unsigned_abs};
+ghost use Rattle.std.specs.Prelude.{◌≡◌, ◌≤ℤ◌, IfOk, IsOkAnd, OnErr, pos, string_bytes, unsigned_abs};
 ghost use Rattle.turn_lock.specs.Passes.{IsPassOf};
 ghost use Rattle.log_desk.specs.Seen.{Follows, caller_of, seen_of};
 ghost use Rattle.http_in.specs.Reading.{asked_by};
@@ -41,7 +41,7 @@ impl<R: Wait> Log for DeskLog<'_, R> {
 
     ghost name = { λ log. log.pass.ghost_name };
 
-    fn serve(&mut self, request: &Request, now: u64, closes: bool) -> Reply {
+    fn serve(&mut self, request: &Request, now: i64, closes: bool) -> Reply {
         let delivery = delivery_to(request, closes);
         match reply_to(&self.access, self.pass, request, now, delivery) {
             Ok(reply) => reply,
@@ -63,13 +63,14 @@ fn reply_to<R: Wait>(
     access: &Access<'_, R>,
     pass: &mut Pass,
     request: &Request,
-    now: u64,
+    now: i64,
     delivery: Delivery,
 ) -> Result<Reply, AllocError>
     requires pass { IsPassOf access.now.desk.now pass.old }
-    requires moment { now < 2 ^ 63 }
+    requires moment { pos 0 ≤ℤ now }
     ensures answered { IfOk result (λ reply. Answered (caller_of pass.old) (wanted_of (asked_by request.now))
-        (asked_by request.now).body now (seen_of pass.old) (seen_of pass.new) delivery (bytes_of reply)) }
+        (asked_by request.now).body (unsigned_abs now) (seen_of pass.old) (seen_of pass.new) delivery
+        (bytes_of reply)) }
     ensures unanswered { OnErr result (Follows (caller_of pass.old) (seen_of pass.old) (seen_of pass.new)) }
     ensures pass { IsPassOf access.now.desk.now pass.new }
     ensures caller { caller_of pass.new ≡ caller_of pass.old }
@@ -77,7 +78,7 @@ fn reply_to<R: Wait>(
     match Wanted::of(access.alloc, request) {
         Ok(Wanted::Insert(options)) => {
             let body = request.body.as_slice();
-            match Incoming::read(access.alloc, &options, moment_of(now), body) {
+            match Incoming::read(access.alloc, &options, now, body) {
                 Ok(incoming) => {
                     let reply = take_in(access, pass, incoming, delivery)?;
                     Ok(reply)
@@ -86,7 +87,7 @@ fn reply_to<R: Wait>(
             }
         }
         Ok(Wanted::Query(text)) => {
-            let reply = query_reply(access, pass, text, moment_of(now), delivery)?;
+            let reply = query_reply(access, pass, text, now, delivery)?;
             Ok(reply)
         }
         Ok(Wanted::Status) => {
@@ -161,12 +162,4 @@ fn whole(text: Result<String, AllocError>) -> Result<Reply, AllocError>
         Ok(text) => Ok(Reply::Whole(text)),
         Err(AllocError) => Err(AllocError),
     }
-}
-
-/// The moment as a time of rows.
-fn moment_of(now: u64) -> i64
-    requires { now < 2 ^ 63 }
-    ensures { result ≡ pos now }
-{
-    now as i64
 }

@@ -1,14 +1,15 @@
 //! Lines of JSON taken in by the desk.
-ghost use Rattle.std.specs.Prelude.{◌≡◌, ◌≤ℤ◌, IfErr, IfOk, List, pos, unsigned_abs};
+ghost use Rattle.std.specs.Prelude.{◌≡◌, ◌≤ℤ◌, IfErr, IfOk, List, Some, length, pos, unsigned_abs};
 ghost use Rattle.ingest_row.specs.Intake.{Outcome};
 ghost use Rattle.turn_lock.specs.Passes.{IsPassOf};
-ghost use Rattle.vl_session.specs.Incoming.{Commits, IsIncoming, IsUncommitted, IsUnread};
+ghost use Rattle.vl_session.specs.Incoming.{Commits, IsIncoming, IsUncommitted, IsNoBatch};
 ghost use Rattle.log_desk.specs.Seen.{caller_of, seen_of};
-ghost use Rattle.vl_session.specs.Insertion.{Inserts, IsOfLines, RefusesLines};
+ghost use Rattle.vl_session.specs.Insert.{CanBeBatch};
+ghost use Rattle.vl_session.specs.Insertion.{IsInsertion, IsOfLines, RefusesLines};
 ghost use Rattle.vl_session.specs.Seen.{HasRoom};
 
 use crate::access::Access;
-use ingest_row::{LineFault, Options, batch_of_body};
+use ingest_row::{LineFault, Options, batch_of_body, intake_law};
 use log_desk::{Desk, InsertFault, Pass};
 use std::alloc::{AllocError, Global};
 use std::sync::Wait;
@@ -77,16 +78,23 @@ pub fn insert_lines<R: Wait>(
 ) -> Result<Insertion, InsertionFault>
     requires pass { IsPassOf desk.now pass.old }
     requires moment { pos 0 ≤ℤ now }
-    ensures inserted { IfOk result (Inserts (caller_of pass.old) options.now (unsigned_abs now) body.now
+    ensures inserted { IfOk result (IsInsertion (caller_of pass.old) options.now (unsigned_abs now) body.now
         (seen_of pass.old) (seen_of pass.new)) }
     ensures refused { IfErr result (RefusesLines (caller_of pass.old) options.now (unsigned_abs now) body.now
         (seen_of pass.old) (seen_of pass.new)) }
 
     // Where there is room for another batch, lines are refused for their weight alone, or for want of memory.
-    ensures complete { HasRoom (seen_of pass.new) → IfErr result IsOfLines }
+    ensures room { HasRoom (seen_of pass.new) → IfErr result IsOfLines }
+
+    // And lines with rows that can be a batch are taken in as one then, unless memory runs out.
+    ensures batch { (outcomes : List Outcome) → CanBeBatch options.now (unsigned_abs now) body.now outcomes
+        → IfOk result (λ insertion. insertion.batch ≡ Some (length (seen_of pass.new).history)) }
+    ensures complete { (outcomes : List Outcome) → CanBeBatch options.now (unsigned_abs now) body.now outcomes
+        → HasRoom (seen_of pass.new) → IfErr result (λ fault. fault ≡ InsertionFault.Memory) }
     ensures pass { IsPassOf desk.now pass.new }
     ensures caller { caller_of pass.new ≡ caller_of pass.old }
 {
+    intake_law();
     let access = Access { rt, alloc, desk };
     let incoming = Incoming::read(alloc, options, now, body)?;
     incoming.commit(&access, pass)
@@ -111,7 +119,7 @@ impl Incoming {
         requires moment { pos 0 ≤ℤ now }
         ensures read { IfOk result (λ incoming. (outcomes : List Outcome)
             × IsIncoming options.now now body.now outcomes incoming) }
-        ensures unread { IfErr result (IsUnread options.now now body.now) }
+        ensures unread { IfErr result (IsNoBatch options.now now body.now) }
     {
         let intake = batch_of_body(alloc, options, now, body)?;
         let refused = intake.refused;
@@ -132,7 +140,7 @@ impl Incoming {
         }
     }
 
-    /// Inserts the rows as one batch, if there are any.
+    /// IsInsertion the rows as one batch, if there are any.
     pub(crate) fn commit<R: Wait>(
         self,
         access: &Access<'_, R>,

@@ -3,7 +3,7 @@ ghost use Rattle.std.specs.Prelude.{◌≡◌, ◌++◌, IfOk, OnOk, Some, codes
 ghost use Rattle.json.specs.Print.{escape};
 ghost use Rattle.http_reply.specs.Reply.{reply_bytes};
 ghost use Rattle.vl_session.specs.Insert.{InsertOutcome, fault_fields, insert_status, large, named_line, refusal_text};
-ghost use Rattle.vl_session.specs.Incoming.{outcome_of};
+ghost use Rattle.vl_session.specs.Incoming.{insert_outcome_of};
 ghost use Rattle.vl_session.specs.Said.{first_member, later_line, later_member, refused_text};
 
 use crate::insert::InsertionFault;
@@ -70,7 +70,7 @@ pub(crate) fn refusal_reply(
     fault: InsertionFault,
     delivery: Delivery,
 ) -> Result<String, AllocError>
-    ensures { IfOk result (λ text. (outcome : InsertOutcome) × (outcome_of fault ≡ Some outcome)
+    ensures { IfOk result (λ text. (outcome : InsertOutcome) × (insert_outcome_of fault ≡ Some outcome)
         × (string_bytes text ≡ reply_bytes (insert_status outcome) (refusal_text outcome) delivery)) }
 {
     match fault {

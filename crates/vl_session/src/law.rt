@@ -3,18 +3,23 @@ ghost use Rattle.std.specs.Prelude.{◌≡◌, ℕ, ◌+◌, ◌++◌, List, [],
 ghost use Rattle.log_model.specs.History.{History, batches_in};
 ghost use Rattle.log_model.specs.Row.{Batch};
 ghost use Rattle.lq_ast.specs.Records.{Record};
+ghost use Rattle.ingest_row.specs.Ingest.{Options};
+ghost use Rattle.ingest_row.specs.Intake.{Outcome};
 ghost use Rattle.query_run.specs.Asked.{IsReadableQuery};
 ghost use Rattle.log_desk.specs.Seen.{Caller, Seen};
 ghost use Rattle.vl_session.specs.Answer.{FailsQuery, IsOfEvaluation};
+ghost use Rattle.vl_session.specs.Insert.{CanBeBatch, HasInsertOutcome, InsertOutcome, taken};
+ghost use Rattle.vl_session.specs.InsertRequest.{InsertRequest, IsInsertAnswered, IsInsertServed};
 ghost use Rattle.vl_session.specs.Laws.{Connection, Grows, HaveTurns, IsByInput, IsServedWhole};
 ghost use Rattle.vl_session.specs.Laws.{IsTakenWhole, SyslogInput};
 ghost use Rattle.vl_session.specs.Query.{HasQueryOutcome, QueryOutcome, found};
 ghost use Rattle.vl_session.specs.Select.{IsSelectAnswered, IsSelectServed, Select};
-ghost use Rattle.vl_session.specs.Seen.{turns_of};
-ghost use Rattle.vl_session.specs.SyslogSession.{batches_of, end_effect, outcomes_of, rows_read};
-ghost use Rattle.vl_session.specs.Turns.{accepted_in, turns_taken};
+ghost use Rattle.vl_session.specs.Seen.{HasRoom, desk_turns};
+ghost use Rattle.vl_session.specs.SyslogSession.{batches_of, end_effect, outcomes_of, message_rows};
+ghost use Rattle.vl_session.specs.Turns.{accepted_in, desk_turns_of};
 ghost use Rattle.vl_session.specs.declared.answer.AnswerFault.{AnswerFault};
 
+use ingest_row::intake_law;
 use lq_grammar::query_law;
 
 /// A query that has records comes to nothing else. So a select that asks it is answered with them, or that memory ran
@@ -30,6 +35,18 @@ pub fn select_law()
     query_law();
 }
 
+/// Lines of which some have rows, and these can be a batch, come to that batch alone, where there is room for another.
+/// So an insert of such lines is accepted, or memory ran out.
+pub fn insert_law()
+    ensures taken { (options : Options) (now : ℕ) (body : List ℕ) (outcomes : List Outcome)
+        → CanBeBatch options now body outcomes → (seen : Seen) → HasRoom seen → (other : InsertOutcome)
+        → HasInsertOutcome options now body seen other → other ≡ taken outcomes }
+    ensures insert { (caller : Caller) (request : InsertRequest) → IsInsertServed caller request
+        → IsInsertAnswered caller request }
+{
+    intake_law();
+}
+
 /// Where a session ends by its input, every request of it has its turn. The entries that are the caller's own are the
 /// batches of its accepted inserts, in their order. The caller took a turn at the desk for each reply that tells of
 /// what is held.
@@ -37,7 +54,7 @@ pub fn session_law()
     ensures requests { (c : Connection) (session : IsServedWhole c) → IsByInput c.end
         → HaveTurns (session.serving.used ++ session.rest) session.turns }
     ensures entries { (c : Connection) (session : IsServedWhole c)
-        → Grows c.caller c.first c.last (accepted_in session.turns) (turns_taken session.turns) }
+        → Grows c.caller c.first c.last (accepted_in session.turns) (desk_turns_of session.turns) }
 {}
 
 /// The entries of a session of syslog that are the caller's own are its batches, in order. Joined, these are the rows
@@ -45,9 +62,9 @@ pub fn session_law()
 pub fn syslog_law()
     ensures entries { (s : SyslogInput) (session : IsTakenWhole s)
         → Grows s.caller s.first s.last (batches_of session.reads)
-        (length (batches_of session.reads) + turns_of (end_effect s.report.end)) }
+        (length (batches_of session.reads) + desk_turns (end_effect s.report.end)) }
     ensures rows { (s : SyslogInput) (session : IsTakenWhole s)
-        → flat_map (λ batch. batch) (batches_of session.reads) ≡ rows_read (outcomes_of session.reads) }
+        → flat_map (λ batch. batch) (batches_of session.reads) ≡ message_rows (outcomes_of session.reads) }
 {}
 
 /// On a desk that is made for one pass, nobody else adds to the history: what a session adds is the batches of its

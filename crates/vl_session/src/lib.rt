@@ -24,9 +24,8 @@ mod turn;
 
 pub use answer::{Answer, AnswerFault, answer_query};
 pub use insert::{Insertion, InsertionFault, insert_lines};
-pub use law::{alone_law, select_law, session_law, syslog_law};
+pub use law::{alone_law, insert_law, select_law, session_law, syslog_law};
 pub use log::{Log, Reply};
-pub use pages::{health_reply, status_reply};
 pub use report::{Done, End, Report};
 pub use serve::serve_session;
 pub use session::serve_requests;

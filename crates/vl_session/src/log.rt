@@ -1,5 +1,5 @@
 //! What a session asks of the log.
-ghost use Rattle.std.specs.Prelude.{◌≡◌, ◌<◌, ◌^◌, ℕ, length};
+ghost use Rattle.std.specs.Prelude.{◌≡◌, ◌≤ℤ◌, ℕ, length, pos, unsigned_abs};
 ghost use Rattle.http_in.specs.Reading.{asked_by};
 ghost use Rattle.log_desk.specs.Seen.{Caller, Seen};
 ghost use Rattle.vl_session.specs.Reply.{IsServed};
@@ -36,11 +36,11 @@ pub trait Log {
 
     /// Serves a request that was whole at the moment `now`, in nanoseconds since the start of 1970, and gives the
     /// reply, behind which the connection ends or goes on.
-    fn serve(&mut self, request: &Request, now: u64, closes: bool) -> Reply
+    fn serve(&mut self, request: &Request, now: i64, closes: bool) -> Reply
         requires may_ask { may_ask self.old }
-        requires moment { now < 2 ^ 63 }
-        ensures served { (effect : Effect) × IsServed (caller self.old) (asked_by request.now) closes now
-            (seen self.old) (seen self.new) effect (bytes_of result) }
+        requires moment { pos 0 ≤ℤ now }
+        ensures served { (effect : Effect) × IsServed (caller self.old) (asked_by request.now) closes
+            (unsigned_abs now) (seen self.old) (seen self.new) effect (bytes_of result) }
         ensures may_ask { may_ask self.new }
         ensures same { caller self.new ≡ caller self.old }
         ensures lent { name self.new ≡ name self.old };

@@ -1,5 +1,6 @@
 //! Replies to inserts that are made before the number of their batch is known.
-ghost use Rattle.std.specs.Prelude.{◌≡◌, ◌⊎◌, ◌+◌, ◌≤◌, ◌<◌, ◌^◌, ◌++◌, ℕ, IfOk, decimal, false, is_some, length, string_bytes, string_capacity, string_len, true};
+ghost use Rattle.std.specs.Prelude.{◌≡◌, ◌⊎◌, ◌+◌, ◌≤◌, ◌<◌, ◌^◌, ◌++◌, ℕ, IfOk, decimal, false, is_some, length, true};
+ghost use Rattle.std.specs.Prelude.{string_bytes, string_capacity, string_len};
 ghost use Rattle.log_model.specs.Print.{line_text};
 ghost use Rattle.http_reply.specs.Reply.{head_bytes, reply_bytes};
 ghost use Rattle.vl_session.specs.Incoming.{fields_said};

@@ -1,7 +1,7 @@
 //! Replies to queries.
 ghost use Rattle.std.specs.Prelude.{◌≡◌, IfOk, Some, string_bytes};
 ghost use Rattle.http_reply.specs.Reply.{reply_bytes};
-ghost use Rattle.vl_session.specs.Answer.{outcome_of};
+ghost use Rattle.vl_session.specs.Answer.{query_outcome_of};
 ghost use Rattle.vl_session.specs.Query.{QueryOutcome, overflows, query_content, query_status};
 ghost use Rattle.vl_session.specs.Query.{unreadable, unspelled};
 ghost use Rattle.vl_session.specs.Sent.{bytes_of};
@@ -38,7 +38,7 @@ pub(crate) fn unanswered_reply(
     fault: AnswerFault,
     delivery: Delivery,
 ) -> Result<String, AllocError>
-    ensures { IfOk result (λ text. (outcome : QueryOutcome) × (outcome_of fault ≡ Some outcome)
+    ensures { IfOk result (λ text. (outcome : QueryOutcome) × (query_outcome_of fault ≡ Some outcome)
         × (string_bytes text ≡ reply_bytes (query_status outcome) (query_content outcome) delivery)) }
 {
     match fault {

@@ -1,12 +1,12 @@
 //! Messages of syslog taken in by the desk.
-ghost use Rattle.std.specs.Prelude.{◌≡◌, ℕ, ◌+◌, ◌*◌, ◌^◌, ◌<◌, ◌≤◌, IfErr, IfOk, IfSome, List, OnOk, Option};
-ghost use Rattle.std.specs.Prelude.{length, vec_len};
+ghost use Rattle.std.specs.Prelude.{◌≡◌, ℕ, ◌+◌, ◌*◌, ◌^◌, ◌<◌, ◌≤◌, ◌≤ℤ◌, IfErr, IfOk, IfSome, List, OnOk, Option};
+ghost use Rattle.std.specs.Prelude.{length, pos, unsigned_abs, vec_len};
 ghost use Rattle.log_model.specs.Row.{Batch as Rows, IsRow, Row as Event, batch_weight};
 ghost use Rattle.turn_lock.specs.Passes.{IsPassOf};
 ghost use Rattle.log_desk.specs.Seen.{caller_of, seen_of};
 ghost use Rattle.vl_session.specs.Seen.{Has};
-ghost use Rattle.vl_session.specs.SyslogSession.{IsOutcome, TakesAll, batch_rows, end_effect, moment_of};
-ghost use Rattle.vl_session.specs.SyslogTaking.{HoldsUp, IsChunk, TakesSome, TakesUp, batch_of};
+ghost use Rattle.vl_session.specs.SyslogSession.{IsMessageOutcome, TakesAll, batch_rows, end_effect, moment_of};
+ghost use Rattle.vl_session.specs.SyslogTaking.{HoldsUp, IsChunk, TakesSome, TakesUp, batches_from};
 ghost use Rattle.vl_session.specs.Turns.{GaveMoments};
 
 use crate::access::Access;
@@ -62,7 +62,7 @@ pub(crate) fn take_in<R: Wait, C: Clock>(
     if messages.is_empty() {
         return Ok(());
     }
-    let now = clock.now().unsigned_abs();
+    let now = clock.now();
     take_batches(access, pass, messages, now, counts)
 }
 
@@ -71,18 +71,18 @@ fn take_batches<R: Wait>(
     access: &Access<'_, R>,
     pass: &mut Pass,
     messages: &Frames,
-    now: u64,
+    now: i64,
     counts: &mut Counts,
 ) -> Result<(), SyslogEnd>
     requires pass { IsPassOf access.now.desk.now pass.old }
-    requires moment { now < 2 ^ 63 }
+    requires moment { pos 0 ≤ℤ now }
     requires room { counts.old.accepted + counts.old.refused + length messages.now < 2 ^ 64 }
     ensures all { OnOk result ((outcomes : List (Option Event)) × (batches : List Rows)
-        × TakesUp (caller_of pass.old) now messages.now (seen_of pass.old) (seen_of pass.new) counts.old counts.new
-        outcomes batches × (length outcomes ≡ length messages.now)) }
+        × TakesUp (caller_of pass.old) (unsigned_abs now) messages.now (seen_of pass.old) (seen_of pass.new) counts.old
+        counts.new outcomes batches × (length outcomes ≡ length messages.now)) }
     ensures some { IfErr result (λ end. (outcomes : List (Option Event)) × (batches : List Rows)
-        × TakesSome (caller_of pass.old) now messages.now (seen_of pass.old) (seen_of pass.new) counts.old counts.new
-        outcomes batches end) }
+        × TakesSome (caller_of pass.old) (unsigned_abs now) messages.now (seen_of pass.old) (seen_of pass.new)
+        counts.old counts.new outcomes batches end) }
     ensures pass { IsPassOf access.now.desk.now pass.new }
     ensures caller { caller_of pass.new ≡ caller_of pass.old }
 {
@@ -105,10 +105,10 @@ fn take_batches<R: Wait>(
 }
 
 /// Reads messages that came in at this moment, from a place on, up to the last row of a batch.
-fn read_chunk(alloc: Global, now: u64, messages: &Frames, start: usize) -> Result<Chunk, AllocError>
-    requires moment { now < 2 ^ 63 }
+fn read_chunk(alloc: Global, now: i64, messages: &Frames, start: usize) -> Result<Chunk, AllocError>
+    requires moment { pos 0 ≤ℤ now }
     requires within { start < length messages.now }
-    ensures chunk { IfOk result (IsChunk now messages.now start) }
+    ensures chunk { IfOk result (IsChunk (unsigned_abs now) messages.now start) }
     ensures further { IfOk result (λ chunk. start < chunk.end) }
     ensures within { IfOk result (λ chunk. chunk.end ≤ length messages.now) }
     ensures few { IfOk result (λ chunk. vec_len chunk.rows ≤ batch_rows) }
@@ -127,12 +127,12 @@ fn read_chunk(alloc: Global, now: u64, messages: &Frames, start: usize) -> Resul
 }
 
 /// The row of a message that came in at this moment, if it has one.
-fn read_row(alloc: Global, now: u64, message: &[u8]) -> Result<Option<Row>, AllocError>
-    requires { now < 2 ^ 63 }
-    ensures outcome { IfOk result (IsOutcome now message.now) }
+fn read_row(alloc: Global, now: i64, message: &[u8]) -> Result<Option<Row>, AllocError>
+    requires { pos 0 ≤ℤ now }
+    ensures outcome { IfOk result (IsMessageOutcome (unsigned_abs now) message.now) }
     ensures rules { IfOk result (λ row. IfSome row IsRow) }
 {
-    match row_of_syslog(alloc, now as i64, message) {
+    match row_of_syslog(alloc, now, message) {
         Ok(row) => {
             let _ = row.fields();
             Ok(Some(row))
@@ -152,7 +152,7 @@ fn insert_rows<R: Wait>(
     requires pass { IsPassOf access.now.desk.now pass.old }
     requires few { vec_len rows ≤ batch_rows }
     requires light { batch_weight rows.items ≤ 262_144 * vec_len rows }
-    ensures ok { OnOk result (TakesAll (caller_of pass.old) (seen_of pass.old) (batch_of rows.items)
+    ensures ok { OnOk result (TakesAll (caller_of pass.old) (seen_of pass.old) (batches_from rows.items)
         (seen_of pass.new)) }
     ensures refused { IfErr result (HoldsUp rows.items (seen_of pass.new)) }
     ensures has { IfErr result (λ end. Has (caller_of pass.old) (seen_of pass.old) (seen_of pass.new)

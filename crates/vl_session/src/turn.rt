@@ -1,5 +1,6 @@
 //! One turn of a session.
-ghost use Rattle.std.specs.Prelude.{◌≡◌, ◌+◌, ◌++◌, ◌<◌, ◌≤◌, ◌^◌, [], ◌∷◌, ◌||◌, ◌==◌, pos, vec_capacity, vec_len};
+ghost use Rattle.std.specs.Prelude.{◌≡◌, ◌+◌, ◌++◌, ◌<◌, ◌≤◌, ◌≤ℤ◌, [], ◌∷◌, ◌||◌, ◌==◌, pos, unsigned_abs};
+ghost use Rattle.std.specs.Prelude.{vec_capacity, vec_len};
 ghost use Rattle.vl_io.specs.Change.{change_of};
 ghost use Rattle.vl_io.specs.Moments.{Tells};
 ghost use Rattle.http_in.specs.Reading.{asked_by};
@@ -35,7 +36,7 @@ pub(crate) fn take_turn<L: Log, K: Sink, C: Clock>(
     ensures lent { L.name log.new ≡ L.name log.old }
     ensures faults { K.faults sink.old ≤ K.faults sink.new }
 {
-    let now = moment(clock);
+    let now = clock.now();
     let reply = serve(log, request, turns, now);
     match put_reply(sink, &reply) {
         Err(Failed) => Err(End::SinkFault),
@@ -45,43 +46,26 @@ pub(crate) fn take_turn<L: Log, K: Sink, C: Clock>(
 }
 
 /// Serves one request, and notes it in the list, which has room for it.
-fn serve<L: Log>(log: &mut L, request: &Request, turns: &mut Vec<Done>, now: u64) -> Reply
+fn serve<L: Log>(log: &mut L, request: &Request, turns: &mut Vec<Done>, now: i64) -> Reply
     requires may_ask { L.may_ask log.old }
     requires room { vec_len turns.old < vec_capacity turns.old }
     requires few { vec_len turns.old < turn_limit }
-    requires moment { now < 2 ^ 63 }
+    requires moment { pos 0 ≤ℤ now }
     ensures served { (turn : Turn) × Serves (L.caller log.old) (asked_by request.now) (L.seen log.old) (L.seen log.new)
-        turns.old.items turns.new.items turn × (turn.now ≡ now) × (turn.reply ≡ bytes_of result) }
+        turns.old.items turns.new.items turn × (turn.now ≡ unsigned_abs now) × (turn.reply ≡ bytes_of result) }
     ensures may_ask { L.may_ask log.new }
     ensures same { L.caller log.new ≡ L.caller log.old }
     ensures lent { L.name log.new ≡ L.name log.old }
 {
     let closes = closes_after(turns.len(), request.last);
     let reply = log.serve(request, now, closes);
-    note(turns, done_at(now, log.front(), log.settled()));
+    let done = Done {
+        now,
+        front: log.front(),
+        settled: log.settled(),
+    };
+    note(turns, done);
     reply
-}
-
-/// The clock's moment, which is not negative.
-fn moment<C: Clock>(clock: &mut C) -> u64
-    ensures told { Tells (C.moments clock.old) (C.moments clock.new) (pos result) }
-    ensures small { result < 2 ^ 63 }
-{
-    clock.now().unsigned_abs()
-}
-
-/// What is noted of a turn.
-fn done_at(now: u64, front: u64, settled: u64) -> Done
-    requires { now < 2 ^ 63 }
-    ensures now { result.now ≡ pos now }
-    ensures front { result.front ≡ front }
-    ensures settled { result.settled ≡ settled }
-{
-    Done {
-        now: now as i64,
-        front,
-        settled,
-    }
 }
 
 /// Whether the connection ends behind the reply to a request before which so many were served.

@@ -1,4 +1,4 @@
-use Rattle.std.proofs.Common.{◌≡◌, Ok, ap, sym, subst, ◌∙◌, string_bytes, pos, unsigned_abs, FitsSigned, w64, to_z, of_z, rules, arith}
+use Rattle.std.proofs.Common.{◌≡◌, Ok, ap, sym, subst, ◌∙◌, string_bytes, pos, unsigned_abs, FitsSigned, w64, to_z, of_z, arith}
 use Rattle.std.proofs.lemmas.Int.{to_z-of_z}
 use Rattle.http_route.specs.Route.{wanted_by}
 use Rattle.log_desk.specs.Seen.{caller_of, seen_of}
@@ -7,6 +7,7 @@ use Rattle.vl_session.specs.Answering.{Answered, SaysOutcome}
 use Rattle.vl_session.specs.Incoming.{IsIncoming}
 use Rattle.vl_session.specs.Sent.{bytes_of}
 use Rattle.vl_session.proofs.AnswerLemmas.{insert_answered, query_answered, status_answered}
+use Rattle.vl_session.proofs.QueryLemmas.{same_moment}
 use Rattle.vl_session.proofs.desk_log.reply_to.Goals as goal
 
 pub returns-in-Ok-clause-answered : goal.returns-in-Ok-clause-answered
@@ -17,16 +18,16 @@ returns-in-Ok-clause-answered g c =
     let old = seen_of c.args.pass.now in
     let new = seen_of c.take_in.new.pass in
     let read = c.in-Ok.ensures.read in
-    let fits : FitsSigned w64 (pos c.args.now) = search (rules, c.requires.moment) in
-    let moment : to_z w64 (of_z w64 c.moment_of.result) ≡ pos c.args.now =
-    ap (λ z. to_z w64 (of_z w64 z)) c.moment_of.ensures ∙ to_z-of_z w64 (pos c.args.now) fits in
+    let fits : FitsSigned w64 c.args.now = c.ranges.now in
+    let moment : to_z w64 (of_z w64 c.args.now) ≡ pos (unsigned_abs c.args.now) =
+    to_z-of_z w64 c.args.now fits ∙ same_moment c.args.now c.requires.moment in
     let at_now = subst (λ now. IsIncoming options now c.as_slice-body.result.now read.0 c.in-Ok.incoming) moment read.1 in
-    let is = subst (λ bytes. IsIncoming options (pos c.args.now) bytes read.0 c.in-Ok.incoming) c.as_slice-body.ensures at_now in
+    let is = subst (λ bytes. IsIncoming options (pos (unsigned_abs c.args.now)) bytes read.0 c.in-Ok.incoming) c.as_slice-body.ensures at_now in
     let wanted = c.in-Ok-Insert.ensures.ok ∙ ap (λ want. Ok (wanted_by want)) c.in-Ok-Insert.field-0-is in
     subst
-    (λ wanted. Answered caller wanted body c.args.now old new c.args.delivery (bytes_of c.in_ok-reply-in-Ok.reply))
+    (λ wanted. Answered caller wanted body (unsigned_abs c.args.now) old new c.args.delivery (bytes_of c.in_ok-reply-in-Ok.reply))
     (sym wanted)
-    (insert_answered caller options c.args.now body c.in-Ok.incoming old new c.args.delivery
+    (insert_answered caller options (unsigned_abs c.args.now) body c.in-Ok.incoming old new c.args.delivery
     (bytes_of c.in_ok-reply-in-Ok.reply) read.0 is c.in_ok-reply-in-Ok.ensures.taken)
 
 pub returns-in-Ok-Status-clause-answered : goal.returns-in-Ok-Status-clause-answered
@@ -37,9 +38,9 @@ returns-in-Ok-Status-clause-answered g c =
     let text = string_bytes c.in_ok-text-in-Ok-Status.text in
     let wanted = c.in-Ok-Status.ensures.ok ∙ ap (λ want. Ok (wanted_by want)) c.in-Ok-Status.field-0-is in
     subst
-    (λ wanted. Answered (caller_of c.args.pass.now) wanted body c.args.now (seen_of c.args.pass.now) (seen_of new)
+    (λ wanted. Answered (caller_of c.args.pass.now) wanted body (unsigned_abs c.args.now) (seen_of c.args.pass.now) (seen_of new)
     c.args.delivery text) (sym wanted)
-    (status_answered (caller_of c.args.pass.now) (seen_of c.args.pass.now) (seen_of new) body c.args.now
+    (status_answered (caller_of c.args.pass.now) (seen_of c.args.pass.now) (seen_of new) body (unsigned_abs c.args.now)
     c.args.delivery text c.status-batches.result.0 c.status-batches.result.1 (e.follows, omega (arith, e.turn))
     (e.numbers.0 ∙ sym (length-seen new.seen)) e.numbers.1 c.in_ok-text-in-Ok-Status.ensures)
 
@@ -51,11 +52,10 @@ returns-in-Ok-Query-clause-answered g c =
     let new = seen_of c.query_reply.new.pass in
     let text = c.in-Ok-Query.text.now in
     let reply = bytes_of c.in_ok-reply-in-Ok-Query.reply in
-    let fits : FitsSigned w64 (pos c.args.now) = search (rules, c.requires.moment) in
-    let moment : to_z w64 (of_z w64 c.moment_of-in-Ok-Query.result) ≡ pos c.args.now =
-    ap (λ z. to_z w64 (of_z w64 z)) c.moment_of-in-Ok-Query.ensures ∙ to_z-of_z w64 (pos c.args.now) fits in
+    let fits : FitsSigned w64 c.args.now = c.ranges.now in
+    let moment : to_z w64 (of_z w64 c.args.now) ≡ c.args.now = to_z-of_z w64 c.args.now fits in
     let wanted = c.in-Ok-Query.ensures.ok ∙ ap (λ want. Ok (wanted_by want)) c.in-Ok-Query.field-0-is in
-    subst (λ wanted. Answered caller wanted body c.args.now old new c.args.delivery reply) (sym wanted)
-    (query_answered caller text c.args.now body old new c.args.delivery reply
+    subst (λ wanted. Answered caller wanted body (unsigned_abs c.args.now) old new c.args.delivery reply) (sym wanted)
+    (query_answered caller text (unsigned_abs c.args.now) body old new c.args.delivery reply
     (subst (λ now. SaysOutcome caller text (unsigned_abs now) old new c.args.delivery reply) moment
     c.in_ok-reply-in-Ok-Query.ensures.said))

@@ -1,5 +1,5 @@
 use Rattle.std.proofs.Common.{◌≡◌, ◌+◌, ◌++◌, ◌∷◌, [], List, Option, length, ap, subst, ◌∙◌, arith}
-use Rattle.std.proofs.Common.{length-append, IfSome}
+use Rattle.std.proofs.Common.{length-append, IfSome, unsigned_abs, w64, to_z, of_z}
 use Rattle.log_model.specs.Row.{IsRow, Row, batch_weight}
 use Rattle.vl_session.proofs.SyslogIntake.{rows_more, rows_same}
 use Rattle.vl_session.proofs.SyslogLists.{light_more, read_more}
@@ -9,9 +9,10 @@ use Rattle.vl_session.proofs.syslog_intake.read_chunk.Goals.{in-Some+in_ok-push,
 pub messages-preserved : goal.messages-preserved
 messages-preserved c =
     let i = c.messages.invariant in
+    let moment = unsigned_abs (to_z w64 (of_z w64 c.args.now)) in
     let outcome : Option Row = c.in_ok-row.field-0 in
     let outcomes : List (Option Row) = i.outcomes ++ outcome ∷ [] in
-    let given = read_more c.args.now c.args.start c.messages.end c.args.messages.now i.outcomes c.at.result.now outcome
+    let given = read_more moment c.args.start c.messages.end c.args.messages.now i.outcomes c.at.result.now outcome
     i.given i.end_is c.at.ensures c.in_ok-row.ensures.outcome in
     let count : length outcomes ≡ length i.outcomes + 1 = omega (arith, length-append i.outcomes (outcome ∷ [])) in
     elim c.match-branch-3.branch [

@@ -1,23 +1,27 @@
-use Rattle.std.proofs.Common.{◌≡◌, ◌<◌, [], ◌++◌, drop, length, refl, arith, length-append, subst, ◌∙◌}
+use Rattle.std.proofs.Common.{◌≡◌, ◌<◌, [], ◌++◌, drop, length, refl, arith, length-append, subst, ◌∙◌, unsigned_abs}
+use Rattle.std.proofs.Common.{FitsSigned, w64, to_z, of_z}
+use Rattle.std.proofs.lemmas.Int.{to_z-of_z}
 use Rattle.log_desk.specs.Seen.{caller_of, seen_of}
 use Rattle.vl_session.specs.Seen.{Has}
 use Rattle.vl_session.specs.SyslogSession.{TakesAll, end_effect}
-use Rattle.vl_session.specs.SyslogTaking.{BeginWith, HoldsUp, batch_of}
+use Rattle.vl_session.specs.SyslogTaking.{BeginWith, HoldsUp, batches_from}
 use Rattle.vl_session.proofs.SeenLemmas.{follows_none}
 use Rattle.vl_session.proofs.SyslogIntake.{few_counted, few_rows, takes_first, takes_more, takes_some}
 use Rattle.vl_session.proofs.syslog_intake.take_batches.Goals as goal
 
 pub batches-init : goal.batches-init
-batches-init g c = record {
-  outcomes = [];
-  batches = [];
-  takes = takes_first (caller_of c.args.pass.now) c.args.now c.args.messages.now (seen_of c.args.pass.now)
-      c.args.counts.now;
-  pass = c.requires.pass;
-  caller = refl;
-  at_is = refl;
-  within = omega arith;
-}
+batches-init g c =
+    let moment = unsigned_abs (to_z w64 (of_z w64 c.args.now)) in
+    record {
+      outcomes = [];
+      batches = [];
+      takes = takes_first (caller_of c.args.pass.now) moment c.args.messages.now (seen_of c.args.pass.now)
+          c.args.counts.now;
+      pass = c.requires.pass;
+      caller = refl;
+      at_is = refl;
+      within = omega arith;
+    }
 
 pub overflow_sub-counts-in-batches : goal.overflow_sub-counts-in-batches
 overflow_sub-counts-in-batches g c =
@@ -50,28 +54,32 @@ overflow_add-counts g c =
 pub returns-in-Err-clause-some : goal.returns-in-Err-clause-some
 returns-in-Err-clause-some g c =
     let i = c.batches.invariant in
+    let fits : FitsSigned w64 c.args.now = c.ranges.now in
+    let takes = simp to_z-of_z at i.takes in
     let caller = caller_of c.args.pass.now in
     let below : c.batches.at < length c.args.messages.now = omega (arith, c.batches-test.true, c.len.ensures) in (
       i.outcomes,
       i.batches,
-      takes_some caller c.args.now c.args.messages.now _ _ _ c.args.counts.now c.batches.counts i.outcomes [] i.batches
-          _ i.takes (follows_none caller (seen_of c.batches.pass)) tt tt (omega (arith, i.at_is, below)),
+      takes_some caller (unsigned_abs c.args.now) c.args.messages.now _ _ _ c.args.counts.now c.batches.counts i.outcomes [] i.batches
+          _ takes (follows_none caller (seen_of c.batches.pass)) tt tt (omega (arith, i.at_is, below)),
     )
 
 -- the desk refuses them
 pub returns-in-Err-insert_rows-clause-some : goal.returns-in-Err-insert_rows-clause-some
 returns-in-Err-insert_rows-clause-some g c =
     let i = c.batches.invariant in
+    let fits : FitsSigned w64 c.args.now = c.ranges.now in
+    let takes = simp to_z-of_z at i.takes in
     let caller = caller_of c.args.pass.now in
-    let chunk = c.in-Ok.ensures.chunk in
+    let chunk = simp to_z-of_z at c.in-Ok.ensures.chunk in
     let below : c.batches.at < length c.args.messages.now = omega (arith, c.batches-test.true, c.len.ensures) in (
       i.outcomes,
       i.batches,
-      takes_some caller c.args.now c.args.messages.now _ _ _ c.args.counts.now c.batches.counts i.outcomes
-          chunk.outcomes i.batches _ i.takes
+      takes_some caller (unsigned_abs c.args.now) c.args.messages.now _ _ _ c.args.counts.now c.batches.counts i.outcomes
+          chunk.outcomes i.batches _ takes
           (subst (λ caller. Has caller (seen_of c.batches.pass) (seen_of c.insert_rows.new.pass)
           (end_effect c.in-Err-insert_rows.end)) i.caller c.in-Err-insert_rows.ensures.has)
-          (subst (λ n. BeginWith c.args.now (drop n c.args.messages.now) chunk.outcomes) i.at_is chunk.given)
+          (subst (λ n. BeginWith (unsigned_abs c.args.now) (drop n c.args.messages.now) chunk.outcomes) i.at_is chunk.given)
           (subst (λ rows. HoldsUp rows (seen_of c.insert_rows.new.pass) c.in-Err-insert_rows.end) chunk.rows
           c.in-Err-insert_rows.ensures.refused)
           (omega (arith, i.at_is, below)),
@@ -80,6 +88,7 @@ returns-in-Err-insert_rows-clause-some g c =
 pub batches-preserved : goal.batches-preserved
 batches-preserved g c =
     let i = c.batches.invariant in
+    let moment = unsigned_abs (to_z w64 (of_z w64 c.args.now)) in
     let chunk = c.in-Ok.ensures.chunk in
     let rows = c.in-Ok.chunk.rows.items in
     let count : c.len-accepted.result ≡ length rows = omega (arith, c.len-accepted.ensures, c.in-Ok.chunk.rows.ok.0) in
@@ -87,12 +96,12 @@ batches-preserved g c =
     let taken = c.in-Ok-insert_rows.ensures in
     record {
       outcomes = i.outcomes ++ chunk.outcomes;
-      batches = i.batches ++ batch_of rows;
-      takes = takes_more (caller_of c.args.pass.now) c.args.now c.batches.at c.args.messages.now _ _ _ c.args.counts.now
+      batches = i.batches ++ batches_from rows;
+      takes = takes_more (caller_of c.args.pass.now) moment c.batches.at c.args.messages.now _ _ _ c.args.counts.now
           c.batches.counts _ i.outcomes chunk.outcomes i.batches rows i.takes i.at_is chunk.given chunk.rows
           (omega (arith, c.in-Ok.ensures.few, c.in-Ok.chunk.rows.ok.0)) below
           (λ less. omega (arith, c.in-Ok.ensures.full (omega (arith, less, chunk.end_is)), c.in-Ok.chunk.rows.ok.0))
-          (subst (λ caller. TakesAll caller (seen_of c.batches.pass) (batch_of rows) (seen_of c.insert_rows.new.pass))
+          (subst (λ caller. TakesAll caller (seen_of c.batches.pass) (batches_from rows) (seen_of c.insert_rows.new.pass))
           i.caller taken.ok) (omega (arith, count)) (omega (arith, count, chunk.end_is));
       pass = taken.pass;
       caller = taken.caller ∙ i.caller;

@@ -1,4 +1,4 @@
-use Rattle.std.proofs.Common.{◌≡◌, ◌-◌, ◌≤◌, List, length, Option}
+use Rattle.std.proofs.Common.{◌≡◌, ◌-◌, ◌≤◌, List, length, unsigned_abs, Option}
 use Rattle.log_model.specs.Row.{Batch, Row}
 use Rattle.turn_lock.specs.Passes.{IsPassOf}
 use Rattle.log_desk.specs.Seen.{caller_of, seen_of}
@@ -9,7 +9,7 @@ abbrev pub invariant-batches : goal.invariant-batches
 invariant-batches g l = record {
   outcomes : List (Option Row);
   batches : List Batch;
-  takes : TakesUp (caller_of l.initial.pass) l.now l.messages (seen_of l.initial.pass) (seen_of l.pass)
+  takes : TakesUp (caller_of l.initial.pass) (unsigned_abs l.now) l.messages (seen_of l.initial.pass) (seen_of l.pass)
       l.initial.counts l.counts outcomes batches;
   pass : IsPassOf l.access.desk.now l.pass;
   caller : caller_of l.pass ≡ caller_of l.initial.pass;

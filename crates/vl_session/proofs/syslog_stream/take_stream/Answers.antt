@@ -1,6 +1,6 @@
 use Rattle.std.proofs.Common.{◌∙◌, arith, refl, subst}
 use Rattle.log_desk.specs.Seen.{caller_of, seen_of}
-use Rattle.vl_session.specs.SyslogSession.{bytes_of}
+use Rattle.vl_session.specs.SyslogSession.{bytes_read}
 use Rattle.vl_session.specs.SyslogTaking.{TakesSome, TakesUp}
 use Rattle.vl_session.proofs.SyslogStory.{ends_at_once, ends_behind, few_come, going_first, going_more, stops_in}
 use Rattle.vl_session.proofs.syslog_stream.take_stream.Goals as goal
@@ -28,7 +28,7 @@ take_in-requires-clause-room g c =
     let story = i.going in
     few_come _ _ _ _ _ _ _ _ _ c.advance-ended.new.self.framer _ c.advance-ended.new.self.taken _
     c.advance-ended.result story i.within
-    (c.advance-ended.ensures.comes (bytes_of story.reads) story.holds story.counted)
+    (c.advance-ended.ensures.comes (bytes_read story.reads) story.holds story.counted)
 
 pub returns-in-Err-take_in-clause-session : goal.returns-in-Err-take_in-clause-session
 returns-in-Err-take_in-clause-session g c =
@@ -42,7 +42,7 @@ returns-in-Err-take_in-clause-session g c =
     _ _ (g.S.Source.faults c.advance-ended.new.src) _ _ _ _ _ s.0 s.1 s.2 story s.3 some.takes
     c.advance-ended.new.self.framer c.advance-ended.new.self.taken c.advance-ended.result c.in-Err-take_in.end
     (seen_of c.take_in.new.pass) i.within
-    (c.advance-ended.ensures.comes (bytes_of story.reads) story.holds story.counted) some.has some.stops some.fewer
+    (c.advance-ended.ensures.comes (bytes_read story.reads) story.holds story.counted) some.has some.stops some.fewer
 
 pub returns-in-Some-clause-session : goal.returns-in-Some-clause-session
 returns-in-Some-clause-session g c =
@@ -55,7 +55,7 @@ returns-in-Some-clause-session g c =
     ends_behind _ _ _ _ _ _ (g.S.Source.left c.advance-ended.new.src) _ _
     (g.C.Clock.moments c.take_in.new.clock) _ _ (g.S.Source.faults c.advance-ended.new.src) _ _ _ _ _ s.0 s.1 s.2
     story s.3 takes c.advance-ended.new.self.framer c.advance-ended.new.self.taken c.in-Some.end i.stays i.within
-    (c.in-Some.ensures.comes (bytes_of story.reads) story.holds story.counted) s.5
+    (c.in-Some.ensures.comes (bytes_read story.reads) story.holds story.counted) s.5
 
 pub reads-preserved : goal.reads-preserved
 reads-preserved g c =
@@ -65,7 +65,7 @@ reads-preserved g c =
     let takes = subst
     (λ caller. TakesUp caller s.0 c.advance-ended.new.self.messages (seen_of c.reads.pass)
     (seen_of c.take_in.new.pass) c.reads.counts c.take_in.new.counts s.1 s.2) i.caller s.4 in
-    let comes = c.in-None.ensures.comes (bytes_of story.reads) story.holds story.counted in
+    let comes = c.in-None.ensures.comes (bytes_read story.reads) story.holds story.counted in
     record {
       going = going_more _ _ _ _ _ _ _ _ _ (g.C.Clock.moments c.take_in.new.clock) _ _ _ _ _ _ _ _ _ _ s.0 s.1 s.2
           story comes s.3 takes s.5;
