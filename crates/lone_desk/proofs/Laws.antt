@@ -1,5 +1,5 @@
 -- What a caller that is alone sees of the history.
-use Rattle.std.proofs.Common.{◌≡◌, ◌<◌, List, [], ◌∷◌, ◌++◌, append-nil, ap, ◌∙◌, arith}
+use Rattle.std.proofs.Common.{◌≡◌, List, [], ◌∷◌, ◌++◌, append-nil, ap, ◌∙◌, arith}
 use Rattle.std.proofs.lemmas.List.{map-append}
 use Rattle.log_model.specs.History.{History, batches_in, entry_rows}
 use Rattle.log_model.specs.Row.{Batch, Row}

@@ -3,7 +3,7 @@ use Rattle.std.specs.Prelude.{◌≡◌, ℕ, List, [], ◌∷◌}
 use Rattle.log_model.specs.Row.{Batch}
 use Rattle.ingest_row.specs.Ingest.{Options}
 use Rattle.log_desk.specs.Seen.{Caller, Follows, Gains, Seen}
-use Rattle.vl_session.specs.Insertion.{Inserts, RefusesLines}
+use Rattle.vl_session.specs.Insertion.{IsInsertion, RefusesLines}
 use Rattle.vl_session.specs.declared.insert.Insertion.{Insertion}
 use Rattle.vl_session.specs.declared.insert.InsertionFault.{InsertionFault}
 
@@ -24,7 +24,7 @@ FollowsAlone old new = (caller : Caller) × IsAlone caller × Follows caller old
 -- such a caller had lines taken in
 abbrev pub InsertsAlone : Options → ℕ → List ℕ → Seen → Seen → Insertion → Type 0
 InsertsAlone options now body old new insertion =
-    (caller : Caller) × IsAlone caller × Inserts caller options now body old new insertion
+    (caller : Caller) × IsAlone caller × IsInsertion caller options now body old new insertion
 
 -- it had none taken in, for this reason
 abbrev pub RefusesAlone : Options → ℕ → List ℕ → Seen → Seen → InsertionFault → Type 0

@@ -1,7 +1,10 @@
 //! The desk and its calls.
-ghost use Rattle.std.specs.Prelude.{◌≡◌, ◌≤ℤ◌, [], IfErr, IfOk, OnErr, OnOk, length, pos, unsigned_abs};
+ghost use Rattle.std.specs.Prelude.{◌≡◌, ◌≤ℤ◌, [], IfErr, IfOk, List, OnErr, OnOk, Some, length, pos, unsigned_abs};
+ghost use Rattle.ingest_row.specs.Intake.{Outcome};
 ghost use Rattle.query_run.specs.Asked.{IsReadableQuery};
 ghost use Rattle.vl_session.specs.Answer.{FailsQuery, HasRecords, IsOfEvaluation, IsQueryAnswer};
+ghost use Rattle.vl_session.specs.Insert.{CanBeBatch};
+ghost use Rattle.vl_session.specs.Seen.{HasRoom};
 ghost use Rattle.log_desk.specs.Faults.{Refuses};
 ghost use Rattle.lone_desk.specs.Alone.{FollowsAlone, GainsAlone, InsertsAlone, RefusesAlone};
 
@@ -73,6 +76,12 @@ impl<'d, R: Wait> LoneDesk<'d, R> {
         requires moment { pos 0 ≤ℤ now }
         ensures inserted { IfOk result (InsertsAlone options.now (unsigned_abs now) body.now self.old self.new) }
         ensures refused { IfErr result (RefusesAlone options.now (unsigned_abs now) body.now self.old self.new) }
+
+        // Lines with rows that can be a batch are taken in as one, where there is room for it, unless memory runs out.
+        ensures batch { (outcomes : List Outcome) → CanBeBatch options.now (unsigned_abs now) body.now outcomes
+            → IfOk result (λ insertion. insertion.batch ≡ Some (length self.new.history)) }
+        ensures complete { (outcomes : List Outcome) → CanBeBatch options.now (unsigned_abs now) body.now outcomes
+            → HasRoom self.old → IfErr result (λ fault. fault ≡ InsertionFault.Memory) }
     {
         insert_lines(
             self.rt,

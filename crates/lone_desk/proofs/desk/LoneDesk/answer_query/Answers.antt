@@ -1,6 +1,5 @@
 use Rattle.std.proofs.Common.{◌≡◌, sym, subst, unsigned_abs, FitsSigned, w64}
 use Rattle.std.specs.Prelude.{IfErr, IfOk}
-use Rattle.vl_session.specs.declared.answer.AnswerFault.TheVariants.{Memory}
 use Rattle.std.proofs.lemmas.Int.{to_z-of_z}
 use Rattle.log_desk.specs.Seen.{Seen, caller_of, seen_of}
 use Rattle.vl_session.specs.Answer.{FailsQuery, HasRecords, IsQueryAnswer}
