@@ -33,8 +33,8 @@ IsMadeFault made (RegexRefused nth) = ⊥
 IsMadeFault made (Overflow name) = made ≡ Err name
 IsMadeFault made Memory = Unit {0}
 
--- The first pattern is refused that cannot be read. All can be read where a total overflows: the first one of these pipes
--- over these records.
+-- The first pattern is refused that cannot be read. All can be read where a total overflows: the first one of these
+-- pipes over these records.
 abbrev pub IsPipeFault : List Stage → List Record → PipeFault → Type 0
 IsPipeFault stages records (RegexRefused nth) = IsRefused (flat_map patterns_of_stage stages) (RegexRefused nth)
 IsPipeFault stages records (Overflow name) =

@@ -6,8 +6,8 @@ use vl_row::Text;
 /// Why pipes give no records.
 #[derive(Drop)]
 pub enum PipeFault {
-    /// The regular expression with this number, counted from 0 in the order of the pipes' text, is the first that cannot
-    /// be read.
+    /// The regular expression with this number, counted from 0 in the order of the pipes' text, is the first that
+    /// cannot be read.
     RegexRefused { nth: u32 },
     /// The total of the function of `stats` with this name is no 64-bit integer.
     Overflow { name: Text },

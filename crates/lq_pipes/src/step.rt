@@ -37,8 +37,8 @@ pub(crate) enum Step<'p> {
 }
 
 impl<'p> Step<'p> {
-    /// Reads the regular expressions of a pipe, of which the first has the number `nth`, and raises it by how many there
-    /// are.
+    /// Reads the regular expressions of a pipe, of which the first has the number `nth`, and raises it by how many
+    /// there are.
     pub(crate) fn of(alloc: Global, pipe: &'p Pipe, nth: &mut u32) -> Result<Step<'p>, PrepareFault>
         ensures same { IfOk result (λ step. stage_of step ≡ stage pipe.entry.now) }
         ensures fresh { IfOk result IsFresh }
