@@ -2,14 +2,25 @@
 //! ones, which tests compare with them.
 #![tactic(auto)]
 
+mod fault;
+mod filter;
+mod forms;
 mod insertion;
+mod pattern;
+mod selector;
+mod sequence;
 mod sort_pipe;
+mod subject;
 mod top_pipe;
 mod tuple;
 mod tuple_records;
 mod tuples;
 mod uniq_pipe;
+mod value;
+mod words;
 
+pub use fault::PlainFault;
+pub use filter::{holds, record_holds};
 pub use sort_pipe::sort;
 pub use top_pipe::top;
 pub use uniq_pipe::uniq;

@@ -1,0 +1,83 @@
+//! What a filter is asked of.
+ghost use Rattle.std.specs.Prelude.{◌≡◌, ◌-ℤ◌, ◌&&◌, pos, int_le, int_lt, false, IfOk};
+ghost use Rattle.std.specs.Option.{option_map_or};
+ghost use Rattle.log_model.specs.Row.{value_of};
+ghost use Rattle.lq_ast.specs.Holds.{is_recent, is_within};
+ghost use Rattle.lq_plain.specs.Subject.{subject_of};
+
+use std::alloc::{AllocError, Global};
+use stream_label::{label_text, stream_id};
+use time_text::plain::write_moment;
+use vl_row::{FieldList, Row, Text};
+
+/// A row, at the moment `now`, in nanoseconds since 1970; or a record, which is of no moment and of no stream.
+#[derive(Clone, Copy)]
+pub(crate) enum Subject<'s> {
+    Row { now: i64, row: &'s Row },
+    Record(&'s FieldList),
+}
+
+impl Subject<'_> {
+    /// The value of the field of this name.
+    pub(crate) fn value(&self, alloc: Global, name: &Text) -> Result<Text, AllocError>
+        ensures { IfOk result (λ value. value ≡ (subject_of self.now).value name.now) }
+    {
+        match self {
+            Subject::Row { row, .. } => row_value(alloc, row, name.as_str()),
+            Subject::Record(fields) => Text::try_of(alloc, fields.get(name.as_str())),
+        }
+    }
+
+    /// Whether it is of the last `span` nanoseconds, and not of the future.
+    pub(crate) fn is_recent(&self, span: i64) -> bool
+        ensures { result ≡ option_map_or (is_recent (subject_of self.now).now span) (subject_of self.now).moment false }
+    {
+        match self {
+            Subject::Row { now, row } => is_recent(*now, span, row),
+            Subject::Record(_) => false,
+        }
+    }
+
+    /// Whether its moment is between the ends, both included.
+    pub(crate) fn is_during(&self, from: i128, to: i128) -> bool
+        ensures { result ≡ option_map_or (is_within from to) (subject_of self.now).moment false }
+    {
+        match self {
+            Subject::Row { row, .. } => is_during(from, to, row),
+            Subject::Record(_) => false,
+        }
+    }
+}
+
+fn row_value(alloc: Global, row: &Row, name: &str) -> Result<Text, AllocError>
+    ensures { IfOk result (λ value. value ≡ value_of row.now name.now) }
+{
+    let mut text = Text::new();
+    if name == "_time" {
+        write_moment(alloc, row.time(), &mut text)?;
+        return Ok(text);
+    }
+    if name == "_stream" {
+        label_text(alloc, row.stream(), &mut text)?;
+        return Ok(text);
+    }
+    if name == "_stream_id" {
+        stream_id(alloc, row.stream(), &mut text)?;
+        return Ok(text);
+    }
+    Text::try_of(alloc, row.value(name))
+}
+
+fn is_recent(now: i64, span: i64, row: &Row) -> bool
+    ensures { result ≡ (int_lt (now -ℤ span) (pos row.now.moment) && int_le (pos row.now.moment) now) }
+{
+    let time = row.time();
+    now as i128 - (span as i128) < time as i128 && time <= now
+}
+
+fn is_during(from: i128, to: i128, row: &Row) -> bool
+    ensures { result ≡ is_within from to (pos row.now.moment) }
+{
+    let time = row.time() as i128;
+    from <= time && time <= to
+}

@@ -1,0 +1,150 @@
+//! Made-up records and pipes.
+ghost use Rattle.std.specs.Prelude.{◌<◌};
+
+use lq_ast::{SortKey, SortPipe, TopPipe, UniqPipe};
+use std::alloc::{AllocError, Global};
+use vl_row::{FieldList, Items, Text};
+
+/// The names of the fields that records have.
+const NAMES: &[&str] = &["_msg", "app", "level", "ms"];
+
+/// The names of the fields that pipes ask for: also one that no record has, and one that no field can have.
+const ASKED: &[&str] = &["_msg", "app", "level", "ms", "none", ""];
+
+/// The values of fields: numbers and moments of all kinds, texts that are close to such, words, and no value.
+pub(crate) const VALUES: &[&str] = &[
+    "",
+    "0",
+    "-0",
+    "7",
+    "07",
+    "10",
+    "-3",
+    "9223372036854775807",
+    "9223372036854775808",
+    "-9223372036854775808",
+    "-9223372036854775809",
+    "18446744073709551615",
+    "1.5",
+    "2024-02-29T23:59:59Z",
+    "2024-02-29T23:59:59.5Z",
+    "2024-02-29T23:59:59.50Z",
+    "2024-03-01T00:00:00Z",
+    "a",
+    "ab",
+    "Ab",
+    "1:a",
+    "error",
+    "an error, then more",
+    "höhe",
+];
+
+/// Few values, so that many records have a tuple together, and many tuples equally many records.
+pub(crate) const FEW: &[&str] = &["", "0", "-0", "a"];
+
+/// Draws numbers by a linear congruence.
+#[derive(Drop)]
+pub(crate) struct Draws {
+    state: u64,
+}
+
+impl Draws {
+    pub(crate) fn new(seed: u64) -> Draws {
+        Draws { state: seed }
+    }
+
+    /// A number below this one.
+    pub(crate) fn below(&mut self, limit: u64) -> u64
+        requires { 0 < limit }
+        ensures { result < limit }
+    {
+        self.state = self
+            .state
+            .wrapping_mul(6_364_136_223_846_793_005)
+            .wrapping_add(1_442_695_040_888_963_407);
+        (self.state >> 33) % limit
+    }
+
+    /// One of some texts.
+    fn one_of(&mut self, texts: &[&'static str]) -> &'static str {
+        if texts.is_empty() {
+            return "";
+        }
+        let place = self.below(texts.len() as u64);
+        texts[place as usize]
+    }
+
+    /// So many records with these values. Each lacks some fields.
+    pub(crate) fn records(
+        &mut self,
+        alloc: Global,
+        values: &[&'static str],
+        count: u64,
+    ) -> Result<Vec<FieldList>, AllocError> {
+        let mut records = Vec::new(alloc);
+        for _ in 0..count {
+            records.push(self.record(alloc, values)?)?;
+        }
+        Ok(records)
+    }
+
+    fn record(&mut self, alloc: Global, values: &[&'static str]) -> Result<FieldList, AllocError> {
+        let mut fields = FieldList::new(alloc);
+        for name in NAMES {
+            if name.len() > 0 && self.below(4) > 0 {
+                fields.set(alloc, name, self.one_of(values))?;
+            }
+        }
+        Ok(fields)
+    }
+
+    pub(crate) fn sort_pipe(&mut self, alloc: Global) -> Result<SortPipe, AllocError> {
+        let mut keys = Vec::new(alloc);
+        for _ in 0..self.below(4) {
+            keys.push(self.sort_key(alloc)?)?;
+        }
+        Ok(SortPipe {
+            keys: Items::of(keys),
+            limit: self.limit(),
+            offset: self.below(20),
+        })
+    }
+
+    fn sort_key(&mut self, alloc: Global) -> Result<SortKey, AllocError> {
+        let name = Text::try_of(alloc, self.one_of(ASKED))?;
+        let desc = self.below(2) == 1;
+        Ok(SortKey { name, desc })
+    }
+
+    pub(crate) fn uniq_pipe(&mut self, alloc: Global) -> Result<UniqPipe, AllocError> {
+        Ok(UniqPipe {
+            names: self.names(alloc)?,
+            hits: self.below(2) == 1,
+            limit: self.limit(),
+        })
+    }
+
+    pub(crate) fn top_pipe(&mut self, alloc: Global) -> Result<TopPipe, AllocError> {
+        Ok(TopPipe {
+            names: self.names(alloc)?,
+            n: self.below(40),
+        })
+    }
+
+    /// Up to three names.
+    fn names(&mut self, alloc: Global) -> Result<Items<Text>, AllocError> {
+        let mut names = Vec::new(alloc);
+        for _ in 0..self.below(4) {
+            names.push(Text::try_of(alloc, self.one_of(ASKED))?)?;
+        }
+        Ok(Items::of(names))
+    }
+
+    fn limit(&mut self) -> Option<u64> {
+        if self.below(2) == 1 {
+            Some(self.below(100))
+        } else {
+            None
+        }
+    }
+}

@@ -1,0 +1,9 @@
+//! Tests that run the plain programs of `lq_plain` and the shipped ones over the same made-up records.
+#![tactic(auto)]
+
+#[cfg(test)]
+mod drawn;
+#[cfg(test)]
+mod pipe_tests;
+#[cfg(test)]
+mod same;
