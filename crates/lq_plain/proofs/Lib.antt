@@ -1,5 +1,8 @@
 pub mod Conditions
 pub mod Inserting
 pub mod Naming
+pub mod Outcomes
 pub mod Phrases
 pub mod Reading
+pub mod Moments
+pub mod Totals

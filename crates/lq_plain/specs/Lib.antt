@@ -1,3 +1,5 @@
 pub mod Named
 pub mod Order
+pub mod Outcome
 pub mod Subject
+pub mod Total

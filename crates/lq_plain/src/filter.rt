@@ -6,9 +6,8 @@ ghost use Rattle.lq_ast.specs.View.{condition, groups_of};
 ghost use Rattle.lq_plain.specs.Subject.{subject_of};
 
 use crate::fault::PlainFault;
-use crate::forms;
-use crate::selector;
 use crate::subject::Subject;
+use crate::{forms, selector};
 use lq_ast::{Filter, Select};
 use std::alloc::Global;
 use vl_row::{FieldList, Row, Stream};
@@ -21,11 +20,7 @@ pub fn holds(alloc: Global, now: i64, filter: &Filter, row: &Row) -> Result<bool
 }
 
 /// Whether the filter holds for the record, which is of no moment and of no stream.
-pub fn record_holds(
-    alloc: Global,
-    filter: &Filter,
-    fields: &FieldList,
-) -> Result<bool, PlainFault>
+pub fn record_holds(alloc: Global, filter: &Filter, fields: &FieldList) -> Result<bool, PlainFault>
     ensures { IfOk result (λ found. found ≡ record_holds (condition filter.now) fields.now) }
 {
     is_met(alloc, filter, &Subject::Record(fields))
@@ -60,11 +55,7 @@ fn is_met(alloc: Global, filter: &Filter, asked: &Subject<'_>) -> Result<bool, P
 }
 
 #[cycle(holding)]
-fn are_all_met(
-    alloc: Global,
-    filters: &[Filter],
-    asked: &Subject<'_>,
-) -> Result<bool, PlainFault>
+fn are_all_met(alloc: Global, filters: &[Filter], asked: &Subject<'_>) -> Result<bool, PlainFault>
     ensures { IfOk result
         (λ met. met ≡ are_all_met (conditions (map condition filters.now)) (subject_of asked.now)) }
 {
@@ -77,11 +68,7 @@ fn are_all_met(
 }
 
 #[cycle(holding)]
-fn is_some_met(
-    alloc: Global,
-    filters: &[Filter],
-    asked: &Subject<'_>,
-) -> Result<bool, PlainFault>
+fn is_some_met(alloc: Global, filters: &[Filter], asked: &Subject<'_>) -> Result<bool, PlainFault>
     ensures { IfOk result
         (λ met. met ≡ is_some_met (conditions (map condition filters.now)) (subject_of asked.now)) }
 {

@@ -6,8 +6,8 @@ ghost use Rattle.lq_plain.specs.Subject.{subject_of};
 
 use crate::fault::PlainFault;
 use crate::pattern::is_found;
-use crate::subject::Subject;
 use crate::sequence::are_in_order;
+use crate::subject::Subject;
 use crate::value;
 use std::alloc::{AllocError, Global};
 use vl_row::Text;
@@ -71,7 +71,12 @@ pub(crate) fn exact_prefix(
     ensures { IfOk result (λ met. met ≡ is_met (is.exact_prefix field.now text.now) (subject_of asked.now)) }
 {
     let value = asked.value(alloc, field)?;
-    Ok(value.as_str().as_bytes().starts_with(text.as_str().as_bytes()))
+    Ok(
+        value
+            .as_str()
+            .as_bytes()
+            .starts_with(text.as_str().as_bytes()),
+    )
 }
 
 pub(crate) fn one_of(

@@ -24,8 +24,10 @@ fn some_selects(alloc: Global, groups: &[Group], stream: &Stream) -> Result<bool
     match groups {
         [] => Ok(false),
         [group, others @ ..] => {
-            Ok(all_pass(alloc, group.labels.as_slice(), stream)?
-                || some_selects(alloc, others, stream)?)
+            Ok(
+                all_pass(alloc, group.labels.as_slice(), stream)?
+                    || some_selects(alloc, others, stream)?,
+            )
         }
     }
 }

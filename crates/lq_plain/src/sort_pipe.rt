@@ -43,7 +43,7 @@ fn compare_by(key: &SortKey, a: &FieldList, b: &FieldList) -> Ordering
 }
 
 /// Copies of the records.
-fn copies(alloc: Global, records: &[FieldList]) -> Result<Vec<FieldList>, AllocError>
+pub(crate) fn copies(alloc: Global, records: &[FieldList]) -> Result<Vec<FieldList>, AllocError>
     ensures { IfOk result (λ copies. copies.items ≡ records.now) }
 {
     let mut copies = Vec::new(alloc);
