@@ -2,8 +2,8 @@
 #![tactic(auto)]
 
 #[cfg(test)]
-mod drawn;
+mod drawn_tests;
 #[cfg(test)]
 mod pipe_tests;
 #[cfg(test)]
-mod same;
+mod same_tests;

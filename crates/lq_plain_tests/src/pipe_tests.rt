@@ -1,6 +1,6 @@
 //! `sort`, `uniq` and `top`.
-use crate::drawn::{Draws, FEW, VALUES};
-use crate::same::{are_same, copies};
+use crate::drawn_tests::{Draws, FEW, VALUES};
+use crate::same_tests::{are_same, copies};
 use lq_ast::{SortPipe, TopPipe, UniqPipe};
 use lq_order::{sort_recs, top_recs, uniq_recs};
 use std::alloc::{AllocError, Global};
