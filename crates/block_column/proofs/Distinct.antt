@@ -71,7 +71,8 @@ all-keep : (p : List ℕ → Bool) (texts keys : List (List ℕ)) → list_any p
 all-keep p [] keys e = e
 all-keep p (t ∷ ts) keys e = all-keep p ts (with_key keys t) (put-keeps p t keys e)
 
-all-there : (texts keys : List (List ℕ))
+-- each text is there after all were put
+pub all-there : (texts keys : List (List ℕ))
     → AllByRecursion (λ text. list_any (bytes_eq text) (fold (insert_key bytes_cmp) keys texts) ≡ true) texts
 all-there [] keys = tt
 all-there (t ∷ ts) keys = (all-keep (bytes_eq t) ts (with_key keys t) (put-has t keys), all-there ts (with_key keys t))
@@ -186,6 +187,24 @@ pub search-fails : (keys : List (List ℕ)) (text : List ℕ) (i : ℕ) → leng
     → list_any (bytes_eq text) (drop i keys) ≡ true → ⊥
 search-fails keys text i le e =
     let none : list_any (bytes_eq text) [] ≡ true = ap (list_any (bytes_eq text)) (sym (drop_all i keys le)) ∙ e in cc
+
+-- what is put by one text more
+pub put-one-more : {X : Type 0} (f : X → List ℕ) (keys : List (List ℕ)) (xs : List X) (i : ℕ) (d : X) → i < length xs
+    → fold (insert_key bytes_cmp) keys (map f (take (i + 1) xs))
+    ≡ insert_key bytes_cmp (fold (insert_key bytes_cmp) keys (map f (take i xs))) (f (get_or xs i d))
+put-one-more f keys xs i d lt =
+    ap (fold (insert_key bytes_cmp) keys) (map_more f xs i d lt)
+    ∙ fold_push (insert_key bytes_cmp) keys (map f (take i xs)) (f (get_or xs i d))
+
+pub put-no-fewer : {X : Type 0} (f : X → List ℕ) (keys : List (List ℕ)) (xs : List X) (i : ℕ)
+    → length (fold (insert_key bytes_cmp) keys (map f (take i xs)))
+    ≤ length (fold (insert_key bytes_cmp) keys (map f xs))
+put-no-fewer f keys xs i =
+    let parts : map f xs ≡ map f (take i xs) ++ map f (drop i xs) = ap (map f) (sym (take-append-drop i xs))
+    ∙ map-append f (take i xs) (drop i xs) in
+    rw (ap (fold (insert_key bytes_cmp) keys) parts ∙ fold-append (insert_key bytes_cmp) keys (map f (take i xs))
+    (map f (drop i xs)))
+    (fold-longer (map f (drop i xs)) (fold (insert_key bytes_cmp) keys (map f (take i xs))))
 
 -- what comes among the distinct ones by one text more
 pub distinct-more : {X : Type 0} (f : X → List ℕ) (xs : List X) (i : ℕ) (d : X) → i < length xs

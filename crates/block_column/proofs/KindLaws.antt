@@ -85,6 +85,10 @@ is-plain ts e f g = rw (e, f, g) refl
 
 -- ---- how each kind holds them
 
+filled-constant : (ts : List (List ℕ)) → is_constant ts ≡ true → 0 < length ts
+filled-constant [] e = absurd cc
+filled-constant (t ∷ ts) e = omega arith
+
 pub first-constant : (ts : List (List ℕ)) (t : List ℕ) (n : ℕ) → is_constant ts ≡ true → first_of ts ≡ t
     → n ≡ length ts → sum_by length ts < 2 ^ 32
     → (texts_of (cells.Constant t n) ≡ ts) × IsFirst (cells.Constant t n)
@@ -96,6 +100,7 @@ first-constant ts t n e f k small =
       record {
         codes = tt;
         narrow = omega (arith, ap length f, first-small ts, small);
+        each = omega (arith, k, filled-constant ts e);
         kind = sym (ap kind_of texts ∙ is-constant ts e);
         body = sym (ap (λ (l : List (List ℕ)). body_of (kind_of l) l) texts
             ∙ ap (λ (kind : Kind). body_of kind ts) (is-constant ts e) ∙ ap (text_bytes w32) f);
@@ -112,6 +117,7 @@ first-integers ts ints e f k =
       record {
         codes = tt;
         narrow = tt;
+        each = tt;
         kind = sym (ap kind_of texts ∙ is-integers ts e f);
         body = sym (ap (λ (l : List (List ℕ)). body_of (kind_of l) l) texts
             ∙ ap (λ (kind : Kind). body_of kind ts) (is-integers ts e f) ∙ ap int_spelling (sym k));
@@ -125,6 +131,7 @@ first-plain ts e f g =
     record {
       codes = tt;
       narrow = tt;
+      each = tt;
       kind = sym (is-plain ts e f g);
       body = sym (ap (λ (kind : Kind). body_of kind ts) (is-plain ts e f g));
     }
@@ -135,6 +142,7 @@ pub record IsDictionary (ts held : List (List ℕ)) (codes : List ℕ) : Type 0 
   pub below : list_all (λ code. ltb code (length held)) codes ≡ true
   pub few : length held ≤ 255
   pub short : list_all is_short held ≡ true
+  pub each : held ≡ distinct (map (text_at held) codes)
   pub kind : dictionary ≡ kind_of (map (text_at held) codes)
   pub body : dictionary_bytes held codes ≡ body_of (kind_of (map (text_at held) codes)) (map (text_at held) codes)
 
@@ -149,6 +157,7 @@ dictionary-is ts e f g =
       below = codes-stand-below ts;
       few = leb-true (length (distinct ts)) 255 parts.0;
       short = distinct-pass is_short ts parts.1;
+      each = ap distinct (sym texts);
       kind = sym (ap kind_of texts ∙ is-dictionary ts e f g);
       body = sym (ap (λ (l : List (List ℕ)). body_of (kind_of l) l) texts
           ∙ ap (λ (kind : Kind). body_of kind ts) (is-dictionary ts e f g));

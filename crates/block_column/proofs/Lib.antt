@@ -4,3 +4,5 @@ pub mod BodyLaws
 pub mod Again
 pub mod Whole
 pub mod Rising
+pub mod Same
+pub mod Slots

@@ -10,6 +10,7 @@ use Rattle.std.specs.declared.cmp.Ordering.TheVariants.{Less, Equal, Greater}
 use Rattle.std.proofs.lemmas.Cmp.{nat_list_cmp_total}
 use Rattle.std.proofs.lemmas.Map.Text.{is_eq-slice_cmp}
 use Rattle.block_column.specs.Kinds.{distinct}
+use Rattle.block_column.proofs.Distinct.{all-there}
 use Rattle.log_model.specs.Field.{bytes_cmp}
 
 -- behind the text, in byte order
@@ -47,7 +48,7 @@ rising-put key (k ∷ ks) s = by (bytes_cmp key k) refl (rising-put key ks s.1)
         let back : bytes_cmp k key ≡ Less = nat_list_cmp_total.antisymm k key ∙ ap ordering_reverse e in
         (above-put k key ks s.0 back, later)
 
-rising-all : (texts keys : List (List ℕ)) → IsRising keys → IsRising (fold (insert_key bytes_cmp) keys texts)
+pub rising-all : (texts keys : List (List ℕ)) → IsRising keys → IsRising (fold (insert_key bytes_cmp) keys texts)
 rising-all [] keys s = s
 rising-all (t ∷ ts) keys s = rising-all ts (insert_key bytes_cmp keys t) (rising-put t keys s)
 
@@ -56,7 +57,7 @@ unfolding IsStrictlySortedBy
 distinct-rising texts = rising-all texts [] tt
 
 -- one that stands behind all is none of them
-not-behind : (key : List ℕ) (texts : List (List ℕ)) → Above key texts → list_any (bytes_eq key) texts ≡ false
+pub not-behind : (key : List ℕ) (texts : List (List ℕ)) → Above key texts → list_any (bytes_eq key) texts ≡ false
 not-behind key [] a = refl
 not-behind key (t ∷ ts) a =
     let other : bytes_eq key t ≡ false = sym (is_eq-slice_cmp key t) ∙ ap is_eq a.0 in
@@ -83,3 +84,17 @@ put-again key (k ∷ ks) s e = by (bytes_cmp key k) refl (put-again key ks s.1)
     by Greater c later =
         let other : bytes_eq key k ≡ false = sym (is_eq-slice_cmp key k) ∙ ap is_eq c in
         ap (λ (l : List (List ℕ)). k ∷ l) (later (neither (bytes_eq key k) (list_any (bytes_eq key) ks) e other))
+
+-- those that are there change nothing when they are put once more
+pub all-again : (texts keys : List (List ℕ)) → IsRising keys
+    → AllByRecursion (λ text. list_any (bytes_eq text) keys ≡ true) texts → fold (insert_key bytes_cmp) keys texts ≡ keys
+all-again [] keys s h = refl
+all-again (t ∷ ts) keys s h =
+    ap (λ (l : List (List ℕ)). fold (insert_key bytes_cmp) l ts) (put-again t keys s h.0) ∙ all-again ts keys s h.1
+
+-- texts that were put change nothing when they are put once more
+pub put-twice : (texts keys : List (List ℕ)) → IsRising keys
+    → fold (insert_key bytes_cmp) (fold (insert_key bytes_cmp) keys texts) texts
+    ≡ fold (insert_key bytes_cmp) keys texts
+put-twice texts keys s =
+    all-again texts (fold (insert_key bytes_cmp) keys texts) (rising-all texts keys s) (all-there texts keys)

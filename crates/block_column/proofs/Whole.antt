@@ -1,5 +1,5 @@
 -- The texts of all values.
-use Rattle.std.proofs.Common.{◌≡◌, ℕ, ◌+◌, ◌<◌, ◌≤◌, ◌^◌, true, false, ltb, List, [], ◌∷◌, ◌++◌, length, get_or, take}
+use Rattle.std.proofs.Common.{◌≡◌, ℕ, ℤ, ◌+◌, ◌<◌, ◌≤◌, ◌^◌, true, false, ltb, List, [], ◌∷◌, ◌++◌, length, get_or, take}
 use Rattle.std.proofs.Common.{drop, Some, refl, sym, ap, ◌∙◌, arith}
 use Rattle.std.specs.Prelude.{sum_by, IsUtf8, None}
 use Rattle.std.specs.List.{list_all, slice_get}
@@ -18,6 +18,12 @@ pub one-more : (found : List (List ℕ)) (i : ℕ) (t : List ℕ) → i < length
 one-more found i t lt e =
     let same : get_or found i [] ≡ t = some_is (get_or found i []) t (sym (slice_get-get_or found i [] lt) ∙ e) in
     take_more found i [] lt ∙ ap (λ (x : List ℕ). take i found ++ x ∷ []) same
+
+pub one-integer-more : (found : List ℤ) (i : ℕ) (z : ℤ) → i < length found → slice_get found i ≡ Some z
+    → take (i + 1) found ≡ take i found ++ z ∷ []
+one-integer-more found i z lt e =
+    let same : get_or found i z ≡ z = some_is (get_or found i z) z (sym (slice_get-get_or found i z lt) ∙ e) in
+    take_more found i z lt ∙ ap (λ (x : ℤ). take i found ++ x ∷ []) same
 
 pub more-size : (ts : List (List ℕ)) (t : List ℕ) → sum_by length (ts ++ t ∷ []) ≡ sum_by length ts + length t
 more-size ts t = omega (arith, sum_by-append length ts (t ∷ []), sum_by-cons length t [])

@@ -7,7 +7,7 @@ use Rattle.byte_format.specs.Written.{text_bytes}
 use Rattle.col_codec.specs.Ints.{int_spelling}
 use Rattle.col_codec.specs.Texts.{text_spelling}
 use Rattle.block_column.specs.Kinds.{Kind, constant, integers, dictionary, plain, kind_of, body_of, dictionary_bytes}
-use Rattle.block_column.specs.Kinds.{is_short}
+use Rattle.block_column.specs.Kinds.{distinct, is_short}
 use Rattle.block_column.specs.declared.cells.Cells.{Cells}
 use Rattle.block_column.specs.declared.cells.Cells.TheVariants as cells
 
@@ -48,9 +48,24 @@ IsNarrow (cells.Integers ints) = Unit {0}
 IsNarrow (cells.Dictionary texts codes) = (length texts.items ≤ 255) × (list_all is_short texts.items ≡ true)
 IsNarrow (cells.Plain texts) = Unit {0}
 
+-- No text is held that no row has.
+abbrev pub IsEach : Cells → Type 0
+IsEach (cells.Constant text rows) = 0 < rows
+IsEach (cells.Integers ints) = Unit {0}
+IsEach (cells.Dictionary texts codes) = texts.items ≡ distinct (map (text_at texts.items) codes.items)
+IsEach (cells.Plain texts) = Unit {0}
+
+-- the decimal texts of the integers, if integers are held
+abbrev pub decimals_in : Cells → List (List ℕ)
+decimals_in (cells.Constant text rows) = []
+decimals_in (cells.Integers ints) = map signed_decimal ints
+decimals_in (cells.Dictionary texts codes) = []
+decimals_in (cells.Plain texts) = []
+
 -- They are held in the first kind that fits, as it is written.
 pub record IsFirst (held : Cells) : Type 0 where
   pub codes : IsCells held
   pub narrow : IsNarrow held
+  pub each : IsEach held
   pub kind : kind_in held ≡ kind_of (texts_of held)
   pub body : body_in held ≡ body_of (kind_of (texts_of held)) (texts_of held)

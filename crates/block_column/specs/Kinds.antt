@@ -1,7 +1,7 @@
 -- The four kinds of column, of which the first that fits is used.
 use Rattle.std.specs.Prelude.{ℕ, ℤ, Bool, false, ◌&&◌, not, nat_le, List, [], ◌∷◌, ◌++◌, length, map, fold}
 use Rattle.std.specs.Prelude.{bytes_eq, is_some, if◌then◌else◌, unwrap_or, pos}
-use Rattle.std.specs.List.{flat_map, list_all, position_or_len}
+use Rattle.std.specs.List.{flat_map, list_all, list_any, position_or_len}
 use Rattle.std.specs.BTreeSet.{insert_key}
 use Rattle.std.specs.Int.{w16, w32}
 use Rattle.byte_format.specs.Written.{text_bytes}
@@ -9,6 +9,10 @@ use Rattle.col_codec.specs.Ints.{int_spelling}
 use Rattle.col_codec.specs.Texts.{text_spelling}
 use Rattle.log_model.specs.Field.{bytes_cmp, is_empty}
 use Rattle.log_model.specs.Order.{number_of}
+
+-- one of the texts
+abbrev pub is_listed : List (List ℕ) → List ℕ → Bool
+is_listed texts text = list_any (bytes_eq text) texts
 
 -- each text once, in byte order
 abbrev pub distinct : List (List ℕ) → List (List ℕ)

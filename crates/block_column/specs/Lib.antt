@@ -1,4 +1,5 @@
 pub mod Kinds
 pub mod Cells
 pub mod Body
+pub mod Members
 pub mod Values

@@ -1,11 +1,14 @@
 //! The distinct values of a column, and the places of its values among them.
 
-ghost use Rattle.std.specs.Prelude.{◌≡◌, ◌≤◌, IfOk, MatchOption, bytes_eq, false, length, map, true};
-ghost use Rattle.std.specs.BTreeSet.{keys};
-ghost use Rattle.std.specs.List.{All, list_any};
-ghost use Rattle.block_column.specs.Kinds.{code_of, distinct, fits_dictionary};
+ghost use Rattle.std.specs.Prelude.{◌≡◌, ◌≤◌, ◌∷◌, IfOk, IsTrue, MatchOption, OnOk, bytes_eq, false, length, map, true};
+ghost use Rattle.std.specs.BTreeSet.{insert_key, keys};
+ghost use Rattle.std.specs.List.{All, list_all, list_any};
+ghost use Rattle.std.specs.List.Sorted.{IsStrictlySortedBy};
+ghost use Rattle.log_model.specs.Field.{bytes_cmp};
+ghost use Rattle.block_column.specs.Kinds.{code_of, distinct, fits_dictionary, is_listed, is_short};
 
 use std::alloc::{AllocError, Global};
+use crate::recent::{Recent, SLOTS, slot_of};
 use std::collections::BTreeSet;
 use vl_row::Text;
 
@@ -32,17 +35,61 @@ fn set_of<'a>(alloc: Global, values: &[&'a str]) -> Result<Option<BTreeSet<&'a s
         (λ set. (fits_dictionary (map (λ t. t.now) values.now) ≡ true)
         × (map (λ t. t.now) (keys set) ≡ distinct (map (λ t. t.now) values.now)))) }
 {
+    match values {
+        [] => Ok(Some(BTreeSet::new(alloc))),
+        [first, rest @ ..] => {
+            if first.len() > MAX_VALUE_LEN {
+                return Ok(None);
+            }
+            set_with(alloc, first, rest)
+        }
+    }
+}
+
+fn set_with<'a>(
+    alloc: Global,
+    first: &'a str,
+    rest: &[&'a str],
+) -> Result<Option<BTreeSet<&'a str>>, AllocError>
+    requires { is_short first.now ≡ true }
+    ensures { IfOk result (λ found. MatchOption found
+        (fits_dictionary (first.now ∷ map (λ t. t.now) rest.now) ≡ false)
+        (λ set. (fits_dictionary (first.now ∷ map (λ t. t.now) rest.now) ≡ true)
+        × (map (λ t. t.now) (keys set) ≡ distinct (first.now ∷ map (λ t. t.now) rest.now)))) }
+{
     let mut set = BTreeSet::new(alloc);
-    for value in values {
+    set.insert(first)?;
+    let mut recent = Recent::new(alloc, first)?;
+    for value in rest {
         if value.len() > MAX_VALUE_LEN {
             return Ok(None);
         }
-        set.insert(*value)?;
+        put_value(&mut set, &mut recent, value)?;
         if set.len() > MAX_VALUES {
             return Ok(None);
         }
     }
     Ok(Some(set))
+}
+
+/// Puts a value to the others, unless it was put lately.
+fn put_value<'a>(
+    set: &mut BTreeSet<&'a str>,
+    recent: &mut Recent<'a>,
+    value: &'a str,
+) -> Result<(), AllocError>
+    requires rising { IsStrictlySortedBy bytes_cmp (map (λ t. t.now) (keys set.old)) }
+    requires recent { list_all (is_listed (map (λ t. t.now) (keys set.old))) recent.old ≡ true }
+    ensures values { OnOk result (map (λ t. t.now) (keys set.new)
+        ≡ insert_key bytes_cmp (map (λ t. t.now) (keys set.old)) value.now) }
+    ensures recent { OnOk result (list_all (is_listed (map (λ t. t.now) (keys set.new))) recent.new ≡ true) }
+{
+    if recent.has(value) {
+        return Ok(());
+    }
+    set.insert(value)?;
+    recent.put(value);
+    Ok(())
 }
 
 fn listed(alloc: Global, set: &BTreeSet<&str>) -> Result<Vec<Text>, AllocError>
@@ -55,21 +102,53 @@ fn listed(alloc: Global, set: &BTreeSet<&str>) -> Result<Vec<Text>, AllocError>
     Ok(texts)
 }
 
-/// The place of each value among the distinct ones.
+/// The place of each value among the distinct ones, which are in byte order.
 pub(crate) fn codes_of(
     alloc: Global,
     sorted: &[Text],
     values: &[&str],
 ) -> Result<Vec<u8>, AllocError>
     requires few { length sorted.now ≤ 255 }
+    requires rising { IsStrictlySortedBy bytes_cmp sorted.now }
     requires listed { All (λ value. list_any (bytes_eq value.now) sorted.now ≡ true) values.now }
     ensures { IfOk result (λ codes. codes.items ≡ map (code_of sorted.now) (map (λ t. t.now) values.now)) }
 {
     let mut codes = Vec::with_capacity(alloc, values.len())?;
+    let mut slots = vec![in alloc; 0; SLOTS]?;
     for value in values {
-        codes.push(code_of(sorted, value))?;
+        codes.push(code_near(&mut slots, sorted, value))?;
     }
     Ok(codes)
+}
+
+/// The place of a value, which is mostly that of the last value with its slot.
+fn code_near(slots: &mut Vec<u8>, sorted: &[Text], value: &str) -> u8
+    requires slots { length slots.old.items ≡ 512 }
+    requires few { length sorted.now ≤ 255 }
+    requires rising { IsStrictlySortedBy bytes_cmp sorted.now }
+    requires listed { list_any (bytes_eq value.now) sorted.now ≡ true }
+    ensures code { result ≡ code_of sorted.now value.now }
+    ensures slots { length slots.new.items ≡ 512 }
+{
+    let slot = slot_of(value);
+    let guess = slots[slot];
+    if is_at(sorted, guess as usize, value) {
+        return guess;
+    }
+    let code = code_of(sorted, value);
+    slots[slot] = code;
+    code
+}
+
+/// Whether the value has this place.
+fn is_at(sorted: &[Text], i: usize, value: &str) -> bool
+    requires { IsStrictlySortedBy bytes_cmp sorted.now }
+    ensures { IsTrue result → code_of sorted.now value.now ≡ i }
+{
+    if i >= sorted.len() {
+        return false;
+    }
+    is_value(&sorted[i], value)
 }
 
 fn code_of(sorted: &[Text], value: &str) -> u8

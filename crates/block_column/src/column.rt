@@ -8,10 +8,12 @@ ghost use Rattle.byte_format.specs.Spelling.{reading};
 ghost use Rattle.col_codec.specs.Answers.{AnswersAs, IsPlaceOf};
 ghost use Rattle.block_column.specs.Body.{body, column, column_spelling, column_writing};
 ghost use Rattle.block_column.specs.Kinds.{body_of, code_of_kind, kind_of};
+ghost use Rattle.block_column.specs.Members.{HaveSameTexts, decimals_of};
 ghost use Rattle.block_column.specs.Values.{value_text};
 
 use crate::cells::{Cells, kind_of, len_of, value_at};
 use crate::kinds::first_kind;
+use crate::members::{decimals_of, members_of};
 use crate::put::put_cells;
 use crate::read::read;
 use crate::take::take_cells;
@@ -19,6 +21,7 @@ use byte_format::Stop;
 use col_codec::ColumnFault;
 use std::alloc::{AllocError, Global};
 use std::marker::Model;
+use vl_row::Text;
 
 /// A value of a column: its text, or the integer whose decimal text it is.
 #[derive(Clone, Copy, Debug)]
@@ -71,6 +74,27 @@ impl ValueColumn {
         ensures { slice_get self.now i ≡ Some (value_text result) }
     {
         value_at(&self.cells, i)
+    }
+
+    /// The decimal texts of the integers, if the column holds integers, and else none.
+    pub fn decimals(&self, alloc: Global) -> Result<Vec<Text>, AllocError>
+        ensures { IfOk result (λ texts. texts.items ≡ decimals_of self.now) }
+    {
+        decimals_of(alloc, &self.cells)
+    }
+
+    /// Texts among which is each value, and nothing else. For a column of integers they are the decimal texts.
+    pub fn members<'a>(
+        &'a self,
+        alloc: Global,
+        decimals: &'a [Text],
+    ) -> Result<Vec<&'a str>, AllocError>
+        requires decimals { decimals.now ≡ decimals_of self.now }
+        requires small { sum_by length self.now < 2 ^ 32 }
+        ensures same { IfOk result (λ texts. HaveSameTexts (map (λ t. t.now) texts.items) self.now) }
+        ensures small { IfOk result (λ texts. sum_by (λ t. length t.now) texts.items < 2 ^ 32) }
+    {
+        members_of(alloc, &self.cells, decimals)
     }
 
     /// The number of the kind.

@@ -66,7 +66,7 @@ fn integers(alloc: Global, values: &[&str]) -> Result<Option<Vec<i64>>, AllocErr
         (λ ints. (are_integers (map (λ t. t.now) values.now) ≡ true)
         × (ints.items ≡ integers_in (map (λ t. t.now) values.now)))) }
 {
-    let mut ints = Vec::new(alloc);
+    let mut ints = Vec::with_capacity(alloc, values.len())?;
     for value in values {
         let Some(int) = number(value) else {
             return Ok(None);

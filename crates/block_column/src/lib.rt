@@ -6,9 +6,12 @@ mod cells;
 mod codes;
 mod column;
 mod kinds;
+mod members;
 mod put;
 mod read;
+mod recent;
 mod take;
 
 pub use column::{FoundColumn, Value, ValueColumn};
+pub use recent::Recent;
 pub use take::take_kind;

@@ -43,7 +43,7 @@ impl TextColumn {
         requires { sum_by (λ t. length t.now) v.now < 2 ^ 32 }
         ensures { IfOk result (λ column. column ≡ map (λ t. t.now) v.now) }
     {
-        let mut bytes = Vec::new(alloc);
+        let mut bytes = Vec::with_capacity(alloc, size_of(v))?;
         let mut ends = Vec::with_capacity(alloc, v.len())?;
         for t in v {
             push_text(&mut bytes, &mut ends, t)?;
@@ -118,6 +118,17 @@ impl TextColumn {
             }),
         }
     }
+}
+
+/// How many bytes the texts have together.
+fn size_of(v: &[&str]) -> usize
+    requires { sum_by (λ t. length t.now) v.now < 2 ^ 32 }
+{
+    let mut size = 0;
+    for t in v {
+        size += t.len();
+    }
+    size
 }
 
 fn text_at<'a>(bytes: &'a [u8], ends: &[u32], i: usize) -> &'a str

@@ -72,7 +72,7 @@ added ws (b ∷ bs) within =
           (with_bit ws b) bs (within-kept ws b bs within.1),
     ) refl
 
-bits-len : (ws bs : List ℕ) → length (with_bits ws bs) ≡ length ws
+pub bits-len : (ws bs : List ℕ) → length (with_bits ws bs) ≡ length ws
 bits-len ws [] = refl
 bits-len ws (b ∷ bs) = bits-len (with_bit ws b) bs ∙ len-kept ws b
 
@@ -84,7 +84,7 @@ places-within ws h lt =
     let one : (i : ℕ) → place (bit_count ws) h i < 64 * length ws = λ i. mod_below _ (bit_count ws) some in
     (one 0, (one 1, (one 2, (one 3, (one 4, (one 5, tt))))))
 
-filled : (ws word : List ℕ) → 0 < length ws → with_word ws word ≡ with_bits ws (places (bit_count ws) (fnv word))
+pub filled : (ws word : List ℕ) → 0 < length ws → with_word ws word ≡ with_bits ws (places (bit_count ws) (fnv word))
 filled ws word lt =
     let some : eqb (length ws) 0 ≡ false = ne_eqb (length ws) 0 (λ e. omega (arith, e, lt)) in
     rw some refl

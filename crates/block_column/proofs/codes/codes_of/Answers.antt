@@ -8,8 +8,11 @@ loop-value-preserved c =
     let none : Bor (List ℕ) = record { ref_ptr = (0, 0); now = [] } in
     let one = (get_or c.args.values.now c.loop-value.value-index none).now in
     let before = map (λ t. t.now) (take c.loop-value.value-index c.args.values.now) in
-    c.in_ok-push.ensures.items ∙ ap (λ (l : List ℕ). l ++ c.code_of.result ∷ []) c.loop-value.invariant
-    ∙ ap (λ (n : ℕ). map (code_of c.args.sorted.now) before ++ n ∷ []) c.code_of.ensures
-    ∙ sym (map-append (code_of c.args.sorted.now) before (one ∷ []))
-    ∙ ap (map (code_of c.args.sorted.now)) (sym (map_more (λ t. t.now) c.args.values.now c.loop-value.value-index none
-    c.loop-value-test.true))
+    record {
+      codes = c.in_ok-push.ensures.items ∙ ap (λ (l : List ℕ). l ++ c.code_near.result ∷ []) c.loop-value.invariant.codes
+          ∙ ap (λ (n : ℕ). map (code_of c.args.sorted.now) before ++ n ∷ []) c.code_near.ensures.code
+          ∙ sym (map-append (code_of c.args.sorted.now) before (one ∷ []))
+          ∙ ap (map (code_of c.args.sorted.now)) (sym (map_more (λ t. t.now) c.args.values.now c.loop-value.value-index
+          none c.loop-value-test.true));
+      slots = c.code_near.ensures.slots;
+    }

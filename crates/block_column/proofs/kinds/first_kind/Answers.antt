@@ -4,6 +4,7 @@ use Rattle.block_column.specs.Cells.{IsFirst}
 use Rattle.block_column.specs.Kinds.{are_integers, code_of, distinct, fits_dictionary, integers_in}
 use Rattle.block_column.specs.declared.cells.Cells.TheVariants as cells
 use Rattle.block_column.proofs.Distinct.{listed-by}
+use Rattle.block_column.proofs.Rising.{distinct-rising}
 use Rattle.block_column.proofs.KindLaws.{first-constant, first-dictionary, first-integers, first-plain, sizes}
 use Rattle.block_column.proofs.kinds.first_kind.Goals as goal
 
@@ -45,6 +46,13 @@ codes_of-requires-clause-listed c k d lt =
     c.in_ok-texts.ensures in
     rw (c.as_slice-in-Some-3.ensures.value, m.1) (listed-by now_of c.args.values.now k d lt)
 
+pub codes_of-requires-clause-rising : goal.codes_of-requires-clause-rising
+codes_of-requires-clause-rising c =
+    let ts = map now_of c.args.values.now in
+    let m : (fits_dictionary ts ≡ true) × (c.in-Some-3.texts.items ≡ distinct ts) = rw c.in-Some-3.is at
+    c.in_ok-texts.ensures in
+    rw (c.as_slice-in-Some-3.ensures.value, m.1) (distinct-rising ts)
+
 pub returns-in-Some-3-clause-texts : goal.returns-in-Some-3-clause-texts
 returns-in-Some-3-clause-texts c =
     let ts = map now_of c.args.values.now in
@@ -63,7 +71,7 @@ returns-in-Some-3-clause-first c =
     let d = first-dictionary ts c.in-Some-3.texts.items c.in_ok-codes.codes.items c.in_default.ensures.none none m.0
     m.1
     (c.in_ok-codes.ensures ∙ ap (λ (l : List (List ℕ)). map (code_of l) ts) c.as_slice-in-Some-3.ensures.value) in
-    record { codes = d.below; narrow = (d.few, d.short); kind = d.kind; body = d.body }
+    record { codes = d.below; narrow = (d.few, d.short); each = d.each; kind = d.kind; body = d.body }
 
 pub returns-clause-first : goal.returns-clause-first
 returns-clause-first c =

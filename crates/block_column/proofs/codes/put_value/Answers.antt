@@ -1,0 +1,31 @@
+use Rattle.std.proofs.Common.{◌≡◌, ◌∙◌, ℕ, List, Bor, ap, map, sym, true}
+use Rattle.std.specs.BTreeSet.{insert_key}
+use Rattle.std.specs.List.{list_any}
+use Rattle.std.specs.Prelude.{bytes_eq}
+use Rattle.log_model.specs.Field.{bytes_cmp}
+use Rattle.block_column.specs.Kinds.{is_listed}
+use Rattle.block_column.proofs.Distinct.{map-put, put-has}
+use Rattle.block_column.proofs.Rising.{put-again}
+use Rattle.block_column.proofs.Same.{listed-kept, listed-one}
+use Rattle.block_column.proofs.codes.put_value.Goals as goal
+
+abbrev now_of : Bor (List ℕ) → List ℕ
+now_of t = t.now
+
+pub returns-then-has-clause-values : goal.returns-then-has-clause-values
+returns-then-has-clause-values c =
+    sym (put-again c.args.value.now (map now_of c.args.set.now.keys) c.requires.rising (listed-one (map now_of
+    c.args.set.now.keys) c.args.value.now c.args.recent.now c.requires.recent (c.has.ensures c.if-has.true)))
+
+pub returns-clause-values : goal.returns-clause-values
+returns-clause-values c =
+    ap (map now_of) c.in_ok-insert.ensures.keys ∙ map-put now_of c.args.set.now.keys c.args.value
+
+pub returns-clause-recent : goal.returns-clause-recent
+returns-clause-recent c =
+    let texts : List (List ℕ) = map now_of c.args.set.now.keys in
+    let value : List ℕ = c.args.value.now in
+    let put : map now_of c.insert.new.self.keys ≡ insert_key bytes_cmp (map now_of c.args.set.now.keys) c.args.value.now =
+    ap (map now_of) c.in_ok-insert.ensures.keys ∙ map-put now_of c.args.set.now.keys c.args.value in
+    rw put (c.put.ensures (is_listed (insert_key bytes_cmp texts value)) (listed-kept (map now_of c.args.set.now.keys)
+    c.args.recent.now c.args.value.now c.requires.recent) (put-has c.args.value.now (map now_of c.args.set.now.keys)))

@@ -1,0 +1,54 @@
+use Rattle.std.proofs.Common.{◌≡◌, ◌∙◌, ◌<◌, ◌≤◌, ◌^◌, ◌∷◌, ℕ, List, [], Bor, ap, arith, length, map, true}
+use Rattle.std.specs.Prelude.{sum_by}
+use Rattle.std.specs.List.{list_all}
+use Rattle.std.proofs.lemmas.List.Sums.{sum_by-cons}
+use Rattle.block_column.specs.Cells.{text_at}
+use Rattle.block_column.specs.Kinds.{distinct, is_short}
+use Rattle.block_column.proofs.KindLaws.{sizes}
+use Rattle.block_column.proofs.Same.{same-held, same-one, short-size}
+use Rattle.block_column.proofs.members.members_of.Goals as goal
+
+abbrev now_of : Bor (List ℕ) → List ℕ
+now_of t = t.now
+
+pub returns-in_ok-alone-in-Constant-clause-same : goal.returns-in_ok-alone-in-Constant-clause-same
+returns-in_ok-alone-in-Constant-clause-same c =
+    let each : 0 < c.in-Constant.field-1 = (rw c.in-Constant.is at c.requires.each) in
+    let texts : map now_of c.in_ok-alone-in-Constant.alone.items ≡ c.in-Constant.text ∷ [] = c.in_ok-alone-in-Constant.ensures
+    ∙ ap (λ (t : List ℕ). t ∷ []) c.as_str.ensures.value in
+    rw (c.in-Constant.is, texts) (same-one c.in-Constant.text c.in-Constant.field-1 each)
+
+pub returns-in_ok-alone-in-Constant-clause-small : goal.returns-in_ok-alone-in-Constant-clause-small
+returns-in_ok-alone-in-Constant-clause-small c =
+    let narrow : length c.in-Constant.text < 2 ^ 32 = (rw c.in-Constant.is at c.requires.narrow) in
+    let texts : map now_of c.in_ok-alone-in-Constant.alone.items ≡ c.in-Constant.text ∷ [] = c.in_ok-alone-in-Constant.ensures
+    ∙ ap (λ (t : List ℕ). t ∷ []) c.as_str.ensures.value in
+    omega (
+      arith,
+      sizes now_of c.in_ok-alone-in-Constant.alone.items,
+      ap (sum_by length) texts,
+      sum_by-cons length c.in-Constant.text [],
+      narrow,
+    )
+
+pub returns-in_ok-listed-in-Dictionary-clause-same : goal.returns-in_ok-listed-in-Dictionary-clause-same
+returns-in_ok-listed-in-Dictionary-clause-same c =
+    let each : c.in-Dictionary.texts.items ≡ distinct (map (text_at c.in-Dictionary.texts.items)
+    c.in-Dictionary.field-1.items) = (rw c.in-Dictionary.is at c.requires.each) in
+    let texts : map now_of c.in_ok-listed-in-Dictionary.listed.items ≡ c.in-Dictionary.texts.items = c.in_ok-listed-in-Dictionary.ensures
+    ∙ c.as_slice.ensures.value in
+    rw (c.in-Dictionary.is, texts) (same-held c.in-Dictionary.texts.items c.in-Dictionary.field-1.items each)
+
+pub returns-in_ok-listed-in-Dictionary-clause-small : goal.returns-in_ok-listed-in-Dictionary-clause-small
+returns-in_ok-listed-in-Dictionary-clause-small c =
+    let narrow : (length c.in-Dictionary.texts.items ≤ 255) × (list_all is_short c.in-Dictionary.texts.items ≡ true) =
+    (rw c.in-Dictionary.is at c.requires.narrow) in
+    let texts : map now_of c.in_ok-listed-in-Dictionary.listed.items ≡ c.in-Dictionary.texts.items = c.in_ok-listed-in-Dictionary.ensures
+    ∙ c.as_slice.ensures.value in
+    omega (
+      arith,
+      sizes now_of c.in_ok-listed-in-Dictionary.listed.items,
+      ap (sum_by length) texts,
+      short-size c.in-Dictionary.texts.items narrow.1,
+      narrow.0,
+    )

@@ -1,0 +1,20 @@
+use Rattle.std.proofs.Common.{◌≡◌, ◌∙◌, ◌<◌, ℕ, List, Bor, ap, arith, get_or, length, subst, sym, true}
+use Rattle.std.specs.Prelude.{bytes_eq}
+use Rattle.std.specs.List.{list_any}
+use Rattle.std.proofs.lemmas.Slice.Eq.{bytes_eq-Decides}
+use Rattle.block_column.proofs.Slots.{in-slot}
+use Rattle.block_column.proofs.recent.Recent.has.Goals as goal
+
+abbrev now_of : Bor (List ℕ) → List ℕ
+now_of t = t.now
+
+pub returns : goal.returns
+returns c e =
+    let text : List ℕ = c.args.text.now in
+    let same : c.index.result.now.now ≡ c.args.text.now = (bytes_eq-Decides c.index.result.now.now
+    c.args.text.now).0 (sym c.eq.ensures ∙ e) in
+    let there : c.args.text.now ≡ now_of (get_or c.self.inside.slots.items c.slot_of.result c.index.result.now) =
+    sym same ∙ ap now_of c.index.ensures in
+    let lt : c.slot_of.result < length c.self.inside.slots.items = omega (arith, c.slot_of.ensures, c.self.invariant) in
+    subst (λ (l : List (List ℕ)). list_any (bytes_eq text) l ≡ true) c.self.view_is (in-slot now_of c.args.text.now
+    c.self.inside.slots.items c.slot_of.result c.index.result.now lt there)
