@@ -1,5 +1,5 @@
 -- Fields that are set in the order of their names, and labels among fields.
-use Rattle.std.proofs.Common.{◌≡◌, ℕ, ◌<◌, Bool, true, false, cond, List, [], ◌∷◌, ◌++◌, length, filter, map, refl, sym}
+use Rattle.std.proofs.Common.{◌≡◌, ℕ, zero, suc, ◌<◌, Bool, true, false, cond, get_or, List, [], ◌∷◌, ◌++◌, length, filter, map, refl, sym}
 use Rattle.std.proofs.Common.{ap, ◌∙◌, arith, append_assoc, take, drop, ltb, inl, inr}
 use Rattle.std.specs.Prelude.{◌&&◌, ◌||◌, bytes_eq, not}
 use Rattle.std.specs.List.{AllByRecursion, list_all, list_any}
@@ -45,6 +45,12 @@ above-listed x key (n ∷ ns) a e = by (bytes_eq key n) refl e (above-listed x k
         → (list_any (bytes_eq key) ns ≡ true → bytes_cmp x key ≡ Less) → bytes_cmp x key ≡ Less
     by true same h later = ap (bytes_cmp x) ((bytes_eq-Decides key n).0 same) ∙ a.0
     by false same h later = later h
+
+above-place : (x : List ℕ) (fields : List Field) (i : ℕ) (d : Field) → Above x (keys_of fields) → i < length fields
+    → bytes_cmp x (get_or fields i d).0 ≡ Less
+above-place x [] i d a lt = absurd (omega (arith, lt))
+above-place x (f ∷ fs) zero d a lt = a.0
+above-place x (f ∷ fs) (suc i) d a lt = above-place x fs i d a.1 (omega (arith, lt))
 
 -- ---- fields that are set
 
@@ -155,6 +161,23 @@ set-again (n ∷ ns) acc (f ∷ fs) s t h l b =
           (f ∷ fs) n above) ∙ not-set acc n b.0)
           ∙ set-again ns acc (f ∷ fs) (sorted_tail bytes_cmp n ns s) t h (listed-behind n ns (f ∷ fs) above l) b.1
     ]
+
+-- the value of the field at a place is that of its name
+value-from : (fields : List Field) (i : ℕ) (d : Field) → IsRising (keys_of fields) → i < length fields
+    → field_value fields (get_or fields i d).0 ≡ (get_or fields i d).1
+value-from [] i d s lt = absurd (omega (arith, lt))
+value-from (f ∷ fs) zero d s lt =
+    let same : bytes_eq f.0 f.0 ≡ true = (bytes_eq-Decides f.0 f.0).1 refl in
+    rw same refl
+value-from (f ∷ fs) (suc i) d s lt =
+    let other = apart-back f.0 (get_or fs i d).0 (above-place f.0 fs i d (sorted_head bytes_cmp f.0 (keys_of fs) s) (omega
+    (arith, lt))) in
+    rw other (value-from fs i d (sorted_tail bytes_cmp f.0 (keys_of fs) s) (omega (arith, lt)))
+
+pub value-there : (fields : List Field) (i : ℕ) (f : Field) → IsRising (keys_of fields) → i < length fields
+    → f ≡ get_or fields i f → field_value fields f.0 ≡ f.1
+value-there fields i f s lt e =
+    ap (λ (g : Field). field_value fields g.0) e ∙ value-from fields i f s lt ∙ ap (λ (g : Field). g.1) (sym e)
 
 -- ---- labels
 

@@ -3,4 +3,4 @@ pub mod FilterLaws
 pub mod Kept
 pub mod Again
 pub mod There
-pub mod Slots
+pub mod Sets

@@ -5,8 +5,10 @@ use Rattle.std.specs.BTreeSet.{insert_key}
 use Rattle.std.specs.List.{list_all, list_any}
 use Rattle.std.proofs.lemmas.Bool.{le-ltb}
 use Rattle.std.proofs.lemmas.Slice.Eq.{bytes_eq-Decides}
-use Rattle.block_column.proofs.Distinct.{either_kept, put-has, put-keeps, right_true}
-use Rattle.block_column.proofs.Rising.{IsRising, put-again}
+use Rattle.block_column.specs.Kinds.{distinct}
+use Rattle.block_column.proofs.Distinct.{either_kept, right_true}
+use Rattle.block_column.proofs.Rising.{distinct-rising, put-again}
+use Rattle.block_column.proofs.Same.{distinct-listed}
 use Rattle.byte_format.proofs.Cases.{both_true}
 use Rattle.log_model.specs.Field.{bytes_cmp, is_empty}
 use Rattle.word_filter.specs.Words.{is_there}
@@ -23,36 +25,28 @@ passes-one p text (s ∷ ss) all one =
     by true same h later = ap p ((bytes_eq-Decides text s).0 same) ∙ (both_true (p s) (list_all p ss) all).0
     by false same h later = later h
 
--- slots without a word
-pub empty-there : (texts slots : List (List ℕ)) → list_all is_empty slots ≡ true
-    → list_all (is_there texts) slots ≡ true
-empty-there texts [] e = refl
-empty-there texts (s ∷ ss) e =
-    let p = both_true (is_empty s) (list_all is_empty ss) e in
-    rw p.0 (empty-there texts ss p.1)
-
 -- what was there stays there
-pub there-kept : (texts slots : List (List ℕ)) (word : List ℕ) → list_all (is_there texts) slots ≡ true
-    → list_all (is_there (insert_key bytes_cmp texts word)) slots ≡ true
-there-kept texts [] word e = refl
-there-kept texts (s ∷ ss) word e =
+pub there-kept : (texts more slots : List (List ℕ))
+    → ((text : List ℕ) → list_any (bytes_eq text) texts ≡ true → list_any (bytes_eq text) more ≡ true)
+    → list_all (is_there texts) slots ≡ true → list_all (is_there more) slots ≡ true
+there-kept texts more [] h e = refl
+there-kept texts more (s ∷ ss) h e =
     let p = both_true (is_there texts s) (list_all (is_there texts) ss) e in
-    let one : is_there (insert_key bytes_cmp texts word) s ≡ true =
-    either_kept (is_empty s) (list_any (bytes_eq s) texts) (list_any (bytes_eq s) (insert_key bytes_cmp texts word)) p.0
-    (put-keeps (bytes_eq s) word texts) in
-    rw one (there-kept texts ss word p.1)
+    let one : is_there more s ≡ true = either_kept (is_empty s) (list_any (bytes_eq s) texts) (list_any (bytes_eq s)
+    more) p.0 (h s) in
+    rw one (there-kept texts more ss h p.1)
 
 -- and so is the word
-pub put-there : (texts : List (List ℕ)) (word : List ℕ) → is_there (insert_key bytes_cmp texts word) word ≡ true
-put-there texts word =
-    right_true (is_empty word) (list_any (bytes_eq word) (insert_key bytes_cmp texts word)) (put-has word texts)
+pub put-there : (texts : List (List ℕ)) (word : List ℕ) → list_any (bytes_eq word) texts ≡ true
+    → is_there texts word ≡ true
+put-there texts word e = right_true (is_empty word) (list_any (bytes_eq word) texts) e
 
 -- a word that is there changes nothing when it is put
-pub there-again : (texts slots : List (List ℕ)) (word : List ℕ) → IsRising texts → 0 < length word
+pub there-again : (texts slots : List (List ℕ)) (word : List ℕ) → 0 < length word
     → list_all (is_there texts) slots ≡ true → list_any (bytes_eq word) slots ≡ true
-    → insert_key bytes_cmp texts word ≡ texts
-there-again texts slots word rising some all one =
+    → insert_key bytes_cmp (distinct texts) word ≡ distinct texts
+there-again texts slots word some all one =
     let there : is_there texts word ≡ true = passes-one (is_there texts) word slots all one in
     let filled : is_empty word ≡ false = le-ltb (length word) 1 (omega (arith, some)) in
     let listed : list_any (bytes_eq word) texts ≡ true = (rw filled at there) in
-    put-again word texts rising listed
+    put-again word (distinct texts) (distinct-rising texts) (distinct-listed word texts ∙ listed)

@@ -2,10 +2,11 @@
 #![tactic(auto)]
 
 ghost use Rattle.std.specs.Prelude.{◌≡◌, ◌<◌, ◌^◌, ◌≤◌, ◌+◌, ◌++◌, IfOk, OnOk, length, map, sum_by, true};
-ghost use Rattle.std.specs.BTreeSet.{insert_key, keys};
+ghost use Rattle.std.specs.BTreeSet.{insert_key};
+ghost use Rattle.std.specs.HashSet.{keys};
 ghost use Rattle.std.specs.List.{All, fold, list_all};
-ghost use Rattle.std.specs.List.Sorted.{IsStrictlySortedBy};
 ghost use Rattle.std.specs.Int.{w64};
+ghost use Rattle.block_column.specs.Kinds.{distinct};
 ghost use Rattle.byte_format.specs.Format.{front, many};
 ghost use Rattle.byte_format.specs.Gives.{Gives};
 ghost use Rattle.byte_format.specs.Items.{number};
@@ -14,12 +15,10 @@ ghost use Rattle.token_bloom.specs.Filter.{with_word};
 ghost use Rattle.word_filter.specs.Words.{HasWords, LeavesNoneOut, column_words, counted_filter, filter_item};
 ghost use Rattle.word_filter.specs.Words.{filter_of, filter_steps, is_there, put_words, skipped};
 
-mod recent;
-
+use block_column::{Recent, ValueColumn};
 use byte_format::{Stop, put_u64s, take_u32, take_u64};
-use recent::Recent;
 use std::alloc::{AllocError, Global};
-use std::collections::BTreeSet;
+use std::collections::HashSet;
 use token_bloom::Bloom;
 use word_tokens::words;
 
@@ -36,6 +35,19 @@ pub fn filter_of(alloc: Global, values: &[&str]) -> Result<Bloom, AllocError>
     Ok(bloom)
 }
 
+/// The same, for the values of a column. Its words are taken of distinct values alone where the column has those.
+pub fn filter_of_column(alloc: Global, column: &ValueColumn) -> Result<Bloom, AllocError>
+    requires { sum_by length column.now < 2 ^ 32 }
+    ensures filter { IfOk result (λ bloom. bloom ≡ filter_of column.now) }
+    ensures words { IfOk result (λ bloom. All (HasWords bloom) column.now) }
+    ensures small { IfOk result (λ bloom. length bloom < 2 ^ 32) }
+{
+    let decimals = column.decimals(alloc)?;
+    let members = column.members(alloc, decimals.as_slice())?;
+    let bloom = filter_of(alloc, members.as_slice())?;
+    Ok(bloom)
+}
+
 /// What a search for words may rest on: the filter of some values says of no word of theirs that it is not there. This
 /// does nothing: its contract is the law.
 pub fn filter_law()
@@ -43,12 +55,12 @@ pub fn filter_law()
 {}
 
 /// The words of the values, each once.
-fn words_of<'a>(alloc: Global, values: &[&'a str]) -> Result<BTreeSet<&'a str>, AllocError>
-    ensures words { IfOk result (λ words. map (λ t. t.now) (keys words) ≡ column_words (map (λ t. t.now) values.now)) }
-    ensures few { IfOk result (λ words. length (keys words) ≤ sum_by (λ t. length t.now) values.now) }
+fn words_of<'a>(alloc: Global, values: &[&'a str]) -> Result<HashSet<&'a str>, AllocError>
+    ensures words { IfOk result (λ words. distinct (map (λ t. t.now) (keys words)) ≡ column_words (map (λ t. t.now) values.now)) }
+    ensures few { IfOk result (λ words. length (distinct (map (λ t. t.now) (keys words))) ≤ sum_by (λ t. length t.now) values.now) }
 {
-    let mut words = BTreeSet::new(alloc);
-    let mut recent = Recent::new(alloc)?;
+    let mut words = HashSet::new(alloc);
+    let mut recent = Recent::new(alloc, "")?;
     for value in values {
         put_words(&mut words, &mut recent, value)?;
     }
@@ -57,15 +69,15 @@ fn words_of<'a>(alloc: Global, values: &[&'a str]) -> Result<BTreeSet<&'a str>, 
 
 /// Puts the words of one value to the others.
 fn put_words<'a>(
-    all: &mut BTreeSet<&'a str>,
+    all: &mut HashSet<&'a str>,
     recent: &mut Recent<'a>,
     value: &'a str,
 ) -> Result<(), AllocError>
-    requires rising { IsStrictlySortedBy bytes_cmp (map (λ t. t.now) (keys all.old)) }
     requires recent { list_all (is_there (map (λ t. t.now) (keys all.old))) recent.old ≡ true }
-    ensures words { OnOk result (map (λ t. t.now) (keys all.new)
-        ≡ put_words (map (λ t. t.now) (keys all.old)) value.now) }
-    ensures few { OnOk result (length (keys all.new) ≤ length (keys all.old) + length value.now) }
+    ensures words { OnOk result (distinct (map (λ t. t.now) (keys all.new))
+        ≡ put_words (distinct (map (λ t. t.now) (keys all.old))) value.now) }
+    ensures few { OnOk result (length (distinct (map (λ t. t.now) (keys all.new)))
+        ≤ length (distinct (map (λ t. t.now) (keys all.old))) + length value.now) }
     ensures recent { OnOk result (list_all (is_there (map (λ t. t.now) (keys all.new))) recent.new ≡ true) }
 {
     for (start, end) in words(value) {
@@ -76,15 +88,14 @@ fn put_words<'a>(
 
 /// Puts a word to the others, unless it was put lately.
 fn put_word<'a>(
-    all: &mut BTreeSet<&'a str>,
+    all: &mut HashSet<&'a str>,
     recent: &mut Recent<'a>,
     word: &'a str,
 ) -> Result<(), AllocError>
     requires some { 0 < length word.now }
-    requires rising { IsStrictlySortedBy bytes_cmp (map (λ t. t.now) (keys all.old)) }
     requires recent { list_all (is_there (map (λ t. t.now) (keys all.old))) recent.old ≡ true }
-    ensures words { OnOk result (map (λ t. t.now) (keys all.new)
-        ≡ insert_key bytes_cmp (map (λ t. t.now) (keys all.old)) word.now) }
+    ensures words { OnOk result (distinct (map (λ t. t.now) (keys all.new))
+        ≡ insert_key bytes_cmp (distinct (map (λ t. t.now) (keys all.old))) word.now) }
     ensures recent { OnOk result (list_all (is_there (map (λ t. t.now) (keys all.new))) recent.new ≡ true) }
 {
     if recent.has(word) {
@@ -95,7 +106,7 @@ fn put_word<'a>(
     Ok(())
 }
 
-fn add_words(bloom: &mut Bloom, words: &BTreeSet<&str>)
+fn add_words(bloom: &mut Bloom, words: &HashSet<&str>)
     ensures { bloom.new ≡ fold with_word bloom.old (map (λ t. t.now) (keys words.now)) }
 {
     for word in words {

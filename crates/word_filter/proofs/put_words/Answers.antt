@@ -1,8 +1,7 @@
 use Rattle.std.proofs.Common.{◌≡◌, ◌∙◌, ◌∷◌, ℕ, List, Bor, length, map, refl, ap, arith}
 use Rattle.std.specs.BTreeSet.{insert_key}
 use Rattle.std.specs.List.{fold, slice_range}
-use Rattle.std.proofs.lemmas.List.{length-map}
-use Rattle.block_column.proofs.Rising.{rising-put}
+use Rattle.block_column.specs.Kinds.{distinct}
 use Rattle.log_model.specs.Field.{bytes_cmp}
 use Rattle.word_filter.specs.Words.{put_words}
 use Rattle.word_filter.proofs.WordLaws.{AreWords, are-words, few-put, filled-word, texts_at}
@@ -17,7 +16,6 @@ loop-start-init c =
     rw all (record {
       words = are-words c.args.value.now;
       so_far = refl;
-      rising = c.requires.rising;
       recent = c.requires.recent;
     })
 
@@ -32,26 +30,22 @@ loop-start-preserved c =
     let words : AreWords c.args.value.now ((c.in-Some.start, c.in-Some.end) ∷ c.next.new.self) =
     rw c.in-Some.ensures.steps at c.loop-start.invariant.words in
     let so_far = rw c.in-Some.ensures.steps at c.loop-start.invariant.so_far in
-    let put : map now_of c.put_word.new.all.keys ≡ insert_key bytes_cmp (map now_of c.loop-start.all.keys)
-    (slice_range c.args.value.now c.in-Some.start c.in-Some.end) = c.in_ok-put_word.ensures.words
-    ∙ ap (insert_key bytes_cmp (map now_of c.loop-start.all.keys)) c.range.ensures.value in
+    let put : distinct (map now_of c.put_word.new.all.keys) ≡ insert_key bytes_cmp (distinct (map now_of
+    c.loop-start.all.keys)) (slice_range c.args.value.now c.in-Some.start c.in-Some.end) = c.in_ok-put_word.ensures.words
+    ∙ ap (insert_key bytes_cmp (distinct (map now_of c.loop-start.all.keys))) c.range.ensures.value in
     record {
       words = words.1;
       so_far = ap (λ (l : List (List ℕ)). fold (insert_key bytes_cmp) l (texts_at c.args.value.now c.next.new.self)) put
           ∙ so_far;
-      rising = rw put (rising-put (slice_range c.args.value.now c.in-Some.start c.in-Some.end) (map now_of
-          c.loop-start.all.keys) c.loop-start.invariant.rising);
       recent = c.in_ok-put_word.ensures.recent;
     }
 
 pub returns-clause-few : goal.returns-clause-few
 returns-clause-few c =
-    let so_far : map now_of c.loop-start.all.keys ≡ put_words (map now_of c.args.all.now.keys) c.args.value.now =
-    rw c.in-None.ensures.steps.0 at c.loop-start.invariant.so_far in
+    let so_far : distinct (map now_of c.loop-start.all.keys) ≡ put_words (distinct (map now_of c.args.all.now.keys))
+    c.args.value.now = rw c.in-None.ensures.steps.0 at c.loop-start.invariant.so_far in
     omega (
       arith,
       ap length so_far,
-      length-map c.loop-start.all.keys now_of,
-      length-map c.args.all.now.keys now_of,
-      few-put (map now_of c.args.all.now.keys) c.args.value.now c.utf8.value,
+      few-put (distinct (map now_of c.args.all.now.keys)) c.args.value.now c.utf8.value,
     )

@@ -1,7 +1,7 @@
 use Rattle.std.proofs.Common.{◌≡◌, map, true}
 use Rattle.std.specs.BTreeSet.{insert_key}
 use Rattle.std.specs.List.{fold, list_all}
-use Rattle.block_column.proofs.Rising.{IsRising}
+use Rattle.block_column.specs.Kinds.{distinct}
 use Rattle.log_model.specs.Field.{bytes_cmp}
 use Rattle.word_filter.specs.Words.{is_there, put_words}
 use Rattle.word_filter.proofs.WordLaws.{AreWords, texts_at}
@@ -10,8 +10,7 @@ use Rattle.word_filter.proofs.put_words.Given as goal
 abbrev pub invariant-loop-start : goal.invariant-loop-start
 invariant-loop-start l = record {
   words : AreWords l.value l.start-iterator;
-  so_far : fold (insert_key bytes_cmp) (map (λ t. t.now) l.all.keys) (texts_at l.value l.start-iterator)
-      ≡ put_words (map (λ t. t.now) l.initial.all.keys) l.value;
-  rising : IsRising (map (λ t. t.now) l.all.keys);
+  so_far : fold (insert_key bytes_cmp) (distinct (map (λ t. t.now) l.all.keys)) (texts_at l.value l.start-iterator)
+      ≡ put_words (distinct (map (λ t. t.now) l.initial.all.keys)) l.value;
   recent : list_all (is_there (map (λ t. t.now) l.all.keys)) l.recent ≡ true;
 }
