@@ -62,7 +62,7 @@ pub(crate) fn value_at(cells: &Cells, i: usize) -> Value<'_>
 }
 
 /// The text that the code of a row stands for.
-fn coded<'a>(texts: &'a [Text], codes: &[u8], i: usize) -> &'a str
+pub(crate) fn coded<'a>(texts: &'a [Text], codes: &[u8], i: usize) -> &'a str
     requires codes { list_all (λ code. nat_lt code (length texts.now)) codes.now ≡ true }
     requires within { i < length codes.now }
     ensures { slice_get (map (text_at texts.now) codes.now) i ≡ Some result.now }

@@ -1,17 +1,21 @@
 //! Columns.
 
 ghost use Rattle.std.specs.Prelude.{◌≡◌, ◌<◌, ◌^◌, ◌++◌, IfErr, IfOk, List, Ok, OnOk, Some, length, map, slice_get};
-ghost use Rattle.std.specs.Prelude.{sum_by, ℕ};
+ghost use Rattle.std.specs.Prelude.{IfSome, sum_by, true, ℕ};
+ghost use Rattle.std.specs.List.{list_all};
+ghost use Rattle.std.specs.Str.{is_utf8};
 ghost use Rattle.byte_format.specs.Format.{front};
 ghost use Rattle.byte_format.specs.Gives.{Gives};
 ghost use Rattle.byte_format.specs.Spelling.{reading};
 ghost use Rattle.col_codec.specs.Answers.{AnswersAs, IsPlaceOf};
 ghost use Rattle.block_column.specs.Body.{body, column, column_spelling, column_writing};
 ghost use Rattle.block_column.specs.Kinds.{body_of, code_of_kind, kind_of};
+ghost use Rattle.block_column.specs.Lengths.{HasLengths};
 ghost use Rattle.block_column.specs.Members.{HaveSameTexts, decimals_of};
 ghost use Rattle.block_column.specs.Values.{value_text};
 
 use crate::cells::{Cells, kind_of, len_of, value_at};
+use crate::found::{Lengths, column_of};
 use crate::kinds::first_kind;
 use crate::members::{decimals_of, members_of};
 use crate::put::put_cells;
@@ -174,6 +178,17 @@ impl FoundColumn {
     {
         let (cells, rest) = take_cells(alloc, rows, kind, bytes)?;
         Ok((FoundColumn { cells }, rest))
+    }
+
+    /// The same values in the first kind that fits, and how long they are, unless they are too long together. All are in
+    /// UTF-8.
+    pub fn to_column(&self, alloc: Global) -> Result<Option<(ValueColumn, Lengths)>, AllocError>
+        ensures column { IfOk result (λ found. IfSome found (λ x. x.0 ≡ self.now)) }
+        ensures lengths { IfOk result (λ found. IfSome found (λ x. HasLengths x.1 self.now)) }
+        ensures texts { IfOk result (λ found. IfSome found (λ x. list_all is_utf8 self.now ≡ true)) }
+        ensures small { IfOk result (λ found. IfSome found (λ x. sum_by length self.now < 2 ^ 32)) }
+    {
+        column_of(alloc, &self.cells)
     }
 
     /// How many rows there are.

@@ -5,6 +5,7 @@
 mod cells;
 mod codes;
 mod column;
+mod found;
 mod kinds;
 mod members;
 mod put;
@@ -13,5 +14,6 @@ mod recent;
 mod take;
 
 pub use column::{FoundColumn, Value, ValueColumn};
+pub use found::Lengths;
 pub use recent::Recent;
 pub use take::take_kind;

@@ -73,7 +73,7 @@ fn one(alloc: Global, text: &str) -> Result<Vec<&str>, AllocError>
     Ok(texts)
 }
 
-fn lent(alloc: Global, texts: &[Text]) -> Result<Vec<&str>, AllocError>
+pub(crate) fn lent(alloc: Global, texts: &[Text]) -> Result<Vec<&str>, AllocError>
     ensures { IfOk result (λ lent. map (λ t. t.now) lent.items ≡ texts.now) }
 {
     let mut lent = Vec::with_capacity(alloc, texts.len())?;
@@ -83,7 +83,7 @@ fn lent(alloc: Global, texts: &[Text]) -> Result<Vec<&str>, AllocError>
     Ok(lent)
 }
 
-fn each_of(alloc: Global, texts: &TextColumn) -> Result<Vec<&str>, AllocError>
+pub(crate) fn each_of(alloc: Global, texts: &TextColumn) -> Result<Vec<&str>, AllocError>
     ensures { IfOk result (λ lent. map (λ t. t.now) lent.items ≡ texts.now) }
 {
     let mut lent = Vec::with_capacity(alloc, texts.len())?;

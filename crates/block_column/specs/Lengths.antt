@@ -1,0 +1,17 @@
+-- How long values are.
+use Rattle.std.specs.Prelude.{◌≡◌, ℕ, ◌<◌, Bool, max, not, List, length, map, nat_lt}
+use Rattle.std.specs.List.{fold, list_all, list_any}
+use Rattle.log_model.specs.Field.{is_empty}
+use Rattle.block_column.specs.declared.found.Lengths.{Lengths}
+
+abbrev pub has_text : List ℕ → Bool
+has_text value = nat_lt 0 (length value)
+
+-- the bytes of the longest
+unfoldable pub longest_of : List (List ℕ) → ℕ
+longest_of values = fold (λ most value. max most (length value)) 0 values
+
+pub record HasLengths (lengths : Lengths) (values : List (List ℕ)) : Type 0 where
+  pub longest : lengths.longest ≡ longest_of values
+  pub some : lengths.some ≡ list_any has_text values
+  pub all : lengths.all ≡ list_all has_text values
