@@ -10,3 +10,5 @@ pub mod SaidLaws
 pub mod ReadAgain
 pub mod SpanLaws
 pub mod StreamLaws
+mod FoundLaws
+mod QuickLaws

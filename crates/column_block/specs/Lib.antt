@@ -3,5 +3,6 @@ pub mod Outlines
 pub mod Rows
 pub mod Held
 pub mod Spelling
+pub mod Quick
 pub mod Reading
 pub mod Answers

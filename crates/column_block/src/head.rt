@@ -4,6 +4,7 @@ ghost use Rattle.std.specs.Prelude.{◌≡◌, ◌<◌, ◌≤◌, ◌^◌, IfOk
 ghost use Rattle.log_model.specs.Row.{IsRow};
 ghost use Rattle.log_model.specs.Stream.{label_text, stream_id};
 ghost use Rattle.column_block.specs.Outlines.{outline_of};
+ghost use Rattle.column_block.specs.Quick.{plain_outline};
 
 use std::alloc::{AllocError, Global};
 use std::marker::Model;
@@ -117,6 +118,32 @@ impl Head {
             min: first.row.time(),
             max: last.row.time(),
             rows: rows.len(),
+            columns,
+        })
+    }
+
+    /// The head of a block of so many rows in the stream without labels, which has these columns.
+    pub(crate) fn plain(
+        alloc: Global,
+        first: i64,
+        last: i64,
+        rows: usize,
+        columns: Vec<ColumnHead>,
+    ) -> Result<Head, AllocError>
+        ensures { IfOk result (λ head. head ≡ plain_outline first last rows columns.items) }
+    {
+        let stream = Stream::new(alloc);
+        let mut text = Text::new();
+        label_text(alloc, &stream, &mut text)?;
+        let mut id = Text::new();
+        stream_id(alloc, &stream, &mut id)?;
+        Ok(Head {
+            stream,
+            label_text: text,
+            stream_id: id,
+            min: first,
+            max: last,
+            rows,
             columns,
         })
     }

@@ -1,15 +1,19 @@
 //! Reading blocks.
 
-ghost use Rattle.std.specs.Prelude.{◌≡◌, Ok, Some};
+ghost use Rattle.std.specs.Prelude.{◌≡◌, Ok, Some, length};
+ghost use Rattle.std.specs.List.{All};
+ghost use Rattle.block_parts.specs.Columns.{HasRows};
+ghost use Rattle.block_parts.specs.Parts.{parts as part_items};
 ghost use Rattle.byte_format.specs.Format.{whole};
 ghost use Rattle.byte_format.specs.Gives.{Gives};
 ghost use Rattle.byte_format.specs.Spelling.{reading};
 ghost use Rattle.column_block.specs.Reading.{block, block_writing};
 
 use crate::block::Block;
+use crate::quick::{are_same, quick_block};
 use crate::rules::is_block;
 use crate::said::rows_said;
-use block_parts::take_parts;
+use block_parts::{Parts, take_parts};
 use byte_format::{Stop, first_difference};
 use std::alloc::Global;
 
@@ -18,7 +22,19 @@ pub(crate) fn read(alloc: Global, bytes: &[u8]) -> Result<Block, Stop>
     ensures { Gives (λ rows. rows) result (reading block block_writing bytes.now) }
 {
     let parts = take_parts(alloc, bytes)?;
-    let Some(rows) = rows_said(alloc, &parts)? else {
+    match quick_block(alloc, bytes, &parts)? {
+        Some(made) => Ok(made),
+        None => read_slowly(alloc, bytes, &parts),
+    }
+}
+
+/// The block whose spelling the bytes are, by the rows that its parts say.
+fn read_slowly(alloc: Global, bytes: &[u8], parts: &Parts) -> Result<Block, Stop>
+    requires parts { whole part_items bytes.now ≡ Ok parts.now }
+    requires rows { All (HasRows (length parts.now.keys)) parts.now.columns }
+    ensures { Gives (λ rows. rows) result (reading block block_writing bytes.now) }
+{
+    let Some(rows) = rows_said(alloc, parts)? else {
         return Err(Stop::Left(bytes.len()));
     };
     if !is_block(alloc, rows.as_slice())? {
@@ -36,6 +52,9 @@ fn compared(alloc: Global, bytes: &[u8], held: Block, spelling: &[u8]) -> Result
     requires written { block_writing held ≡ Some spelling.now }
     ensures { Gives (λ rows. rows) result (reading block block_writing bytes.now) }
 {
+    if are_same(bytes, spelling) {
+        return Ok(held);
+    }
     match first_difference(bytes, spelling) {
         None => Ok(held),
         Some(d) => match take_parts(alloc, &bytes[..d]) {

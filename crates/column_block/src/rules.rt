@@ -19,7 +19,7 @@ pub(crate) const MAX_ROWS: usize = 4_096;
 const MAX_COLUMNS: usize = 2_000;
 
 /// The most cells of a block: rows times columns.
-const MAX_CELLS: usize = 1_048_576;
+pub(crate) const MAX_CELLS: usize = 1_048_576;
 
 /// Whether the rows make up a block, so that `Block::try_of` may be called: they are of one stream, in order of time,
 /// batch and place, with each number once; there are 1 to 4,096 rows, at most 2,000 columns, and at most 1,048,576
@@ -92,7 +92,7 @@ fn are_numbered_apart(alloc: Global, rows: &[Numbered]) -> Result<bool, AllocErr
 }
 
 /// Whether no number in order is there twice.
-fn are_rising(numbers: &[(u64, u32)]) -> bool
+pub(crate) fn are_rising(numbers: &[(u64, u32)]) -> bool
     requires { IsSorted number_cmp numbers.now }
     ensures { IsTrue result ↔ IsStrictlySortedBy number_cmp numbers.now }
 {

@@ -61,11 +61,11 @@ AreListed fields names = AllByRecursion (λ (field : Field). list_any (bytes_eq 
 abbrev pub value_named : List Field → List ℕ → Field
 value_named fields name = (name, field_value fields name)
 
-no-value : (fields : List Field) (name : List ℕ) → Above name (keys_of fields) → field_value fields name ≡ []
+pub no-value : (fields : List Field) (name : List ℕ) → Above name (keys_of fields) → field_value fields name ≡ []
 no-value [] name a = refl
 no-value (f ∷ fs) name a = rw (apart name f.0 a.0) (no-value fs name a.1)
 
-values-behind : (f : Field) (fs : List Field) (names : List (List ℕ)) → Above f.0 names
+pub values-behind : (f : Field) (fs : List Field) (names : List (List ℕ)) → Above f.0 names
     → map (value_named (f ∷ fs)) names ≡ map (value_named fs) names
 values-behind f fs [] a = refl
 values-behind f fs (n ∷ ns) a =

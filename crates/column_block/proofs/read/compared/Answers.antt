@@ -1,11 +1,11 @@
-use Rattle.std.proofs.Common.{◌≡◌, ◌∙◌, Err, List, Ok, Result, ap, arith, take, ℕ}
+use Rattle.std.proofs.Common.{◌≡◌, ◌∙◌, Err, List, Ok, Result, Some, ap, arith, sym, take, ℕ}
 use Rattle.std.proofs.lemmas.List.{length-take}
 use Rattle.block_parts.specs.Found.{Found}
 use Rattle.block_parts.specs.Parts.{parts}
 use Rattle.byte_format.specs.Format.{whole, ◌>>=◌}
 use Rattle.byte_format.proofs.Cuts.{no_cut}
 use Rattle.byte_format.proofs.Damage.{bad-at, stops-left}
-use Rattle.byte_format.proofs.Spellings.{equal-spelling, other-spelling}
+use Rattle.byte_format.proofs.Spellings.{equal-spelling, other-spelling, reading-only}
 use Rattle.log_model.specs.History.{Numbered}
 use Rattle.column_block.specs.Reading.{block, block_writing, rows_said}
 use Rattle.column_block.proofs.ReadAgain.{is_read_again, whole-block}
@@ -20,6 +20,11 @@ cut-ok bytes found e = whole-block bytes ∙ ap (λ (r : Result Found ℕ). r >>
 
 cut-err : (bytes : List ℕ) (left : ℕ) → whole parts bytes ≡ Err left → whole block bytes ≡ Err left
 cut-err bytes left e = whole-block bytes ∙ ap (λ (r : Result Found ℕ). r >>= said) e
+
+pub returns-then-are_same : goal.returns-then-are_same
+returns-then-are_same c =
+    reading-only block block_writing c.args.bytes.now c.args.held is_read_again (c.requires.written
+    ∙ ap (λ (l : List ℕ). Some l) (sym (c.are_same.ensures c.if-are_same.true)))
 
 pub returns-in-None : goal.returns-in-None
 returns-in-None c =

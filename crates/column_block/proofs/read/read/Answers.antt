@@ -19,49 +19,14 @@ use Rattle.column_block.proofs.read.read.Goals as goal
 abbrev said : Found → Result (List Numbered) ℕ
 said found = Ok (rows_said found)
 
-whole-said : (bytes : List ℕ) (found : Found) → whole parts bytes ≡ Ok found → whole block bytes ≡ Ok (rows_said found)
-whole-said bytes found e = whole-block bytes ∙ ap (λ (r : Result Found ℕ). r >>= said) e
-
 -- where the parts are damaged, the block is
 stops-reading : (e : Stop) (bytes : List ℕ) → Stops e (whole parts bytes) → Stops e (reading block block_writing bytes)
 stops-reading stops.Memory bytes s = tt
 stops-reading (stops.Left left) bytes s =
     not-whole block block_writing bytes left (whole-block bytes ∙ ap (λ (r : Result Found ℕ). r >>= said) s)
 
-no-block : (bytes : List ℕ) (found : Found) → whole parts bytes ≡ Ok found → has_spelling (rows_said found) ≡ false
-    → reading block block_writing bytes ≡ Err (length bytes)
-no-block bytes found e none =
-    no-spelling block block_writing bytes (rows_said found) (whole-said bytes found e) (is-none (rows_said found) none)
-
 pub returns-in_err-parts : goal.returns-in_err-parts
 returns-in_err-parts c =
     let p = err_from_is_err_and c.from_residual.result c.from_residual.ensures.1 in
     rw (p.1, p.2) (stops-reading c.in_err-parts.field-0.0 c.args.bytes.now c.in_err-parts.ensures.value)
 
-pub returns-in_default : goal.returns-in_default
-returns-in_default c =
-    let none = (rw c.in_default.is at c.in_ok-rows.ensures) in
-    no-block c.args.bytes.now c.in_ok-parts.parts c.in_ok-parts.ensures.value none
-
-pub returns-then-not-branch : goal.returns-then-not-branch
-returns-then-not-branch c =
-    let said = (rw c.in-Some.is at c.in_ok-rows.ensures) in
-    let same : c.as_slice.result.now ≡ rows_said c.in_ok-parts.parts = c.as_slice.ensures.value ∙ said in
-    no-block c.args.bytes.now c.in_ok-parts.parts c.in_ok-parts.ensures.value (ap has_spelling (sym same)
-    ∙ not-block c.as_slice.result.now (λ b. both_ways c.in_ok-is_block.field-0 c.if-not-branch.true
-    (c.in_ok-is_block.ensures.1 b)))
-
-pub compared-requires-clause-whole : goal.compared-requires-clause-whole
-compared-requires-clause-whole c =
-    let said = (rw c.in-Some.is at c.in_ok-rows.ensures) in
-    whole-said c.args.bytes.now c.in_ok-parts.parts c.in_ok-parts.ensures.value
-    ∙ ap (λ (l : List Numbered). Ok l) (sym (c.in_ok-block.ensures.rows ∙ c.as_slice-2.ensures.value ∙ said))
-
-pub compared-requires-clause-written : goal.compared-requires-clause-written
-compared-requires-clause-written c =
-    c.in_ok-spelling.ensures.written ∙ ap (λ (l : List ℕ). Some l) (sym c.as_slice-3.ensures.value)
-
-pub try_of-requires : goal.try_of-requires
-try_of-requires c =
-    subst IsBlock (c.as_slice.ensures.value ∙ sym c.as_slice-2.ensures.value) (c.in_ok-is_block.ensures.0
-    c.if-not-branch.false)
