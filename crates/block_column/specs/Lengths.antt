@@ -1,7 +1,6 @@
 -- How long values are.
-use Rattle.std.specs.Prelude.{◌≡◌, ℕ, ◌<◌, Bool, max, not, List, length, map, nat_lt}
+use Rattle.std.specs.Prelude.{◌≡◌, ℕ, Bool, max, List, length, nat_lt}
 use Rattle.std.specs.List.{fold, list_all, list_any}
-use Rattle.log_model.specs.Field.{is_empty}
 use Rattle.block_column.specs.declared.found.Lengths.{Lengths}
 
 abbrev pub has_text : List ℕ → Bool

@@ -7,8 +7,8 @@ ghost use Rattle.std.specs.List.Sorted.{IsStrictlySortedBy};
 ghost use Rattle.log_model.specs.Field.{bytes_cmp};
 ghost use Rattle.block_column.specs.Kinds.{code_of, distinct, fits_dictionary, is_listed, is_short};
 
-use std::alloc::{AllocError, Global};
 use crate::recent::{Recent, SLOTS, slot_of};
+use std::alloc::{AllocError, Global};
 use std::collections::BTreeSet;
 use vl_row::Text;
 

@@ -1,4 +1,4 @@
-use Rattle.std.proofs.Common.{◌≡◌, ◌∙◌, ◌++◌, ◌∷◌, ◌<◌, ℕ, List, [], Bor, ◌+◌, ap, length, map, sym, take, rules}
+use Rattle.std.proofs.Common.{◌∙◌, ◌++◌, ◌∷◌, ◌<◌, ℕ, List, [], Bor, ◌+◌, ap, length, map, sym, rules}
 use Rattle.std.proofs.lemmas.List.{length-map, map-append, take-map}
 use Rattle.block_column.specs.Cells.{text_at}
 use Rattle.block_column.proofs.Whole.{one-more}
