@@ -1,32 +1,24 @@
 -- The rows that columns say, where each column has a name of its own and a value in some row.
-use Rattle.std.proofs.Common.{◌≡◌, ℕ, ℤ, zero, suc, pos, negsuc, ◌+◌, ◌*◌, ◌<◌, ◌≤◌, ◌^◌, Bool, true, false, cond, leb, ltb}
-use Rattle.std.proofs.Common.{List, [], ◌∷◌, ◌++◌, length, map, drop, get_or, FitsSigned, refl, sym, ap, subst, ◌∙◌}
-use Rattle.std.proofs.Common.{arith, w64, inl, inr}
-use Rattle.std.specs.Prelude.{◌&&◌, ◌||◌, bytes_eq, int_lt, not, sum_by, unsigned_abs}
+use Rattle.std.proofs.Common.{◌≡◌, ℕ, zero, suc, ◌+◌, ◌<◌, Bool, true, false, cond}
+use Rattle.std.proofs.Common.{List, [], ◌∷◌, length, map, drop, get_or, refl, sym, ap, subst, ◌∙◌}
+use Rattle.std.proofs.Common.{arith}
+use Rattle.std.specs.Prelude.{◌||◌, bytes_eq}
 use Rattle.std.specs.List.{AllByRecursion, flat_map, list_all, list_any}
 use Rattle.std.specs.List.Sorted.{IsStrictlySortedBy}
 use Rattle.std.specs.Map.{keys_of as names_in_order}
-use Rattle.std.specs.Str.{is_utf8}
-use Rattle.std.proofs.lemmas.Bool.{cases_Bool, ltb-true}
-use Rattle.std.proofs.lemmas.Int.{ints}
+use Rattle.std.proofs.lemmas.Bool.{ltb-true}
 use Rattle.std.proofs.lemmas.List.{drop_all, drop_more}
 use Rattle.std.proofs.lemmas.List.Concat.{flat_map-cons}
 use Rattle.std.proofs.lemmas.List.Folds.{list_any-append}
-use Rattle.std.proofs.lemmas.List.Sums.{sum_by-cons}
 use Rattle.std.proofs.lemmas.Map.Keys.{sorted_head, sorted_tail}
 use Rattle.std.proofs.lemmas.Slice.Eq.{bytes_eq-Decides}
-use Rattle.block_column.specs.Kinds.{distinct, is_listed}
-use Rattle.block_column.specs.Members.{HaveSameTexts}
+use Rattle.block_column.specs.Kinds.{is_listed}
 use Rattle.block_column.proofs.Distinct.{itself, right_true}
 use Rattle.block_column.proofs.Rising.{distinct-rising}
 use Rattle.block_column.proofs.Same.{distinct-listed, same-rising}
-use Rattle.byte_format.proofs.Cases.{both_true}
-use Rattle.log_model.specs.Field.{Field, IsFieldList, bytes_cmp, field_value, is_empty, is_filled, is_reserved, set_all, weight}
+use Rattle.log_model.specs.Field.{Field, bytes_cmp, field_value, is_empty, is_filled, set_all}
 use Rattle.log_model.specs.History.{Numbered}
-use Rattle.log_model.specs.Row.{IsRow}
 use Rattle.row_columns.specs.Columns.{Column, fields_at, names_in, names_of, row_of, rows_from, values_of}
-use Rattle.row_columns.specs.Keys.{IsNumbered, key_of, keys_of}
-use Rattle.row_columns.specs.Texts.{is_text_field, is_text_row}
 use Rattle.row_columns.specs.declared.keys.Key.{Key}
 use Rattle.row_columns.proofs.FieldLaws.{Above, AreListed, IsRising, no-value, set-again, value_named, values-behind}
 use Rattle.row_columns.proofs.RowLaws.{none-below}

@@ -1,7 +1,7 @@
 -- Keys and columns that are quickly seen to be those of a block are held as its rows.
-use Rattle.std.proofs.Common.{◌≡◌, ℕ, ℤ, zero, suc, pos, negsuc, ◌+◌, ◌-◌, ◌*◌, ◌<◌, ◌≤◌, ◌^◌, Bool, true, false, cond}
+use Rattle.std.proofs.Common.{◌≡◌, ℕ, ℤ, zero, suc, pos, negsuc, ◌+◌, ◌-◌, ◌<◌, ◌≤◌, ◌^◌, Bool, true, false, cond}
 use Rattle.std.proofs.Common.{leb, List, [], ◌∷◌, length, map, get_or, max, FitsSigned, w64, refl, sym, ap, subst, ◌∙◌, arith}
-use Rattle.std.specs.Prelude.{◌&&◌, ◌||◌, int_lt, not, sum_by, unsigned_abs}
+use Rattle.std.specs.Prelude.{◌&&◌, ◌||◌, int_lt, not, unsigned_abs}
 use Rattle.std.specs.List.{All, AllByRecursion, fold, list_all, list_any}
 use Rattle.std.specs.List.Sorted.{IsStrictlySortedBy}
 use Rattle.std.specs.Str.{is_utf8}
@@ -13,7 +13,7 @@ use Rattle.std.proofs.lemmas.Str.{IsUtf8-nil, is_utf8-from_IsUtf8}
 use Rattle.block_column.specs.Lengths.{has_text, longest_of}
 use Rattle.block_parts.specs.Columns.{HasRows}
 use Rattle.byte_format.proofs.Cases.{both_true}
-use Rattle.log_model.specs.Field.{Field, IsFieldList, is_empty, is_filled, is_reserved, weight}
+use Rattle.log_model.specs.Field.{Field, IsFieldList, is_empty, is_reserved, weight}
 use Rattle.log_model.specs.History.{Numbered}
 use Rattle.row_columns.specs.Columns.{Column, fields_at, names_of, row_of, rows_from, values_of}
 use Rattle.row_columns.specs.Keys.{IsNumbered, keys_of}
@@ -24,7 +24,7 @@ use Rattle.word_filter.specs.Words.{filter_of}
 use Rattle.column_block.specs.Held.{IsHeld, rows_in}
 use Rattle.column_block.specs.Outline.{NamedFilter, Outline}
 use Rattle.column_block.specs.Outlines.{filter_named, first_moment, labels_of, last_moment, outline_of}
-use Rattle.column_block.specs.Quick.{AreBlockKeys, AreFew, AreFilled, AreGoodNames, IsFilled, IsFitKey, bare, column_names}
+use Rattle.column_block.specs.Quick.{AreBlockKeys, AreFew, AreFilled, AreGoodNames, IsFilled, IsFitKey, column_names}
 use Rattle.column_block.specs.Quick.{contents, filter_for, is_full, number_in, plain_outline, reach}
 use Rattle.column_block.specs.Rows.{IsBlock, are_numbered_apart, are_ordered, comes_before, has_other_number, number_of}
 use Rattle.column_block.proofs.FoundLaws.{HasSome, HaveLength, fields-are, filled-filled, filled-pass, filled-rising}

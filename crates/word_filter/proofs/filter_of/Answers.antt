@@ -1,10 +1,9 @@
-use Rattle.std.proofs.Common.{◌≡◌, ◌∙◌, ℕ, List, [], Bor, length, map, arith, ap, sym}
+use Rattle.std.proofs.Common.{◌≡◌, ◌∙◌, ℕ, List, [], Bor, length, map, arith, ap}
 use Rattle.std.specs.HashSet.{keys}
 use Rattle.std.specs.List.{fold}
 use Rattle.std.proofs.lemmas.List.{length-map}
 use Rattle.block_column.specs.Kinds.{distinct}
 use Rattle.token_bloom.specs.Filter.{empty_filter, with_word}
-use Rattle.word_filter.specs.Words.{filter_of}
 use Rattle.word_filter.proofs.FilterLaws.{small-filter}
 use Rattle.word_filter.proofs.Kept.{leaves_none_out}
 use Rattle.word_filter.proofs.Sets.{set-added, text_of}

@@ -1,5 +1,4 @@
-use Rattle.std.proofs.Common.{◌≡◌, ◌∙◌, ℕ, List, Bor, ap, map}
-use Rattle.block_column.specs.Members.{HaveSameTexts}
+use Rattle.std.proofs.Common.{◌∙◌, ℕ, List, Bor, ap, map}
 use Rattle.word_filter.specs.Words.{filter_of}
 use Rattle.word_filter.proofs.Kept.{leaves_none_out}
 use Rattle.word_filter.proofs.Sets.{same-filter, text_of}

@@ -1,7 +1,6 @@
-use Rattle.std.proofs.Common.{◌≡◌, ◌-◌, ◌∙◌, ℕ, ℤ, List, pos, ap, arith, get_or, length, map, of_z, sym, to_z, w64}
+use Rattle.std.proofs.Common.{◌≡◌, ◌-◌, ◌∙◌, ℕ, ℤ, pos, ap, arith, get_or, length, map, of_z, to_z, w64}
 use Rattle.std.proofs.lemmas.Int.{to_z-of_z}
 use Rattle.row_columns.specs.declared.keys.Key.{Key}
-use Rattle.column_block.specs.Outline.{NamedFilter}
 use Rattle.column_block.specs.Quick.{filter_for, plain_outline}
 use Rattle.column_block.proofs.QuickLaws.{all-lengths, fit-time, quick-held}
 use Rattle.column_block.proofs.quick.made_of.Goals as goal

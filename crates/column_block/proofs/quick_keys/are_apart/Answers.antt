@@ -6,6 +6,8 @@ use Rattle.column_block.proofs.quick_keys.are_apart.Goals as goal
 
 pub returns : goal.returns
 returns c =
-    apart-is c.are_rising-apart.result (bare c.args.keys.now) c.as_slice.result.now (rw (c.as_slice.ensures.value,
-    numbers-bare 0 c.args.keys.now ∙ sym c.in_ok-numbers.ensures) c.sorted-sorted.ensures.same) (rw
+    apart-is c.are_rising-apart.result (bare c.args.keys.now) c.as_slice.result.now (rw (
+      c.as_slice.ensures.value,
+      numbers-bare 0 c.args.keys.now ∙ sym c.in_ok-numbers.ensures,
+    ) c.sorted-sorted.ensures.same) (rw
     c.as_slice.ensures.value c.sorted-sorted.ensures.sorted) c.are_rising-apart.ensures

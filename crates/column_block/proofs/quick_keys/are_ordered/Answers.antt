@@ -18,8 +18,12 @@ bare-at : (keys : List Key) (i : ℕ) (d : Key) → 1 ≤ i → i < length keys
 bare-at keys i d some lt =
     let a : Numbered = alone (get_or keys (i - 1) d) in
     let b : Numbered = alone (get_or keys i d) in
-    ordered-at (bare keys) i (alone (get_or keys (i - 1) d)) (alone (get_or keys i d)) some (omega (arith, rows-length []
-    [] keys, lt)) (sym (row-at [] [] keys (i - 1) d (alone (get_or keys (i - 1) d)) (omega (arith, lt)))) (sym (row-at []
+    ordered-at (bare keys) i (alone (get_or keys (i - 1) d)) (alone (get_or keys i d)) some (omega (
+      arith,
+      rows-length []
+          [] keys,
+      lt,
+    )) (sym (row-at [] [] keys (i - 1) d (alone (get_or keys (i - 1) d)) (omega (arith, lt)))) (sym (row-at []
     [] keys i d (alone (get_or keys i d)) lt))
 
 pub returns-then-not-comes_before : goal.returns-then-not-comes_before

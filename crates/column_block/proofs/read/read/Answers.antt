@@ -1,5 +1,4 @@
-use Rattle.std.proofs.Common.{◌≡◌, ◌∙◌, Err, length, List, Ok, Result, Some, ap, false, subst, sym, ℕ}
-use Rattle.std.proofs.lemmas.Bool.{both_ways}
+use Rattle.std.proofs.Common.{◌∙◌, List, Ok, Result, ap, ℕ}
 use Rattle.std.proofs.lemmas.Result.{err_from_is_err_and}
 use Rattle.block_parts.specs.Found.{Found}
 use Rattle.block_parts.specs.Parts.{parts}
@@ -8,12 +7,10 @@ use Rattle.byte_format.specs.Gives.{Stops}
 use Rattle.byte_format.specs.Spelling.{reading}
 use Rattle.byte_format.specs.declared.Stop.{Stop}
 use Rattle.byte_format.specs.declared.Stop.TheVariants as stops
-use Rattle.byte_format.proofs.Spellings.{no-spelling, not-whole}
+use Rattle.byte_format.proofs.Spellings.{not-whole}
 use Rattle.log_model.specs.History.{Numbered}
-use Rattle.column_block.specs.Reading.{block, block_writing, has_spelling, rows_said}
-use Rattle.column_block.specs.Rows.{IsBlock}
-use Rattle.column_block.proofs.ReadAgain.{is-none, whole-block}
-use Rattle.column_block.proofs.TestLaws.{not-block}
+use Rattle.column_block.specs.Reading.{block, block_writing, rows_said}
+use Rattle.column_block.proofs.ReadAgain.{whole-block}
 use Rattle.column_block.proofs.read.read.Goals as goal
 
 abbrev said : Found → Result (List Numbered) ℕ
@@ -29,4 +26,3 @@ pub returns-in_err-parts : goal.returns-in_err-parts
 returns-in_err-parts c =
     let p = err_from_is_err_and c.from_residual.result c.from_residual.ensures.1 in
     rw (p.1, p.2) (stops-reading c.in_err-parts.field-0.0 c.args.bytes.now c.in_err-parts.ensures.value)
-

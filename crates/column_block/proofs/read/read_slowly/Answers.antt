@@ -1,14 +1,10 @@
 use Rattle.std.proofs.Common.{◌≡◌, ◌∙◌, Err, length, List, Ok, Result, Some, ap, false, subst, sym, ℕ}
 use Rattle.std.proofs.lemmas.Bool.{both_ways}
-use Rattle.std.proofs.lemmas.Result.{err_from_is_err_and}
 use Rattle.block_parts.specs.Found.{Found}
 use Rattle.block_parts.specs.Parts.{parts}
 use Rattle.byte_format.specs.Format.{whole, ◌>>=◌}
-use Rattle.byte_format.specs.Gives.{Stops}
 use Rattle.byte_format.specs.Spelling.{reading}
-use Rattle.byte_format.specs.declared.Stop.{Stop}
-use Rattle.byte_format.specs.declared.Stop.TheVariants as stops
-use Rattle.byte_format.proofs.Spellings.{no-spelling, not-whole}
+use Rattle.byte_format.proofs.Spellings.{no-spelling}
 use Rattle.log_model.specs.History.{Numbered}
 use Rattle.column_block.specs.Reading.{block, block_writing, has_spelling, rows_said}
 use Rattle.column_block.specs.Rows.{IsBlock}

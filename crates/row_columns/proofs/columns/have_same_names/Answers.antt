@@ -1,6 +1,5 @@
-use Rattle.std.proofs.Common.{◌≡◌, ◌∙◌, ◌<◌, length, true, rules, sym, ap}
+use Rattle.std.proofs.Common.{◌≡◌, ◌∙◌, ◌<◌, length, true, rules, sym}
 use Rattle.std.proofs.lemmas.Slice.Eq.{bytes_eq-Decides}
-use Rattle.log_model.specs.Field.{Field}
 use Rattle.row_columns.specs.Texts.{is_text_field}
 use Rattle.row_columns.proofs.NameLaws.{same-more}
 use Rattle.row_columns.proofs.TextLaws.{passes-more}

@@ -1,4 +1,4 @@
-use Rattle.std.proofs.Common.{◌≡◌, map, take, true}
+use Rattle.std.proofs.Common.{◌≡◌, take, true}
 use Rattle.std.specs.List.{list_all}
 use Rattle.row_columns.specs.Columns.{names_in}
 use Rattle.row_columns.specs.Texts.{is_text_field}

@@ -1,5 +1,4 @@
-use Rattle.std.proofs.Common.{◌≡◌, ◌∙◌, ℕ, List, Bor, ap, map, sym, take, rules}
-use Rattle.log_model.specs.Field.{Field}
+use Rattle.std.proofs.Common.{◌≡◌, ◌∙◌, ℕ, List, Bor, ap, sym, take, rules}
 use Rattle.row_columns.specs.Columns.{names_of, put_names}
 use Rattle.row_columns.specs.Texts.{is_text_row}
 use Rattle.row_columns.proofs.NameLaws.{names-again, names-more, names-rising}
