@@ -180,8 +180,8 @@ impl FoundColumn {
         Ok((FoundColumn { cells }, rest))
     }
 
-    /// The same values in the first kind that fits, and how long they are, unless they are too long together. All are in
-    /// UTF-8.
+    /// The same values in the first kind that fits, and how long they are, unless they are too long together. All are
+    /// in UTF-8.
     pub fn to_column(&self, alloc: Global) -> Result<Option<(ValueColumn, Lengths)>, AllocError>
         ensures column { IfOk result (λ found. IfSome found (λ x. x.0 ≡ self.now)) }
         ensures lengths { IfOk result (λ found. IfSome found (λ x. HasLengths x.1 self.now)) }

@@ -56,8 +56,10 @@ pub fn filter_law()
 
 /// The words of the values, each once.
 fn words_of<'a>(alloc: Global, values: &[&'a str]) -> Result<HashSet<&'a str>, AllocError>
-    ensures words { IfOk result (λ words. distinct (map (λ t. t.now) (keys words)) ≡ column_words (map (λ t. t.now) values.now)) }
-    ensures few { IfOk result (λ words. length (distinct (map (λ t. t.now) (keys words))) ≤ sum_by (λ t. length t.now) values.now) }
+    ensures words { IfOk result (λ words. distinct (map (λ t. t.now) (keys words))
+        ≡ column_words (map (λ t. t.now) values.now)) }
+    ensures few { IfOk result (λ words. length (distinct (map (λ t. t.now) (keys words)))
+        ≤ sum_by (λ t. length t.now) values.now) }
 {
     let mut words = HashSet::new(alloc);
     let mut recent = Recent::new(alloc, "")?;
