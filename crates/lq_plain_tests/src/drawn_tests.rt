@@ -9,7 +9,7 @@ use vl_row::{FieldList, Items, Text};
 const NAMES: &[&str] = &["_msg", "app", "level", "ms"];
 
 /// The names of the fields that pipes ask for: also one that no record has, and one that no field can have.
-const ASKED: &[&str] = &["_msg", "app", "level", "ms", "none", ""];
+pub(crate) const ASKED: &[&str] = &["_msg", "app", "level", "ms", "none", ""];
 
 /// The values of fields: numbers and moments of all kinds, texts that are close to such, words, and no value.
 pub(crate) const VALUES: &[&str] = &[
@@ -74,6 +74,15 @@ impl Draws {
         texts[place as usize]
     }
 
+    /// A copy of one of some texts.
+    pub(crate) fn text(
+        &mut self,
+        alloc: Global,
+        texts: &[&'static str],
+    ) -> Result<Text, AllocError> {
+        Text::try_of(alloc, self.one_of(texts))
+    }
+
     /// So many records with these values. Each lacks some fields.
     pub(crate) fn records(
         &mut self,
@@ -111,7 +120,7 @@ impl Draws {
     }
 
     fn sort_key(&mut self, alloc: Global) -> Result<SortKey, AllocError> {
-        let name = Text::try_of(alloc, self.one_of(ASKED))?;
+        let name = self.text(alloc, ASKED)?;
         let desc = self.below(2) == 1;
         Ok(SortKey { name, desc })
     }
@@ -132,10 +141,10 @@ impl Draws {
     }
 
     /// Up to three names.
-    fn names(&mut self, alloc: Global) -> Result<Items<Text>, AllocError> {
+    pub(crate) fn names(&mut self, alloc: Global) -> Result<Items<Text>, AllocError> {
         let mut names = Vec::new(alloc);
         for _ in 0..self.below(4) {
-            names.push(Text::try_of(alloc, self.one_of(ASKED))?)?;
+            names.push(self.text(alloc, ASKED)?)?;
         }
         Ok(Items::of(names))
     }

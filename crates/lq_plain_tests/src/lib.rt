@@ -4,6 +4,12 @@
 #[cfg(test)]
 mod drawn_tests;
 #[cfg(test)]
+mod filter_tests;
+#[cfg(test)]
+mod filters_tests;
+#[cfg(test)]
 mod pipe_tests;
 #[cfg(test)]
 mod same_tests;
+#[cfg(test)]
+mod stats_tests;
