@@ -11,6 +11,7 @@
 
 mod answers_tests;
 mod limits_tests;
+mod no_memory_tests;
 mod sessions_tests;
 mod spelling_tests;
 
