@@ -103,13 +103,13 @@ compare '* | uniq by (host, app) with hits' \
   'mawk -F"\"" "{ n[\$12 \" \" \$16]++ } END { for (k in n) print k, n[k] }"' \
   "select j ->> 'host', j ->> 'app', count(*) from t group by 1, 2"
 compare '* | top 5 by (remote_addr)' \
-  'reduce inputs as $o ({}; .[$o.remote_addr] += 1) | to_entries | sort_by(-.value) | .[:5][] | [.key, .value] | @tsv' \
+  '' \
   'mawk -F"\"" "{ n[\$20]++ } END { for (k in n) print n[k], k }" | sort -rn | head -n 5' \
   "select j ->> 'remote_addr', count(*) from t group by 1 order by 2 desc limit 5"
 compare '* | stats by (_time:1h, app) count() as n, sum(bytes) as b, max(request_time) as m, count_uniq(remote_addr) as u' \
   '' '' \
   "select substr(j ->> '_time', 1, 13), j ->> 'app', count(*), sum(j ->> 'bytes'), max(j ->> 'request_time'), count(distinct j ->> 'remote_addr') from t group by 1, 2"
 compare '* | sort by (bytes) desc limit 10' \
-  '[inputs] | sort_by(-.bytes) | .[:10][] | tojson' \
+  '' \
   'mawk "match(\$0, /\"bytes\":[0-9]+/) { print substr(\$0, RSTART + 8, RLENGTH - 8), \$0 }" | sort -rns -k 1,1 | head -n 10' \
   "select j from t order by j ->> 'bytes' desc limit 10"
