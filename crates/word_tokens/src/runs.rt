@@ -4,6 +4,7 @@ ghost use Rattle.std.specs.List.{list_all};
 ghost use Rattle.std.specs.Iterator.{YieldsFirst, item_count};
 ghost use Rattle.word_tokens.specs.Runs.{IsBetweenWords, IsGap, IsRun, is_other_char, words_between, words_of};
 
+use crate::ascii::{ascii_gap, ascii_run};
 use crate::is_word;
 use std::marker::Model;
 
@@ -46,15 +47,30 @@ impl<'a> Iterator for Words<'a> {
     }
 }
 
-// How many bytes stand before the first word character, if there is one.
+// How many bytes stand before the first word character, if there is one. Those of ASCII are counted in bytes.
 fn gap_len(text: &str) -> Option<usize>
+    ensures { MatchOption result (list_all is_other_char (chars text.now) ≡ true) (IsGap text.now) }
+{
+    let ascii = ascii_gap(text.as_bytes());
+    let rest = char_gap(&text[ascii..])?;
+    Some(ascii + rest)
+}
+
+fn char_gap(text: &str) -> Option<usize>
     ensures { MatchOption result (list_all is_other_char (chars text.now) ≡ true) (IsGap text.now) }
 {
     text.find(is_word)
 }
 
-// How many bytes the word characters take up with which the text begins.
+// How many bytes the word characters take up with which the text begins. Those of ASCII are counted in bytes.
 fn run_len(text: &str) -> usize
+    ensures { IsRun text.now result }
+{
+    let ascii = ascii_run(text.as_bytes());
+    ascii + char_run(&text[ascii..])
+}
+
+fn char_run(text: &str) -> usize
     ensures { IsRun text.now result }
 {
     match text.find(|c| !is_word(c)) {
