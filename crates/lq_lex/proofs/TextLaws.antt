@@ -1,15 +1,16 @@
 -- How a quoted text is read run by run.
-use Rattle.std.proofs.Common.{◌≡◌, ℕ, ◌<◌, Bool, true, false, not, cond, eqb, List, [], ◌∷◌, ◌++◌, length, map, chars, IsUtf8, refl, sym, ap, ◌∙◌, subst, arith, append_assoc}
+use Rattle.std.proofs.Common.{◌≡◌, ℕ, ◌<◌, ◌≤◌, Bool, true, false, not, cond, eqb, List, [], ◌∷◌, ◌++◌, length, map, chars, IsUtf8, refl, sym, ap, ◌∙◌, subst, arith, append_assoc}
 use Rattle.std.specs.Str.{encode_utf8_all}
 use Rattle.std.specs.List.{list_all}
 use Rattle.std.proofs.lemmas.Bool.{cond-true, cond-false, and_parts, eqb-true}
 use Rattle.std.proofs.lemmas.List.{append_cancel_right, append-nil, length-append}
-use Rattle.std.proofs.lemmas.Str.{encodes-append}
+use Rattle.std.proofs.lemmas.Str.{encodes-append, length-le-encodes}
 use Rattle.lq_lex.specs.declared.token.Kind.{Kind}
 use Rattle.lq_lex.specs.declared.token.Kind.TheVariants.{Quoted}
-use Rattle.lq_lex.specs.Lexing.{Piece, plain, escape, is_raw, is_piece, is_backslash, is_escape, sources, value, escaped, IsQuoted}
+use Rattle.lq_lex.specs.Lexing.{Piece, plain, escape, is_raw, is_piece, is_backslash, is_escape, sources, value, escaped, width, IsQuoted}
 use Rattle.lq_lex.specs.Texts.{unescaped, unquoted, plain_end, content}
 use Rattle.lq_lex.proofs.Nexts.{bytes_read, not_empty, chars_empty}
+use Rattle.lq_lex.proofs.Widths.{width-chars}
 
 -- ---- the end of a run
 
@@ -161,3 +162,13 @@ values quote (escape d ∷ pieces) good =
 
 pub quoted_is : (kind : Kind) (span : List ℕ) → (q : IsQuoted (chars span)) → kind ≡ Quoted → content kind span ≡ encode_utf8_all (map value q.pieces)
 quoted_is kind span q is = ap (λ (k : Kind). content k span) is ∙ ap (λ (cs : List ℕ). encode_utf8_all (unquoted cs)) q.spelled ∙ ap encode_utf8_all (values q.quote q.pieces q.are_pieces)
+
+-- ---- the last character
+
+pub one_left : (here : List ℕ) (quote : ℕ) → IsUtf8 here → length here ≤ 1 → unescaped quote (chars here) ≡ []
+one_left here quote utf8 short = by_chars (chars here) (width-chars here utf8)
+  where
+    by_chars : (cs : List ℕ) → width cs ≡ length here → unescaped quote cs ≡ []
+    by_chars [] w = refl
+    by_chars (c ∷ []) w = refl
+    by_chars (c ∷ d ∷ ds) w = absurd (omega (arith, length-le-encodes (c ∷ d ∷ ds)))

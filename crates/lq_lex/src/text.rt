@@ -1,5 +1,5 @@
 //! The texts that tokens stand for.
-ghost use Rattle.std.specs.Prelude.{◌≡◌, ◌++◌, ◌∷◌, [], OnOk, map, chars};
+ghost use Rattle.std.specs.Prelude.{◌≡◌, ◌++◌, ◌∷◌, [], OnOk, OnErr, map, chars};
 ghost use Rattle.std.specs.Str.{encode_utf8_all};
 ghost use Rattle.lq_lex.specs.Token.{seen};
 ghost use Rattle.lq_lex.specs.Lexing.{IsQuoted, value, escaped as escaped_of};
@@ -11,9 +11,10 @@ use std::alloc::{AllocError, Global};
 use vl_row::Text;
 
 /// Appends the text that a token stands for: what stands between the marks of a quoted one, with its escapes resolved,
-/// and any other token as it is. Where memory is wanting, a part of it may have been appended.
+/// and any other token as it is. If allocation fails, `out` is unchanged.
 pub fn text_of(alloc: Global, t: &Token, out: &mut Text) -> Result<(), AllocError>
     ensures value { OnOk result (out.new ≡ out.old ++ text_of_token (seen t.now)) }
+    ensures err { OnErr result (out.new ≡ out.old) }
     ensures quoted { (quoted : IsQuoted (chars t.now.span.now)) → t.now.kind ≡ Kind.Quoted
         → text_of_token (seen t.now) ≡ encode_utf8_all (map value quoted.pieces) }
 {
@@ -23,17 +24,36 @@ pub fn text_of(alloc: Global, t: &Token, out: &mut Text) -> Result<(), AllocErro
     }
 }
 
-/// Appends what stands between the marks.
+/// Appends what stands between the marks. If allocation fails, `out` is unchanged.
 fn push_quoted(alloc: Global, span: &str, out: &mut Text) -> Result<(), AllocError>
-    ensures { OnOk result (out.new ≡ out.old ++ encode_utf8_all (unquoted (chars span.now))) }
+    ensures value { OnOk result (out.new ≡ out.old ++ encode_utf8_all (unquoted (chars span.now))) }
+    ensures err { OnErr result (out.new ≡ out.old) }
 {
     match split_first(span) {
-        Some((quote, inside)) => push_unescaped(alloc, inside, quote, out),
+        Some((quote, inside)) => push_inside(alloc, inside, quote, out),
         None => Ok(()),
     }
 }
 
-/// Appends a text up to its last character, which is the closing mark, with its escapes resolved.
+/// Appends a text up to its last character, which is the closing mark, with its escapes resolved. If allocation fails,
+/// `out` is unchanged.
+fn push_inside(alloc: Global, text: &str, quote: char, out: &mut Text) -> Result<(), AllocError>
+    ensures value { OnOk result (out.new ≡ out.old ++ encode_utf8_all (unescaped quote (chars text.now))) }
+    ensures err { OnErr result (out.new ≡ out.old) }
+{
+    let here = plain_end(text, quote);
+    if here.len() <= 1 {
+        // only the closing mark is left: nothing is escaped
+        return out.push_str(alloc, prefix(text, here));
+    }
+    // resolved apart first: a part alone never stands in `out`
+    let mut resolved = Text::new();
+    push_unescaped(alloc, text, quote, &mut resolved)?;
+    out.push_str(alloc, resolved.as_str())
+}
+
+/// Appends a text up to its last character, which is the closing mark, with its escapes resolved. Where memory
+/// is wanting, a part of it may have been appended.
 fn push_unescaped(alloc: Global, text: &str, quote: char, out: &mut Text) -> Result<(), AllocError>
     ensures { OnOk result (out.new ≡ out.old ++ encode_utf8_all (unescaped quote (chars text.now))) }
 {
