@@ -1,5 +1,5 @@
 //! Filters of records, as those in pipes (LogsQL, "filter pipe", "stats with additional filters").
-ghost use Rattle.std.specs.Prelude.{◌≡◌, ◌+◌, length, IfOk, IfErr, IsOk};
+ghost use Rattle.std.specs.Prelude.{◌≡◌, ◌+◌, length, IfOk, IfErr, IsOk, OnErr};
 ghost use Rattle.std.specs.List.{AllByRecursion};
 ghost use Rattle.lq_ast.specs.Holds.{record_holds};
 ghost use Rattle.lq_ast.specs.Patterns.{CanBeRead, patterns_of};
@@ -30,18 +30,26 @@ pub fn prepare_inner(alloc: Global, f: &Filter) -> Result<Inner, PrepareFault>
     ensures refused { IfErr result (IsRefusal 0 (patterns_of (condition f.now))) }
 {
     let mut nth = 0;
-    prepare_inner_from(alloc, f, &mut nth)
+    prepare_inner_numbered(alloc, f, &mut nth)
 }
 
-/// The same for a filter among others: its first regular expression has the number `nth`, which rises by how many it
-/// has.
-pub fn prepare_inner_from(alloc: Global, f: &Filter, nth: &mut u32) -> Result<Inner, PrepareFault>
+/// Prepares a filter that is asked of records, whose regular expressions are numbered on from `nth`: each is read, and
+/// `nth` rises by how many there are. It is prepared only where each of them can be read, and `RegexRefused` comes only
+/// where the one with that number is the first that cannot be. After a fault `nth` is as it was.
+pub fn prepare_inner_numbered(
+    alloc: Global,
+    f: &Filter,
+    nth: &mut u32,
+) -> Result<Inner, PrepareFault>
     ensures same { IfOk result (λ inner. inner_condition inner ≡ condition f.now) }
     ensures counted { IsOk result → nth.new ≡ nth.old + length (patterns_of (condition f.now)) }
+    ensures kept { OnErr result (nth.new ≡ nth.old) }
     ensures readable { IfOk result (λ _. AllByRecursion CanBeRead (patterns_of (condition f.now))) }
     ensures refused { IfErr result (IsRefusal nth.old (patterns_of (condition f.now))) }
 {
-    let filter = Tree::new(alloc, f, nth)?;
+    let mut next = *nth;
+    let filter = Tree::new(alloc, f, &mut next)?;
+    *nth = next;
     Ok(Inner { filter })
 }
 

@@ -14,5 +14,5 @@ mod tree;
 mod value;
 
 pub use fault::PrepareFault;
-pub use inner::{Inner, RecordScan, prepare_inner, prepare_inner_from};
+pub use inner::{Inner, RecordScan, prepare_inner, prepare_inner_numbered};
 pub use prepared::{Prepared, Scan, prepare};

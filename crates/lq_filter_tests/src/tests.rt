@@ -1,6 +1,6 @@
 use lq_ast::{Filter, Group, How, LabelTest, Query, Select};
 use lq_filter::{
-    Inner, PrepareFault, Prepared, RecordScan, Scan, prepare, prepare_inner, prepare_inner_from,
+    Inner, PrepareFault, Prepared, RecordScan, Scan, prepare, prepare_inner, prepare_inner_numbered,
 };
 use lq_parse::parse;
 use std::alloc::{AllocError, Global};
@@ -396,7 +396,7 @@ fn patterns_of_a_filter_of_records_count_from_0(rt: HostRuntime) -> Result<(), F
 fn number_behind(alloc: Global, text: &str, nth: u32) -> Result<u32, AllocError> {
     let query = query(alloc, text)?;
     let mut next = nth;
-    match prepare_inner_from(alloc, &query.filter, &mut next) {
+    match prepare_inner_numbered(alloc, &query.filter, &mut next) {
         Ok(_) => Ok(next),
         Err(PrepareFault::RegexRefused { nth }) => Ok(nth),
         Err(PrepareFault::Memory) => Err(AllocError),

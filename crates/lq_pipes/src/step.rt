@@ -14,7 +14,7 @@ use crate::fault::PipeFault;
 use crate::fields::{copy, delete_fields, keep_fields, rename};
 use crate::kept::{keep, limit, offset};
 use lq_ast::{Pair, Pipe, SortPipe, StatsPipe, TopPipe, UniqPipe};
-use lq_filter::{Inner, PrepareFault, prepare_inner_from};
+use lq_filter::{Inner, PrepareFault, prepare_inner_numbered};
 use lq_order::{sort_recs, top_recs, uniq_recs};
 use lq_stats::Partial;
 use std::alloc::Global;
@@ -55,8 +55,8 @@ impl<'p> Step<'p> {
             Pipe::Offset(first) => Ok(Step::Offset(*first)),
             Pipe::Sort(sort) => Ok(Step::Sort(sort)),
             Pipe::Uniq(uniq) => Ok(Step::Uniq(uniq)),
-            Pipe::Stats(stats) => Ok(Step::Stats(stats, Partial::of_from(alloc, stats, nth)?)),
-            Pipe::Keep(filter) => Ok(Step::Keep(prepare_inner_from(alloc, filter, nth)?)),
+            Pipe::Stats(stats) => Ok(Step::Stats(stats, Partial::of_numbered(alloc, stats, nth)?)),
+            Pipe::Keep(filter) => Ok(Step::Keep(prepare_inner_numbered(alloc, filter, nth)?)),
             Pipe::Top(top) => Ok(Step::Top(top)),
         }
     }

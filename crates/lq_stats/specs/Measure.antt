@@ -43,6 +43,7 @@ within_128 n =
     if int_lt n (neg_ℤ (pos (2 ^ 127))) then neg_ℤ (pos (2 ^ 127))
     else (if int_le (pos (2 ^ 127)) n then pos (2 ^ 127 - 1) else n)
 
+-- a sum with the number that one more value says, if it says one
 abbrev pub with_number : Option ℤ → List ℕ → Option ℤ
 with_number sum value =
     option_map_or (λ n. Some (within_128 (unwrap_or sum (pos 0) +ℤ n))) (number_of value) sum

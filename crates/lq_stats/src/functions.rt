@@ -12,7 +12,7 @@ ghost use Rattle.lq_stats.specs.Function.{statistic_of};
 
 use crate::function::Function;
 use lq_ast::{Filter, Func};
-use lq_filter::{Inner, PrepareFault, prepare_inner_from};
+use lq_filter::{Inner, PrepareFault, prepare_inner_numbered};
 use std::alloc::{AllocError, Global};
 use vl_row::Text;
 
@@ -63,7 +63,7 @@ fn only_of(
         (IsRefusal nth.old (option_map_or patterns_of (option_map condition only.now) [])) }
 {
     match only {
-        Some(filter) => Ok(Some(prepare_inner_from(alloc, filter, nth)?)),
+        Some(filter) => Ok(Some(prepare_inner_numbered(alloc, filter, nth)?)),
         None => Ok(None),
     }
 }

@@ -1,5 +1,5 @@
 //! Partial statistics.
-ghost use Rattle.std.specs.Prelude.{◌≡◌, ◌+◌, ◌≤◌, ◌<◌, ◌^◌, ◌++◌, [], ◌∷◌, List, length, Ok, IfOk, IfErr, IsOk, OnOk, map};
+ghost use Rattle.std.specs.Prelude.{◌≡◌, ◌+◌, ◌≤◌, ◌<◌, ◌^◌, ◌++◌, [], ◌∷◌, List, length, Ok, IfOk, IfErr, IsOk, OnOk, OnErr, map};
 ghost use Rattle.std.specs.List.{AllByRecursion};
 ghost use Rattle.lq_ast.specs.Grouping.{grouped};
 ghost use Rattle.lq_ast.specs.Patterns.{CanBeRead, patterns_of_grouping};
@@ -49,21 +49,25 @@ impl Partial {
         ensures refused { IfErr result (IsRefusal 0 (patterns_of_grouping (grouping p.now))) }
     {
         let mut nth = 0;
-        Partial::of_from(alloc, p, &mut nth)
+        Partial::of_numbered(alloc, p, &mut nth)
     }
 
-    /// The same for a pipe among others: its first regular expression has the number `nth`, which rises by how many it
-    /// has.
-    pub fn of_from(alloc: Global, p: &StatsPipe, nth: &mut u32) -> Result<Partial, PrepareFault>
+    /// The statistics of no records, where the regular expressions of the functions' conditions are numbered on from
+    /// `nth`: each is read, and `nth` rises by how many there are. `RegexRefused` comes only where the one with that
+    /// number is the first that cannot be read. After a fault `nth` is as it was.
+    pub fn of_numbered(alloc: Global, p: &StatsPipe, nth: &mut u32) -> Result<Partial, PrepareFault>
         ensures same { IfOk result (λ partial. StandsFor partial (grouping p.now) []) }
         ensures counted { IsOk result → nth.new ≡ nth.old + length (patterns_of_grouping (grouping p.now)) }
+        ensures kept { OnErr result (nth.new ≡ nth.old) }
         ensures readable { IfOk result (λ _. AllByRecursion CanBeRead (patterns_of_grouping (grouping p.now))) }
         ensures refused { IfErr result (IsRefusal nth.old (patterns_of_grouping (grouping p.now))) }
     {
-        let functions = functions(alloc, p.funcs.as_slice(), nth)?;
+        let mut next = *nth;
+        let functions = functions(alloc, p.funcs.as_slice(), &mut next)?;
         let keys = keys(alloc, p.keys.as_slice())?;
         let mut scratch = Scratch::new(alloc)?;
         let groups = groups_before(alloc, &mut scratch, keys.as_slice(), functions.as_slice())?;
+        *nth = next;
         Ok(Partial {
             keys,
             functions,
