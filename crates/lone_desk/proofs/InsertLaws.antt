@@ -16,10 +16,7 @@ module _ (caller : Caller) (alone : IsAlone caller) (old new : Seen) where
   room_behind follows room =
       let same = same_history caller alone old new follows in
       let settled : new.settled ≡ old.settled = follows.stays (omega (arith, alone.settles)) in
-      record {
-        few = omega (arith, room.few, ap length same, settled);
-        numbered = omega (arith, room.numbered, ap length same);
-      }
+      (omega (arith, room.0, ap length same, settled), omega (arith, room.1, ap length same))
 
   -- Where lines are refused there is as much room as before.
   room_stays : (options : Options) (now : ℕ) (body : List ℕ) (fault : InsertionFault)

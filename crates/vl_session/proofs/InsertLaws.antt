@@ -48,10 +48,10 @@ module _ (only : HasOneIntake) (options : Options) (now : ℕ) (body : List ℕ)
       omega (arith, can.light, heavy_too)
 
   not_full : (seen : Seen) → HasRoom seen → IsFull seen → ⊥
-  not_full seen room is = omega (arith, room.few, is)
+  not_full seen room is = omega (arith, room.0, is)
 
   not_last : (seen : Seen) → HasRoom seen → HasLastNumber seen → ⊥
-  not_last seen room is = omega (arith, room.numbered, is)
+  not_last seen room is = omega (arith, room.1, is)
 
   -- Where there is room, they come to their batch alone.
   pub only_taken : (seen : Seen) → HasRoom seen → (other : InsertOutcome)

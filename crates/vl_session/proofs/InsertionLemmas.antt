@@ -79,9 +79,9 @@ pub refuses_with_room : (caller : Caller) (options : Options) (now : ℕ) (body 
     (fault : InsertionFault) → HasRoom new → RefusesLines caller options now body old new fault → IsOfLines fault
 refuses_with_room caller options now body old new (Large weight) room why = tt
 refuses_with_room caller options now body old new (Full limit) room why =
-    let full : IsFull new = why.1.1.2 in absurd (omega (arith, room.few, full))
+    let full : IsFull new = why.1.1.2 in absurd (omega (arith, room.0, full))
 refuses_with_room caller options now body old new Spent room why =
-    let last : HasLastNumber new = why.1.3 in absurd (omega (arith, room.numbered, last))
+    let last : HasLastNumber new = why.1.3 in absurd (omega (arith, room.1, last))
 refuses_with_room caller options now body old new Memory room why = tt
 
 -- why lines make no batch

@@ -1,7 +1,8 @@
 -- What serving a request does to what its caller has seen of the log.
-use Rattle.std.specs.Prelude.{◌≡◌, ℕ, ◌+◌, ◌-◌, ◌^◌, ◌<◌, ◌≤◌, List, [], ◌∷◌, length}
+use Rattle.std.specs.Prelude.{◌≡◌, ℕ, ◌+◌, ◌<◌, ◌≤◌, List, [], ◌∷◌, length}
 use Rattle.log_model.specs.Core.{held_limit}
 use Rattle.log_model.specs.Row.{Batch}
+use Rattle.log_desk.specs.Faults.{HasRoom as HasRoomFor, IsFull as IsFullAt, Refuses, last_number}
 use Rattle.log_desk.specs.Seen.{Caller, Follows, Gains, Seen}
 use Rattle.log_desk.specs.declared.fault.InsertFault.{InsertFault}
 use Rattle.log_desk.specs.declared.fault.InsertFault.TheVariants.{Full, Spent, Memory}
@@ -46,12 +47,11 @@ Has caller old new (adds batch) = Gains caller old new batch
 -- The last batch was added where another might be.
 pub record HadRoom (seen : Seen) : Type 0 where
   pub few : length seen.history ≤ seen.settled + held_limit
-  pub numbered : length seen.history ≤ 2 ^ 63 - 1
+  pub numbered : length seen.history ≤ last_number
 
 -- Another batch may be inserted: it may wait to be settled, and there is a number for it.
-pub record HasRoom (seen : Seen) : Type 0 where
-  pub few : length seen.history < seen.settled + held_limit
-  pub numbered : length seen.history < 2 ^ 63 - 1
+abbrev pub HasRoom : Seen → Type 0
+HasRoom seen = HasRoomFor (length seen.history) seen.settled
 
 -- A batch was inserted, for which there was room, and it is the last of what has been seen.
 pub record Takes (caller : Caller) (old new : Seen) (batch : Batch) : Type 0 where
@@ -60,14 +60,14 @@ pub record Takes (caller : Caller) (old new : Seen) (batch : Batch) : Type 0 whe
 
 -- as many batches wait to be settled as may
 abbrev pub IsFull : Seen → Type 0
-IsFull seen = length seen.history ≡ seen.settled + held_limit
+IsFull seen = IsFullAt (length seen.history) seen.settled
 
 -- the last batch has the last number that there is
 abbrev pub HasLastNumber : Seen → Type 0
-HasLastNumber seen = length seen.history ≡ 2 ^ 63 - 1
+HasLastNumber seen = length seen.history ≡ last_number
 
--- Why a batch is not inserted: the first of these that applies. Want of memory is free.
+-- A batch was not inserted, for the cause that the turn showed which was taken. Want of memory is free.
 abbrev pub IsRefused : Caller → Seen → Seen → InsertFault → Type 0
-IsRefused caller old new (Full held) = Looks caller old new × IsFull new × (held ≡ held_limit)
-IsRefused caller old new Spent = Looks caller old new × (IsFull new → ⊥) × HasLastNumber new
+IsRefused caller old new (Full held) = Looks caller old new × Refuses (length new.history) new.settled (Full held)
+IsRefused caller old new Spent = Looks caller old new × Refuses (length new.history) new.settled Spent
 IsRefused caller old new Memory = Follows caller old new
