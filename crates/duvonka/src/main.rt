@@ -19,9 +19,8 @@ fn main(rt: HostRuntime) -> ExitCode {
     let mut clock = SystemClock::new(rt);
     let words = match words_of(&rt) {
         Ok(words) => words,
-        Err(fault) => {
-            return ExitCode::from(report_usage(rt.alloc(), fault, &mut err).number());
-        }
+        Err(UsageFault::Usage) => return ExitCode::from(report_usage(&mut err).number()),
+        Err(UsageFault::Memory) => return ExitCode::from(report_no_memory(&mut err).number()),
     };
     let borrowed = words.iter().map(|word| word.as_str()).collect(rt.alloc());
     let Ok(borrowed): Result<Vec<&str>, AllocError> = borrowed else {

@@ -8,7 +8,7 @@ use Rattle.vl_session.specs.declared.answer.Answer.{Answer}
 use Rattle.vl_session.specs.declared.answer.AnswerFault.{AnswerFault}
 use Rattle.vl_session.specs.declared.answer.AnswerFault.TheVariants.{Query, RegexRefused, ManyRows, Overflow, Memory}
 use Rattle.lone_desk.specs.Alone.{IsAlone}
-use Rattle.lone_desk.proofs.Laws.{same_history}
+use Rattle.lone_desk.proofs.Laws.{same_history, same_settled}
 
 module _ (caller : Caller) (alone : IsAlone caller) (old new : Seen) where
   same_behind : (fault : AnswerFault) → Has caller old new (fault_effect fault) → new.history ≡ old.history
@@ -17,6 +17,13 @@ module _ (caller : Caller) (alone : IsAlone caller) (old new : Seen) where
   same_behind ManyRows has = same_history caller alone old new has.0
   same_behind (Overflow name) has = same_history caller alone old new has.0
   same_behind Memory has = same_history caller alone old new has
+
+  same_mark : (fault : AnswerFault) → Has caller old new (fault_effect fault) → new.settled ≡ old.settled
+  same_mark (Query fault) has = ap (λ (seen : Seen). seen.settled) has
+  same_mark (RegexRefused nth) has = ap (λ (seen : Seen). seen.settled) has
+  same_mark ManyRows has = same_settled caller alone old new has.0
+  same_mark (Overflow name) has = same_settled caller alone old new has.0
+  same_mark Memory has = same_settled caller alone old new has
 
   pub answered : (text : List ℕ) (now : ℕ) (result : Result Answer AnswerFault) → OnOk result (Looks caller old new)
       → IfOk result (IsQueryAnswer text now new.history) → IfOk result (IsQueryAnswer text now old.history)
@@ -36,3 +43,9 @@ module _ (caller : Caller) (alone : IsAlone caller) (old new : Seen) where
       → IfErr result (λ fault. Has caller old new (fault_effect fault)) → new.history ≡ old.history
   stays (Ok answer) looks has = same_history caller alone old new looks.0
   stays (Err fault) looks has = same_behind fault has
+
+  -- And nothing was settled.
+  pub mark_stays : (result : Result Answer AnswerFault) → OnOk result (Looks caller old new)
+      → IfErr result (λ fault. Has caller old new (fault_effect fault)) → new.settled ≡ old.settled
+  mark_stays (Ok answer) looks has = same_settled caller alone old new looks.0
+  mark_stays (Err fault) looks has = same_mark fault has

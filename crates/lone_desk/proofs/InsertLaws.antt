@@ -9,13 +9,13 @@ use Rattle.vl_session.specs.declared.insert.Insertion.{Insertion}
 use Rattle.vl_session.specs.declared.insert.InsertionFault.{InsertionFault}
 use Rattle.vl_session.specs.declared.insert.InsertionFault.TheVariants.{Large, Full, Spent, Memory}
 use Rattle.lone_desk.specs.Alone.{IsAlone}
-use Rattle.lone_desk.proofs.Laws.{same_history}
+use Rattle.lone_desk.proofs.Laws.{same_history, same_settled}
 
 module _ (caller : Caller) (alone : IsAlone caller) (old new : Seen) where
   room_behind : Follows caller old new → HasRoom old → HasRoom new
   room_behind follows room =
       let same = same_history caller alone old new follows in
-      let settled : new.settled ≡ old.settled = follows.stays (omega (arith, alone.settles)) in
+      let settled = same_settled caller alone old new follows in
       (omega (arith, room.0, ap length same, settled), omega (arith, room.1, ap length same))
 
   -- Where lines are refused there is as much room as before.

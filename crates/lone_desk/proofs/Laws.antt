@@ -15,6 +15,11 @@ same_history caller alone old new follows =
     ∙ ap (λ (others : History). old.history ++ others)
     (none_beside_one caller follows.others alone.one_pass alone.first follows.strange) ∙ append-nil old.history
 
+-- Nobody else settles batches.
+pub same_settled : (caller : Caller) → IsAlone caller → (old new : Seen) → Follows caller old new
+    → new.settled ≡ old.settled
+same_settled caller alone old new follows = follows.stays (omega (arith, alone.settles))
+
 -- the batches with one entry more, which comes right behind them
 pub batches-gained : (caller : Caller) (old new : Seen) (rows : List Row) → IsAlone caller → Gains caller old new rows
     → batches_in new.history ≡ batches_in old.history ++ rows ∷ []
@@ -35,7 +40,7 @@ batches-with old new batch (caller, alone, gains) = batches-gained caller old ne
 pub same-alone : (old new : Seen) → FollowsAlone old new → (new.history ≡ old.history) × (new.settled ≡ old.settled)
 same-alone old new (caller, alone, follows) = (
   same_history caller alone old new follows,
-  follows.stays (omega (arith, alone.settles)),
+  same_settled caller alone old new follows,
 )
 
 pub settled-alone : (old new : Seen) (batch : Batch) → GainsAlone old new batch → new.settled ≡ old.settled

@@ -103,6 +103,7 @@ impl<'d, R: Wait> LoneDesk<'d, R> {
         ensures complete { HasRecords text.now (unsigned_abs now) self.old.history
             → IfErr result (λ fault. fault ≡ AnswerFault.Memory) }
         ensures same { self.new.history ≡ self.old.history }
+        ensures mark { self.new.settled ≡ self.old.settled }
     {
         answer_query(self.rt, self.alloc, &self.desk, &mut self.pass, text, now)
     }

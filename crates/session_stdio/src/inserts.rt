@@ -38,7 +38,7 @@ impl Caller {
     }
 }
 
-/// So many callers behind the first, each with a pass that is split from its own.
+/// So many callers behind the first, each with a pass that is split from its own, or fewer where no more can be split.
 fn callers_of(
     alloc: Global,
     desk: &Desk,
@@ -51,7 +51,7 @@ fn callers_of(
     let mut callers = Vec::new(alloc);
     for _ in 0..others {
         let Ok(own) = desk.split(&mut pass) else {
-            return Err(AllocError);
+            break;
         };
         callers.push(Caller {
             pass: own,
@@ -65,7 +65,7 @@ fn callers_of(
     Ok(callers)
 }
 
-/// Inserts the lines in so many threads beside this one, and says whether all was taken in.
+/// Inserts the lines in so many threads beside this one, as far as there are passes, and says whether all was taken in.
 pub(crate) fn insert_all<R: AllocGlobal + Threads + Wait + Sync>(
     rt: &R,
     desk: &Desk,

@@ -3,7 +3,9 @@ use Rattle.std.proofs.Common.{◌≡◌, ◌⊎◌, inl, inr, ℕ, suc, ◌+◌,
 use Rattle.std.proofs.lemmas.Grind.{flat_map-append}
 use Rattle.std.specs.List.{AllByRecursion, AllZip}
 use Rattle.ingest_row.specs.Intake.{Outcome, passed_over, read, refused, rows_read}
-use Rattle.vl_pipe.specs.Groups.{Arrival, AreGroups, EndsLine, HasOutcome, HaveOutcomes, batch_of, batches_of, outcomes_in, refusals_from, refusals_of, refusal_text}
+use Rattle.vl_session.specs.Seen.{batches_of_rows}
+use Rattle.vl_pipe.specs.Groups.{Arrival, AreGroups, EndsLine, HasOutcome, HaveOutcomes, batches_of, outcomes_in}
+use Rattle.vl_pipe.specs.Groups.{refusals_from, refusals_of, refusal_text}
 use Rattle.log_model.specs.Line.{lines_of}
 use Rattle.vl_pipe.proofs.LineLemmas.{lines_of-after}
 
@@ -36,10 +38,10 @@ outcomes-more groups group =
     flat_map-append (λ (g : List Outcome). g) groups (group ∷ []) ∙ ap (λ l. outcomes_in groups ++ l) (append_nil group)
 
 pub batches-more : (groups : List (List Outcome)) (group : List Outcome) → batches_of (groups ++ group ∷ [])
-    ≡ batches_of groups ++ batch_of (rows_read group)
+    ≡ batches_of groups ++ batches_of_rows (rows_read group)
 batches-more groups group =
-    flat_map-append (λ (g : List Outcome). batch_of (rows_read g)) groups (group ∷ []) ∙ ap
-    (λ l. batches_of groups ++ l) (append_nil (batch_of (rows_read group)))
+    flat_map-append (λ (g : List Outcome). batches_of_rows (rows_read g)) groups (group ∷ []) ∙ ap
+    (λ l. batches_of groups ++ l) (append_nil (batches_of_rows (rows_read group)))
 
 refusals_from-append : (number : ℕ) (os more : List Outcome) → refusals_from number (os ++ more)
     ≡ refusals_from number os ++ refusals_from (number + length os) more

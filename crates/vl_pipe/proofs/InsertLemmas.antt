@@ -4,7 +4,7 @@ use Rattle.log_model.specs.Core.{held_limit}
 use Rattle.log_model.specs.Line.{lines_of}
 use Rattle.log_model.specs.Row.{Batch, Row, batch_weight}
 use Rattle.ingest_row.specs.Intake.{rows_read}
-use Rattle.log_desk.specs.Seen.{Caller, Follows, Seen}
+use Rattle.log_desk.specs.Seen.{Caller, Seen}
 use Rattle.vl_session.specs.Insert.{full, large, spent}
 use Rattle.vl_session.specs.Insertion.{IsRefusal}
 use Rattle.vl_session.specs.Seen.{IsFull}
@@ -14,7 +14,7 @@ use Rattle.vl_pipe.specs.Groups.{Arrival}
 use Rattle.vl_pipe.specs.Load.{IsHeld, RefusesGroup}
 use Rattle.vl_pipe.specs.declared.interrupt.Interrupt.TheVariants.{Beyond}
 use Rattle.vl_pipe.specs.declared.interrupt.Limit.TheVariants as limits
-use Rattle.lone_desk.proofs.Laws.{same_history}
+use Rattle.lone_desk.proofs.Laws.{same_history, same_settled}
 use Rattle.vl_pipe.proofs.HeldLemmas.{held_few}
 use Rattle.vl_pipe.proofs.WeightLemmas.{rows_fit, rows_light}
 
@@ -28,9 +28,6 @@ same_held : (old new : Seen) (rows : List Row) → new.history ≡ old.history �
 same_held old new rows history settled is = omega (arith, is, ap length history, settled)
 
 module _ (caller : Caller) (alone : IsAlone caller) (arrival : Arrival) (body : List ℕ) (old new : Seen) where
-  same_settled : Follows caller old new → new.settled ≡ old.settled
-  same_settled follows = follows.stays (omega (arith, alone.settles))
-
   refuses_large : (weight : ℕ) → length (lines_of body) ≤ 1000
       → IsRefusal caller arrival.options arrival.moment body old new (large weight)
       → RefusesGroup arrival body old (Beyond (limits.Large weight))
@@ -48,7 +45,7 @@ module _ (caller : Caller) (alone : IsAlone caller) (arrival : Arrival) (body : 
         refusal.1.0,
         refusal.1.1.given,
         (
-          same_held old new (rows_read refusal.1.0) (same_history caller alone old new follows) (same_settled follows) refusal.1.2,
+          same_held old new (rows_read refusal.1.0) (same_history caller alone old new follows) (same_settled caller alone old new follows) refusal.1.2,
           refusal.1.1.some,
           refusal.1.1.light,
         ),

@@ -5,13 +5,14 @@ use Rattle.std.specs.List.{AllByRecursion, AllZip}
 use Rattle.vl_io.specs.Change.{Change, Gave, IsSpent}
 use Rattle.log_model.specs.Core.{held_limit}
 use Rattle.log_model.specs.Line.{lines_of}
-use Rattle.log_model.specs.Row.{Row, Batch, batch_limit, batch_weight}
+use Rattle.log_model.specs.Row.{Batch, batch_limit, batch_weight}
 use Rattle.ingest_row.specs.Asked.{pieces}
 use Rattle.ingest_row.specs.Ingest.{Options, plain}
 use Rattle.ingest_row.specs.Intake.{Outcome, IsOutcome, refused_from, rows_read}
 use Rattle.ingest_row.specs.Refusal.{kind_text}
 use Rattle.ingest_row.specs.declared.body.LineFault.{LineFault}
 use Rattle.ingest_row.specs.declared.kind.LineKind.{LineKind}
+use Rattle.vl_session.specs.Seen.{batches_of_rows}
 
 -- how lines come in: what is asked for them, and the moment
 pub record Arrival : Type 0 where
@@ -55,14 +56,9 @@ outcomes_in groups = flat_map (λ group. group) groups
 abbrev pub refusals_of : List (List Outcome) → List ℕ
 refusals_of groups = refusals_from 1 (outcomes_in groups)
 
--- rows that came together are one batch, if there are any
-abbrev pub batch_of : List Row → List Batch
-batch_of [] = []
-batch_of (row ∷ rows) = (row ∷ rows) ∷ []
-
 -- each group with a row makes one batch
 abbrev pub batches_of : List (List Outcome) → List Batch
-batches_of groups = flat_map (λ group. batch_of (rows_read group)) groups
+batches_of groups = flat_map (λ group. batches_of_rows (rows_read group)) groups
 
 -- the batches of these groups can be held
 pub record CanBeHeld (groups : List (List Outcome)) : Type 0 where

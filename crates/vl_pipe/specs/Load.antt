@@ -6,7 +6,8 @@ use Rattle.log_model.specs.History.{batches_in}
 use Rattle.log_model.specs.Row.{Batch, Row, batch_limit, batch_weight}
 use Rattle.ingest_row.specs.Intake.{Outcome, rows_read}
 use Rattle.log_desk.specs.Seen.{Seen}
-use Rattle.vl_pipe.specs.Groups.{Arrival, BeginsWith, CanBeHeld, HaveOutcomes, batch_of, batches_of, refusals_from, refusals_of}
+use Rattle.vl_session.specs.Seen.{batches_of_rows}
+use Rattle.vl_pipe.specs.Groups.{Arrival, BeginsWith, CanBeHeld, HaveOutcomes, batches_of, refusals_from, refusals_of}
 use Rattle.vl_pipe.specs.Program as model
 use Rattle.vl_pipe.specs.Program.{StopsBehind}
 use Rattle.vl_pipe.specs.Ended.{IsNamingFault}
@@ -42,7 +43,7 @@ RefusesGroup arrival body seen NoMemory = Unit {0}
 abbrev pub AddsRows : Seen → Seen → List Row → Type 0
 AddsRows old new rows =
     (batch_weight rows ≤ batch_limit)
-    × ((batches : List Batch) → IsHeld old batches → IsHeld new (batches ++ batch_of rows))
+    × ((batches : List Batch) → IsHeld old batches → IsHeld new (batches ++ batches_of_rows rows))
 
 -- a group whose lines have these outcomes was taken in
 pub record TakesGroup (arrival : Arrival) (body : List ℕ) (group : List Outcome)

@@ -16,8 +16,8 @@ use Rattle.lq_grammar.specs.declared.fault.QueryFault.{QueryFault}
 use Rattle.ingest_row.specs.Intake.{Outcome, rows_read}
 use Rattle.query_run.specs.Asked.{HasUnreadablePattern, IsUnspelled}
 use Rattle.vl_status.specs.Said.{no_memory_text}
-use Rattle.vl_pipe.specs.Groups.{Arrival, AreGroups, BeginsWith, CanBeHeld, HaveOutcomes, batches_of, input_limit, outcomes_in}
-use Rattle.vl_pipe.specs.Groups.{refusals_of}
+use Rattle.vl_pipe.specs.Groups.{Arrival, AreGroups, BeginsWith, CanBeHeld, HaveOutcomes, batches_of, input_limit}
+use Rattle.vl_pipe.specs.Groups.{outcomes_in, refusals_of}
 
 -- The lines of the input become the batches of this history, whoever made its entries, and `refusals` names the lines
 -- that are no rows.
@@ -128,7 +128,7 @@ stop_text no_memory = no_memory_text
 pub data Refusal : Type 0 where
   -- its text spells no query
   unspelled : QueryFault → Refusal
-  -- the regular expression with this number, counted from 0 in the order of the text, cannot be read
+  -- the regular expression with this number, counted from 0 in the order of the text, is the first that cannot be read
   unreadable_pattern : ℕ → Refusal
 
 abbrev pub refusal_text : Refusal → List ℕ
@@ -143,8 +143,8 @@ overflow_text (total name) = codes "Overflow in " ++ name
 abbrev pub said_of_query : List ℕ → List ℕ
 said_of_query cause = codes "query: " ++ (cause ++ 10 ∷ [])
 
--- Why the query with this text is refused before anything is read: it has this fault, or this pattern of it cannot be
--- read.
+-- Why the query with this text is refused before anything is read: it has this fault, or this pattern of it is the
+-- first that cannot be read.
 abbrev pub IsRefusedText : List ℕ → Refusal → Type 0
 IsRefusedText text (unspelled fault) = IsUnspelled text fault
 IsRefusedText text (unreadable_pattern nth) = HasUnreadablePattern text nth

@@ -10,9 +10,9 @@ use Rattle.ingest_row.specs.declared.syslog.SyslogKind.TheVariants as kinds
 use Rattle.log_desk.specs.Seen.{Caller, Seen}
 use Rattle.log_desk.specs.declared.fault.InsertFault.{InsertFault}
 use Rattle.log_desk.specs.declared.fault.InsertFault.TheVariants as desk
-use Rattle.vl_session.specs.Seen.{Has, IsRefused, Takes}
+use Rattle.vl_session.specs.Seen.{Has, IsRefused, Takes, batches_of_rows}
 use Rattle.vl_session.specs.SyslogSession.{AreBatches, IsMessageOutcome, TakesAll, end_effect, moment_of, message_rows}
-use Rattle.vl_session.specs.SyslogTaking.{BeginWith, HoldsUp, TakesSome, TakesUp, batches_from, end_of_insert}
+use Rattle.vl_session.specs.SyslogTaking.{BeginWith, HoldsUp, TakesSome, TakesUp, end_of_insert}
 use Rattle.vl_session.specs.Turns.{GaveMoments}
 use Rattle.vl_session.specs.declared.syslog_intake.Counts.{Counts}
 use Rattle.vl_session.specs.declared.syslog_report.SyslogEnd.{SyslogEnd}
@@ -46,7 +46,7 @@ rows_same rows outcomes outcome are is =
 
 -- the rows are one batch
 pub takes_one : (caller : Caller) (old new : Seen) (rows : List Row) → 0 < length rows → Takes caller old new rows
-    → TakesAll caller old (batches_from rows) new
+    → TakesAll caller old (batches_of_rows rows) new
 takes_one caller old new [] some takes = absurd (omega (arith, some))
 takes_one caller old new (row ∷ rows) some takes = (new, takes, refl)
 
@@ -77,7 +77,7 @@ takes_first caller now messages seen counts = record {
 
 full_more : (outcomes more : List (Option Row)) (batches : List Batch) (rows : List Row) → rows ≡ message_rows more
     → length rows ≡ 256 → length (message_rows outcomes) ≡ 256 * length batches
-    → length (message_rows (outcomes ++ more)) ≡ 256 * length (batches ++ batches_from rows)
+    → length (message_rows (outcomes ++ more)) ≡ 256 * length (batches ++ batches_of_rows rows)
 full_more outcomes more batches rows are one full = omega (
   arith,
   full,
@@ -86,7 +86,7 @@ full_more outcomes more batches rows are one full = omega (
   one_full rows one,
   ap length (rows_append outcomes more),
   length-append (message_rows outcomes) (message_rows more),
-  length-append batches (batches_from rows),
+  length-append batches (batches_of_rows rows),
 )
 
 pub takes_more : (caller : Caller) (now at : ℕ) (messages : List (List ℕ)) (old mid new : Seen) (before counts after : Counts)
@@ -94,9 +94,9 @@ pub takes_more : (caller : Caller) (now at : ℕ) (messages : List (List ℕ)) (
     → TakesUp caller now messages old mid before counts outcomes batches → at ≡ length outcomes
     → BeginWith now (drop at messages) more → rows ≡ message_rows more → length rows ≤ 256
     → at < length messages → (at + length more < length messages → length rows ≡ 256)
-    → TakesAll caller mid (batches_from rows) new → after.accepted ≡ counts.accepted + length rows
+    → TakesAll caller mid (batches_of_rows rows) new → after.accepted ≡ counts.accepted + length rows
     → after.refused ≡ counts.refused + (length more - length rows)
-    → TakesUp caller now messages old new before after (outcomes ++ more) (batches ++ batches_from rows)
+    → TakesUp caller now messages old new before after (outcomes ++ more) (batches ++ batches_of_rows rows)
 takes_more caller now at messages old mid new before counts after outcomes more batches rows t at_is given are few below last
     taken accepted refused =
     let full : length (message_rows outcomes) ≡ 256 * length batches = t.full (omega (arith, at_is, below)) in
@@ -104,12 +104,12 @@ takes_more caller now at messages old mid new before counts after outcomes more 
     subst (λ n. BeginWith now (drop n messages) more) at_is given in
     record {
       given = zip_append (IsMessageOutcome now) messages outcomes more t.given behind;
-      cut = subst (λ l. AreBatches l (batches ++ batches_from rows))
+      cut = subst (λ l. AreBatches l (batches ++ batches_of_rows rows))
           (ap (λ l. message_rows outcomes ++ l) are ∙ sym (rows_append outcomes more))
-          (batches_append (message_rows outcomes) rows batches (batches_from rows) t.cut full (one_batch rows few));
+          (batches_append (message_rows outcomes) rows batches (batches_of_rows rows) t.cut full (one_batch rows few));
       full = λ less. full_more outcomes more batches rows are
           (last (omega (arith, at_is, less, length-append outcomes more))) full;
-      taken = takes_append caller old mid new batches (batches_from rows) t.taken taken;
+      taken = takes_append caller old mid new batches (batches_of_rows rows) t.taken taken;
       accepted = omega (
         arith,
         t.accepted,

@@ -9,9 +9,10 @@ use Rattle.std.proofs.lemmas.List.Sums.{sum_by-append}
 use Rattle.log_model.specs.Field.{weight}
 use Rattle.log_model.specs.Row.{Batch, IsRow, Row, batch_weight}
 use Rattle.log_desk.specs.Seen.{Caller, Seen}
+use Rattle.vl_session.specs.Seen.{batches_of_rows}
 use Rattle.vl_session.specs.SyslogSession.{AreBatches, IsMessageOutcome, IsTakenUp, Read, TakesAll, batches_of, outcomes_of}
 use Rattle.vl_session.specs.SyslogSession.{message_rows}
-use Rattle.vl_session.specs.SyslogTaking.{BeginWith, batches_from}
+use Rattle.vl_session.specs.SyslogTaking.{BeginWith}
 
 -- ---- what holds of the first elements of a list and those of another
 
@@ -106,12 +107,12 @@ drop_all (suc n) (x ∷ xs) few = drop_all n xs (omega (arith, few))
 pub taken_all : {X : Type 0} (n : ℕ) (xs : List X) → n ≡ length xs → take n xs ≡ xs
 taken_all n xs all = take_all n xs (omega (arith, all))
 
-pub one_batch : (rows : List Row) → length rows ≤ 256 → AreBatches rows (batches_from rows)
+pub one_batch : (rows : List Row) → length rows ≤ 256 → AreBatches rows (batches_of_rows rows)
 one_batch [] few = refl
 one_batch (row ∷ rows) few =
     (omega arith, sym (take_all 256 (row ∷ rows) few), drop_all 256 (row ∷ rows) few)
 
-pub one_full : (rows : List Row) → length rows ≡ 256 → length (batches_from rows) ≡ 1
+pub one_full : (rows : List Row) → length rows ≡ 256 → length (batches_of_rows rows) ≡ 1
 one_full [] full = absurd (omega (arith, full))
 one_full (row ∷ rows) full = refl
 

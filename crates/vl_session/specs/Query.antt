@@ -21,7 +21,7 @@ use Rattle.vl_session.specs.Seen.{Effect, looks, nothing}
 pub data QueryOutcome : Type 0 where
   -- its text spells none
   unspelled : QueryFault → QueryOutcome
-  -- its regular expression with this number, from 0 on, cannot be read
+  -- its regular expression with this number, from 0 on, is the first that cannot be read
   unreadable : ℕ → QueryOutcome
   -- it has these records
   found : List Record → QueryOutcome

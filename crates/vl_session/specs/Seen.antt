@@ -1,7 +1,7 @@
 -- What serving a request does to what its caller has seen of the log.
 use Rattle.std.specs.Prelude.{◌≡◌, ℕ, ◌+◌, ◌<◌, ◌≤◌, List, [], ◌∷◌, length}
 use Rattle.log_model.specs.Core.{held_limit}
-use Rattle.log_model.specs.Row.{Batch}
+use Rattle.log_model.specs.Row.{Batch, Row}
 use Rattle.log_desk.specs.Faults.{HasRoom as HasRoomFor, IsFull as IsFullAt, Refuses, last_number}
 use Rattle.log_desk.specs.Seen.{Caller, Follows, Gains, Seen}
 use Rattle.log_desk.specs.declared.fault.InsertFault.{InsertFault}
@@ -43,6 +43,11 @@ Has caller old new looks = Looks caller old new
 Has caller old new (adds batch) = Gains caller old new batch
 
 -- ---- one batch
+
+-- the batches of rows that came together: one of all of them, if there are any
+abbrev pub batches_of_rows : List Row → List Batch
+batches_of_rows [] = []
+batches_of_rows (row ∷ rows) = (row ∷ rows) ∷ []
 
 -- The last batch was added where another might be.
 pub record HadRoom (seen : Seen) : Type 0 where

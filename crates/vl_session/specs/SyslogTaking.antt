@@ -1,5 +1,5 @@
 -- How a session of syslog takes its input, a read at a time.
-use Rattle.std.specs.Prelude.{◌≡◌, ℕ, ◌*◌, ◌+◌, ◌<◌, ◌≤◌, List, [], ◌∷◌, ◌++◌, length, take, drop}
+use Rattle.std.specs.Prelude.{◌≡◌, ℕ, ◌*◌, ◌+◌, ◌<◌, ◌≤◌, List, [], ◌++◌, length, take, drop}
 use Rattle.std.specs.Prelude.{count_by, Option, None, Some, is_none}
 use Rattle.std.specs.List.{AllZip}
 use Rattle.vl_io.specs.Change.{Change, Gave, HasFailed, IsSpent}
@@ -47,11 +47,6 @@ pub record IsChunk (now : ℕ) (messages : List (List ℕ)) (start : ℕ) (chunk
   pub given : BeginWith now (drop start messages) outcomes
   pub end_is : chunk.end ≡ start + length outcomes
   pub rows : chunk.rows.items ≡ message_rows outcomes
-
--- rows that are one batch, if there are any
-abbrev pub batches_from : List Row → List Batch
-batches_from [] = []
-batches_from (row ∷ rows) = (row ∷ rows) ∷ []
 
 -- what stands against rows that are one batch
 abbrev pub HoldsUp : List Row → Seen → SyslogEnd → Type 0

@@ -30,7 +30,8 @@ pub struct Answer {
 pub enum AnswerFault {
     /// The text spells no query, for this fault, which is not want of memory.
     Query(QueryFault),
-    /// The regular expression with this number, counted from 0 in the order of the text, cannot be read.
+    /// The regular expression with this number, counted from 0 in the order of the text, is the first that cannot be
+    /// read.
     RegexRefused { nth: u32 },
     /// 2^32 rows hold, or more.
     ManyRows,

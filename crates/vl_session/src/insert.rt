@@ -140,7 +140,7 @@ impl Incoming {
         }
     }
 
-    /// IsInsertion the rows as one batch, if there are any.
+    /// Inserts the rows as one batch, if there are any.
     pub(crate) fn commit<R: Wait>(
         self,
         access: &Access<'_, R>,

@@ -75,7 +75,7 @@ fn unspelled_reply(
     reply(alloc, Status::BadRequest, content.as_str(), delivery)
 }
 
-/// The reply where the regular expression with this number cannot be read.
+/// The reply where the regular expression with this number is the first that cannot be read.
 fn unreadable_reply(alloc: Global, nth: u32, delivery: Delivery) -> Result<String, AllocError>
     ensures { IfOk result (λ text. string_bytes text
         ≡ reply_bytes Status.BadRequest (query_content (unreadable nth)) delivery) }

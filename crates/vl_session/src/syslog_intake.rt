@@ -4,9 +4,9 @@ ghost use Rattle.std.specs.Prelude.{length, pos, unsigned_abs, vec_len};
 ghost use Rattle.log_model.specs.Row.{Batch as Rows, IsRow, Row as Event, batch_weight};
 ghost use Rattle.turn_lock.specs.Passes.{IsPassOf};
 ghost use Rattle.log_desk.specs.Seen.{caller_of, seen_of};
-ghost use Rattle.vl_session.specs.Seen.{Has};
+ghost use Rattle.vl_session.specs.Seen.{Has, batches_of_rows};
 ghost use Rattle.vl_session.specs.SyslogSession.{IsMessageOutcome, TakesAll, batch_rows, end_effect, moment_of};
-ghost use Rattle.vl_session.specs.SyslogTaking.{HoldsUp, IsChunk, TakesSome, TakesUp, batches_from};
+ghost use Rattle.vl_session.specs.SyslogTaking.{HoldsUp, IsChunk, TakesSome, TakesUp};
 ghost use Rattle.vl_session.specs.Turns.{GaveMoments};
 
 use crate::access::Access;
@@ -152,7 +152,7 @@ fn insert_rows<R: Wait>(
     requires pass { IsPassOf access.now.desk.now pass.old }
     requires few { vec_len rows ≤ batch_rows }
     requires light { batch_weight rows.items ≤ 262_144 * vec_len rows }
-    ensures ok { OnOk result (TakesAll (caller_of pass.old) (seen_of pass.old) (batches_from rows.items)
+    ensures ok { OnOk result (TakesAll (caller_of pass.old) (seen_of pass.old) (batches_of_rows rows.items)
         (seen_of pass.new)) }
     ensures refused { IfErr result (HoldsUp rows.items (seen_of pass.new)) }
     ensures has { IfErr result (λ end. Has (caller_of pass.old) (seen_of pass.old) (seen_of pass.new)

@@ -1,4 +1,6 @@
-//! What a session writes where there is no memory for its replies. The expected bytes are those of `docs/HTTP.md`.
+//! What a session writes where there is no memory for its replies. The expected bytes are those of `docs/HTTP.md`. The
+//! `Log` is the test's own, which has no memory for any reply. That the shipped one gives these replies where memory
+//! runs out, its clause `served` (`IsServed`) says.
 use http_in::Request;
 use http_reply::no_memory;
 use http_route::delivery_to;

@@ -1,5 +1,5 @@
 -- What a run comes to, by its command and its status.
-use Rattle.std.proofs.Common.{◌≡◌, ◌∙◌, ◌⊎◌, inl, inr, ℕ, List, [], Option, ap, refl, sym, subst}
+use Rattle.std.proofs.Common.{◌≡◌, ◌⊎◌, inl, inr, ℕ, List, [], Option, refl, sym, subst}
 use Rattle.vl_io.specs.Change.{HasFailed, IsTold}
 use Rattle.query_run.specs.Asked.{Refuses}
 use Rattle.query_run.specs.declared.query.QueryRefusal.{QueryRefusal}
@@ -18,10 +18,8 @@ use Rattle.vl_status.specs.Status.{status_number}
 use Rattle.vl_status.specs.declared.status.Status.{Status}
 use Rattle.vl_status.specs.declared.status.Status.TheVariants.{Done, DoorFault, Limit, NoMemory, QueryRefused}
 use Rattle.vl_status.specs.declared.status.Status.TheVariants.{ReadFault, Usage, WriteFault}
-use Rattle.command_line.specs.declared.fault.UsageFault.{UsageFault}
-use Rattle.command_line.specs.declared.fault.UsageFault.TheVariants as faults
 use Rattle.vl_top.specs.Run.{CannotBeAsked, EndsCommand, GoesWell, IsAsked, IsNoCommand, IsRun}
-use Rattle.vl_top.specs.Run.{IsServe, IsTrial, ReportsUsage, Run, Says, pipe_run}
+use Rattle.vl_top.specs.Run.{IsServe, IsTrial, Run, Says, pipe_run, usage_text}
 use Rattle.vl_top.specs.Server.{HasFailedDoor}
 
 -- ---- what a command says
@@ -193,19 +191,16 @@ module _ (run : Run) where
     server = λ _ _. inr refl;
   }
 
-  -- no command was read
-  pub usage_runs : (fault : UsageFault) (status : Status) → (fault ≡ faults.Usage → IsNoCommand run.words)
-      → IsUnread run.does.source → ReportsUsage run.does.errors fault status → run.status ≡ status_number status
+  -- the words are no command
+  pub usage_runs : IsNoCommand run.words → IsTold run.does.errors [] usage_text → run.status ≡ status_number Usage
       → IsRun run
-  usage_runs fault status none unread (inl told) number = record {
+  usage_runs none told number = record {
     status = Usage;
-    number = number ∙ ap status_number told.0;
-    says = (none told.1, told.2);
+    number = number;
+    says = (none, told);
     unusable = λ _. inl refl;
-    unasked = λ other. absurd (none told.1 other.0 other.1);
-    query = λ other. absurd (none told.1 other.0 other.1);
-    trial = λ other. absurd (none told.1 other.0 other.1);
-    server = λ other. absurd (none told.1 other.0 other.1);
+    unasked = λ other. absurd (none other.0 other.1);
+    query = λ other. absurd (none other.0 other.1);
+    trial = λ other. absurd (none other.0 other.1);
+    server = λ other. absurd (none other.0 other.1);
   }
-  usage_runs fault status none unread (inr told) number =
-      no_memory_runs unread told.1 (number ∙ ap status_number told.0)

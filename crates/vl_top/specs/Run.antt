@@ -10,7 +10,6 @@ use Rattle.command_line.specs.Asked.{IsCommand}
 use Rattle.command_line.specs.Faults.{fault_text}
 use Rattle.command_line.specs.declared.command.Command.{Command}
 use Rattle.command_line.specs.declared.command.Command.TheVariants.{Pipe, Trial, Serve}
-use Rattle.command_line.specs.declared.fault.UsageFault.{UsageFault}
 use Rattle.command_line.specs.declared.fault.UsageFault.TheVariants as faults
 use Rattle.vl_pipe.specs.Ended.{IsAnswerCut, IsAnswered, IsNamingCut, IsStopped, IsUnanswered}
 use Rattle.vl_pipe.specs.Groups.{arrival_at}
@@ -20,8 +19,8 @@ use Rattle.vl_pipe.specs.Program.{unreadable}
 use Rattle.vl_status.specs.Said.{no_memory_text}
 use Rattle.vl_status.specs.Status.{status_number}
 use Rattle.vl_status.specs.declared.status.Status.{Status}
-use Rattle.vl_status.specs.declared.status.Status.TheVariants.{Done, DoorFault, Limit as AtLimit, NoMemory, QueryRefused}
-use Rattle.vl_status.specs.declared.status.Status.TheVariants.{ReadFault, Usage, WriteFault}
+use Rattle.vl_status.specs.declared.status.Status.TheVariants.{Done, DoorFault, Limit as AtLimit, NoMemory}
+use Rattle.vl_status.specs.declared.status.Status.TheVariants.{QueryRefused, ReadFault, Usage, WriteFault}
 use Rattle.vl_top.specs.Doors.{DoorChange, IsOver}
 use Rattle.vl_top.specs.Server.{AreDone, EndsServer, HasFailedDoor, door_fault_text}
 use Rattle.vl_top.specs.Trial.{EndsTrial, IsTrialCut, IsTrialDone}
@@ -54,20 +53,24 @@ IsNoCommand words = (command : Command) → IsCommand words command → ⊥
 -- the command asks a query that can be asked
 abbrev pub IsAsked : Command → Type 0
 IsAsked (Pipe fields text) = IsReadableQuery text
-IsAsked command = ⊥
+IsAsked (Trial seed rows) = ⊥
+IsAsked (Serve http syslog workers) = ⊥
 
 -- it asks one that cannot be asked
 abbrev pub CannotBeAsked : Command → Type 0
 CannotBeAsked (Pipe fields text) = IsNoReadableQuery text
-CannotBeAsked command = ⊥
+CannotBeAsked (Trial seed rows) = ⊥
+CannotBeAsked (Serve http syslog workers) = ⊥
 
 abbrev pub IsTrial : Command → Type 0
+IsTrial (Pipe fields text) = ⊥
 IsTrial (Trial seed rows) = Unit {0}
-IsTrial command = ⊥
+IsTrial (Serve http syslog workers) = ⊥
 
 abbrev pub IsServe : Command → Type 0
+IsServe (Pipe fields text) = ⊥
+IsServe (Trial seed rows) = ⊥
 IsServe (Serve http syslog workers) = Unit {0}
-IsServe command = ⊥
 
 -- the words have the input read
 abbrev pub Reads : List (List ℕ) → Type 0
@@ -181,12 +184,6 @@ pub record IsRun (run : Run) : Type 0 where
   pub server : ForCommand run.words IsServe → ¬ HasFailedDoor run.does.doors → (status ≡ Done) ⊎ (status ≡ NoMemory)
 
 -- ---- commands that were read
-
--- what is said of words of which no command was read, and the status that it gives
-abbrev pub ReportsUsage : Change → UsageFault → Status → Type 0
-ReportsUsage errors fault status =
-    ((status ≡ Usage) × (fault ≡ faults.Usage) × IsTold errors [] usage_text)
-    ⊎ ((status ≡ NoMemory) × IsTold errors [] no_memory_text)
 
 -- what `pipe` is asked at this moment, and what it does
 abbrev pub pipe_run : Effects → Option (List ℕ) → List ℕ → ℕ → PipeRun

@@ -97,6 +97,7 @@ where
             run_trial(rt, Trial { seed, rows }, out, err, clock).number()
         }
         Ok(Command::Serve { .. }) => run_server(rt, err, doors, clock).number(),
-        Err(fault) => report_usage(rt.alloc(), fault, err).number(),
+        Err(UsageFault::Usage) => report_usage(err).number(),
+        Err(UsageFault::Memory) => report_no_memory(err).number(),
     }
 }

@@ -1,29 +1,20 @@
 //! What is said of words and of doors.
 ghost use Rattle.std.specs.Prelude.{◌≡◌, ◌<◌, [], false, true};
 ghost use Rattle.vl_io.specs.Change.{IsTold, change_of};
-ghost use Rattle.vl_top.specs.Run.{ReportsUsage};
+ghost use Rattle.vl_top.specs.Run.{usage_text};
 ghost use Rattle.vl_top.specs.Server.{TellsEnd, door_fault_text};
 
 use crate::serving::ServeEnd;
-use command_line::UsageFault;
-use std::alloc::Global;
 use vl_io::Sink;
 use vl_status::{Status, report_no_memory, say};
 
-/// The words are no command. Where there is no memory to read them, or to say so, that is what is said.
-pub fn report_usage<E: Sink>(alloc: Global, fault: UsageFault, err: &mut E) -> Status
-    ensures { ReportsUsage (change_of E.written E.faults err.old err.new) fault result }
+/// The words are no command.
+pub fn report_usage<E: Sink>(err: &mut E) -> Status
+    ensures status { result ≡ Status.Usage }
+    ensures said { IsTold (change_of E.written E.faults err.old err.new) [] usage_text }
 {
-    if fault == UsageFault::Memory {
-        return report_no_memory(err);
-    }
-    match format!(in alloc; "{fault}\n") {
-        Ok(text) => {
-            say(err, text.as_str());
-            Status::Usage
-        }
-        Err(_) => report_no_memory(err),
-    }
+    say(err, "usage: pipe, load, query, trial or serve\n");
+    Status::Usage
 }
 
 /// How serving ended: want of memory before a door that failed.

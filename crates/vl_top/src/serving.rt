@@ -27,9 +27,11 @@ pub struct ServeEnd {
 /// Serves all visits of the doors, each as one session over the desk. It returns once each door has failed or has no
 /// visit left.
 ///
-/// Each door has a worker and a pass of its own, which is split from `pass`. Where no more passes can be split, or
-/// memory runs out before there are workers, the doors without one are served after the others, one after another, with
-/// `pass` itself. In the end `pass` has seen all that the passes of the workers had seen.
+/// Each door gets a worker, and a pass that is split from `pass`. Where no more passes can be split, or memory runs out
+/// before there are workers, the doors without one are served after the others, one after another, with `pass` itself.
+///
+/// The tests show, and no clause says, that each door for which there is a pass has a worker of its own with it, so that
+/// doors are served side by side, and that in the end `pass` has seen all that the workers' passes had seen.
 pub fn serve<R: Threads + Wait + Sync, D: Doors + Send + Drop, C: Clock>(
     rt: &R,
     alloc: Global,
@@ -58,7 +60,7 @@ where
     ensures pass { IsPassOf desk.now pass.new }
     ensures may_settle { pass.new.may_settle ≡ pass.old.may_settle }
     ensures goes_on { GoesOn (seen_of pass.old) (seen_of pass.new) }
-    ensures clock { C.moments clock.new ≡ C.moments clock.old }
+    ensures clock { clock.new ≡ clock.old }
 {
     let count = doors.len();
     let (Ok(workers), Ok(room)) = (

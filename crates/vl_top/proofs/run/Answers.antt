@@ -68,8 +68,8 @@ returns-in-Ok-Serve-clause-run g c =
     ((refl, refl), refl, c.run_server.ensures.ends))
     c.number-in-Ok-Serve.ensures
 
-pub returns-clause-run : goal.returns-clause-run
-returns-clause-run g c =
+pub returns-in-Err-Usage-clause-run : goal.returns-in-Err-Usage-clause-run
+returns-in-Err-Usage-clause-run g c =
     let run : Run = record {
       words = map (λ word. word.now) c.args.words.now;
       does = record {
@@ -80,7 +80,7 @@ returns-clause-run g c =
         moments_before = g.C.Clock.moments c.args.clock.now;
         moments_after = g.C.Clock.moments c.args.clock.now;
       };
-      status = c.number-in-Err.result;
+      status = c.number-in-Err-Usage.result;
     } in
-    usage_runs run c.in-Err.fault c.report_usage.result c.in-Err.ensures.usage (refl, refl) c.report_usage.ensures
-    c.number-in-Err.ensures
+    usage_runs run (c.in-Err-Usage.ensures.usage c.in-Err-Usage.field-0-is) c.report_usage.ensures.said
+    (c.number-in-Err-Usage.ensures ∙ ap status_number c.report_usage.ensures.status)

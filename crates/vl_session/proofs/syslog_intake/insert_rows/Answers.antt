@@ -1,14 +1,14 @@
 use Rattle.std.proofs.Common.{◌<◌, length, sym, ap, subst, arith}
 use Rattle.log_desk.specs.Seen.{caller_of, seen_of}
-use Rattle.vl_session.specs.Seen.{Has}
+use Rattle.vl_session.specs.Seen.{Has, batches_of_rows}
 use Rattle.vl_session.specs.SyslogSession.{TakesAll, end_effect}
-use Rattle.vl_session.specs.SyslogTaking.{HoldsUp, batches_from}
+use Rattle.vl_session.specs.SyslogTaking.{HoldsUp}
 use Rattle.vl_session.proofs.SyslogIntake.{held_up, refused_has, takes_one}
 use Rattle.vl_session.proofs.syslog_intake.insert_rows.Goals as goal
 
 pub returns-in-Ok-insert-clause-ok : goal.returns-in-Ok-insert-clause-ok
 returns-in-Ok-insert-clause-ok g c =
-    subst (λ rows. TakesAll (caller_of c.args.pass.now) (seen_of c.args.pass.now) (batches_from rows)
+    subst (λ rows. TakesAll (caller_of c.args.pass.now) (seen_of c.args.pass.now) (batches_of_rows rows)
     (seen_of c.insert.new.pass)) c.in-Ok.ensures.ok.1
     (takes_one (caller_of c.args.pass.now) (seen_of c.args.pass.now) (seen_of c.insert.new.pass) c.in-Ok.batch
     c.in-Ok.ensures.rules.some c.in-Ok-insert.ensures.takes)

@@ -2,9 +2,9 @@ use Rattle.std.proofs.Common.{◌≡◌, ◌<◌, [], ◌++◌, drop, length, re
 use Rattle.std.proofs.Common.{FitsSigned, w64, to_z, of_z}
 use Rattle.std.proofs.lemmas.Int.{to_z-of_z}
 use Rattle.log_desk.specs.Seen.{caller_of, seen_of}
-use Rattle.vl_session.specs.Seen.{Has}
+use Rattle.vl_session.specs.Seen.{Has, batches_of_rows}
 use Rattle.vl_session.specs.SyslogSession.{TakesAll, end_effect}
-use Rattle.vl_session.specs.SyslogTaking.{BeginWith, HoldsUp, batches_from}
+use Rattle.vl_session.specs.SyslogTaking.{BeginWith, HoldsUp}
 use Rattle.vl_session.proofs.SeenLemmas.{follows_none}
 use Rattle.vl_session.proofs.SyslogIntake.{few_counted, few_rows, takes_first, takes_more, takes_some}
 use Rattle.vl_session.proofs.syslog_intake.take_batches.Goals as goal
@@ -96,12 +96,12 @@ batches-preserved g c =
     let taken = c.in-Ok-insert_rows.ensures in
     record {
       outcomes = i.outcomes ++ chunk.outcomes;
-      batches = i.batches ++ batches_from rows;
+      batches = i.batches ++ batches_of_rows rows;
       takes = takes_more (caller_of c.args.pass.now) moment c.batches.at c.args.messages.now _ _ _ c.args.counts.now
           c.batches.counts _ i.outcomes chunk.outcomes i.batches rows i.takes i.at_is chunk.given chunk.rows
           (omega (arith, c.in-Ok.ensures.few, c.in-Ok.chunk.rows.ok.0)) below
           (λ less. omega (arith, c.in-Ok.ensures.full (omega (arith, less, chunk.end_is)), c.in-Ok.chunk.rows.ok.0))
-          (subst (λ caller. TakesAll caller (seen_of c.batches.pass) (batches_from rows) (seen_of c.insert_rows.new.pass))
+          (subst (λ caller. TakesAll caller (seen_of c.batches.pass) (batches_of_rows rows) (seen_of c.insert_rows.new.pass))
           i.caller taken.ok) (omega (arith, count)) (omega (arith, count, chunk.end_is));
       pass = taken.pass;
       caller = taken.caller ∙ i.caller;

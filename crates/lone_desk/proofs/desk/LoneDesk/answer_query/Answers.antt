@@ -3,7 +3,7 @@ use Rattle.std.specs.Prelude.{IfErr, IfOk}
 use Rattle.std.proofs.lemmas.Int.{to_z-of_z}
 use Rattle.log_desk.specs.Seen.{Seen, caller_of, seen_of}
 use Rattle.vl_session.specs.Answer.{FailsQuery, HasRecords, IsQueryAnswer}
-use Rattle.lone_desk.proofs.AnswerLaws.{answered, failed, stays}
+use Rattle.lone_desk.proofs.AnswerLaws.{answered, failed, mark_stays, stays}
 use Rattle.lone_desk.proofs.desk.LoneDesk.answer_query.Goals as goal
 
 pub returns-clause-answered : goal.returns-clause-answered
@@ -32,6 +32,14 @@ returns-clause-same g c =
     let pass = c.self.inside.pass in
     subst (λ (seen : Seen). (seen_of c.answer_query.new.pass).history ≡ seen.history) c.self.view_is
     (stays (caller_of pass) c.self.invariant.1 (seen_of pass) (seen_of c.answer_query.new.pass) c.answer_query.result
+    e.looks e.effect)
+
+pub returns-clause-mark : goal.returns-clause-mark
+returns-clause-mark g c =
+    let e = c.answer_query.ensures in
+    let pass = c.self.inside.pass in
+    subst (λ (seen : Seen). (seen_of c.answer_query.new.pass).settled ≡ seen.settled) c.self.view_is
+    (mark_stays (caller_of pass) c.self.invariant.1 (seen_of pass) (seen_of c.answer_query.new.pass) c.answer_query.result
     e.looks e.effect)
 
 pub returns-clause-complete : goal.returns-clause-complete
