@@ -45,7 +45,8 @@ module _ (caller : Caller) (alone : IsAlone caller) (arrival : Arrival) (body : 
         refusal.1.0,
         refusal.1.1.given,
         (
-          same_held old new (rows_read refusal.1.0) (same_history caller alone old new follows) (same_settled caller alone old new follows) refusal.1.2,
+          same_held old new (rows_read refusal.1.0) (same_history caller alone old new follows)
+              (same_settled caller alone old new follows) refusal.1.2,
           refusal.1.1.some,
           refusal.1.1.light,
         ),

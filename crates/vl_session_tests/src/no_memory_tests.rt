@@ -1,6 +1,6 @@
 //! What a session writes where there is no memory for its replies. The expected bytes are those of `docs/HTTP.md`. The
-//! `Log` is the test's own, which has no memory for any reply. That the shipped one gives these replies where memory
-//! runs out, its clause `served` (`IsServed`) says.
+//! `Log` is the test's own, which has no memory for any reply. Of the shipped one the clause `served` (`IsServed`)
+//! says that it answers what is asked, or with these bytes where memory runs out.
 use http_in::Request;
 use http_reply::no_memory;
 use http_route::delivery_to;

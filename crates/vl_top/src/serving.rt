@@ -30,8 +30,8 @@ pub struct ServeEnd {
 /// Each door gets a worker, and a pass that is split from `pass`. Where no more passes can be split, or memory runs out
 /// before there are workers, the doors without one are served after the others, one after another, with `pass` itself.
 ///
-/// The tests show, and no clause says, that each door for which there is a pass has a worker of its own with it, so that
-/// doors are served side by side, and that in the end `pass` has seen all that the workers' passes had seen.
+/// The tests show, and no clause says, that each door for which there is a pass has a worker of its own with it, so
+/// that doors are served side by side, and that in the end `pass` has seen all that the workers' passes had seen.
 pub fn serve<R: Threads + Wait + Sync, D: Doors + Send + Drop, C: Clock>(
     rt: &R,
     alloc: Global,

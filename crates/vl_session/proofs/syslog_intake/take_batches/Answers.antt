@@ -101,7 +101,8 @@ batches-preserved g c =
           c.batches.counts _ i.outcomes chunk.outcomes i.batches rows i.takes i.at_is chunk.given chunk.rows
           (omega (arith, c.in-Ok.ensures.few, c.in-Ok.chunk.rows.ok.0)) below
           (λ less. omega (arith, c.in-Ok.ensures.full (omega (arith, less, chunk.end_is)), c.in-Ok.chunk.rows.ok.0))
-          (subst (λ caller. TakesAll caller (seen_of c.batches.pass) (batches_of_rows rows) (seen_of c.insert_rows.new.pass))
+          (subst (λ caller. TakesAll caller (seen_of c.batches.pass) (batches_of_rows rows)
+          (seen_of c.insert_rows.new.pass))
           i.caller taken.ok) (omega (arith, count)) (omega (arith, count, chunk.end_is));
       pass = taken.pass;
       caller = taken.caller ∙ i.caller;

@@ -39,8 +39,8 @@ returns-clause-mark g c =
     let e = c.answer_query.ensures in
     let pass = c.self.inside.pass in
     subst (λ (seen : Seen). (seen_of c.answer_query.new.pass).settled ≡ seen.settled) c.self.view_is
-    (mark_stays (caller_of pass) c.self.invariant.1 (seen_of pass) (seen_of c.answer_query.new.pass) c.answer_query.result
-    e.looks e.effect)
+    (mark_stays (caller_of pass) c.self.invariant.1 (seen_of pass) (seen_of c.answer_query.new.pass)
+    c.answer_query.result e.looks e.effect)
 
 pub returns-clause-complete : goal.returns-clause-complete
 returns-clause-complete g c has =
