@@ -1,5 +1,6 @@
 pub mod Named
 pub mod Order
 pub mod Outcome
+pub mod Refusal
 pub mod Subject
 pub mod Total

@@ -1,50 +1,65 @@
 //! Filters.
-ghost use Rattle.std.specs.Prelude.{◌≡◌, IfOk, map};
+ghost use Rattle.std.specs.Prelude.{◌≡◌, IfOk, IfErr, map};
+ghost use Rattle.std.specs.List.{AllByRecursion};
 ghost use Rattle.lq_ast.specs.Condition.{conditions};
 ghost use Rattle.lq_ast.specs.Holds.{are_all_met, holds, is_met, is_some_met, record_holds, selects};
+ghost use Rattle.lq_ast.specs.Patterns.{CanBeRead, patterns_of};
 ghost use Rattle.lq_ast.specs.View.{condition, groups_of};
+ghost use Rattle.lq_plain.specs.Refusal.{IsRefusal};
 ghost use Rattle.lq_plain.specs.Subject.{subject_of};
 
 use crate::fault::PlainFault;
+use crate::patterns::read_filter;
 use crate::subject::Subject;
 use crate::{forms, selector};
 use lq_ast::{Filter, Select};
-use std::alloc::Global;
+use std::alloc::{AllocError, Global};
 use vl_row::{FieldList, Row, Stream};
 
-/// Whether the filter holds for the row, at the moment `now`, in nanoseconds since 1970.
+/// Whether the filter holds for the row, at the moment `now`, in nanoseconds since 1970. First each of its
+/// regular expressions is read: `Unreadable` says that one of them cannot be.
 pub fn holds(alloc: Global, now: i64, filter: &Filter, row: &Row) -> Result<bool, PlainFault>
-    ensures { IfOk result (λ found. found ≡ holds now (condition filter.now) row.now) }
+    ensures value { IfOk result (λ found. found ≡ holds now (condition filter.now) row.now) }
+    ensures readable { IfOk result (λ _. AllByRecursion CanBeRead (patterns_of (condition filter.now))) }
+    ensures unreadable { IfErr result (IsRefusal (patterns_of (condition filter.now))) }
 {
-    is_met(alloc, filter, &Subject::Row { now, row })
+    read_filter(alloc, filter)?;
+    Ok(is_met(alloc, filter, &Subject::Row { now, row })?)
 }
 
-/// Whether the filter holds for the record, which is of no moment and of no stream.
+/// The same for the record, which is of no moment and of no stream.
 pub fn record_holds(alloc: Global, filter: &Filter, fields: &FieldList) -> Result<bool, PlainFault>
-    ensures { IfOk result (λ found. found ≡ record_holds (condition filter.now) fields.now) }
+    ensures value { IfOk result (λ found. found ≡ record_holds (condition filter.now) fields.now) }
+    ensures readable { IfOk result (λ _. AllByRecursion CanBeRead (patterns_of (condition filter.now))) }
+    ensures unreadable { IfErr result (IsRefusal (patterns_of (condition filter.now))) }
 {
-    is_met(alloc, filter, &Subject::Record(fields))
+    read_filter(alloc, filter)?;
+    Ok(is_met(alloc, filter, &Subject::Record(fields))?)
 }
 
 #[cycle(holding)]
-fn is_met(alloc: Global, filter: &Filter, asked: &Subject<'_>) -> Result<bool, PlainFault>
+pub(crate) fn is_met(
+    alloc: Global,
+    filter: &Filter,
+    asked: &Subject<'_>,
+) -> Result<bool, AllocError>
     ensures { IfOk result (λ met. met ≡ is_met (condition filter.now) (subject_of asked.now)) }
 {
     match filter {
         Filter::All => Ok(true),
-        Filter::Any { field } => Ok(forms::any(alloc, asked, field)?),
-        Filter::Empty { field } => Ok(forms::empty(alloc, asked, field)?),
-        Filter::Phrase { field, text } => Ok(forms::phrase(alloc, asked, field, text)?),
-        Filter::Prefix { field, text } => Ok(forms::prefix(alloc, asked, field, text)?),
-        Filter::Exact { field, text } => Ok(forms::exact(alloc, asked, field, text)?),
-        Filter::ExactPrefix { field, text } => Ok(forms::exact_prefix(alloc, asked, field, text)?),
-        Filter::OneOf { field, texts } => Ok(forms::one_of(alloc, asked, field, texts.as_slice())?),
+        Filter::Any { field } => forms::any(alloc, asked, field),
+        Filter::Empty { field } => forms::empty(alloc, asked, field),
+        Filter::Phrase { field, text } => forms::phrase(alloc, asked, field, text),
+        Filter::Prefix { field, text } => forms::prefix(alloc, asked, field, text),
+        Filter::Exact { field, text } => forms::exact(alloc, asked, field, text),
+        Filter::ExactPrefix { field, text } => forms::exact_prefix(alloc, asked, field, text),
+        Filter::OneOf { field, texts } => forms::one_of(alloc, asked, field, texts.as_slice()),
         Filter::Regex { field, pattern } => forms::regex(alloc, asked, field, pattern),
-        Filter::Fold { field, text } => Ok(forms::fold(alloc, asked, field, text)?),
-        Filter::Seq { field, texts } => Ok(forms::sequence(alloc, asked, field, texts.as_slice())?),
-        Filter::Length { field, low, high } => Ok(forms::length(alloc, asked, field, *low, *high)?),
-        Filter::Between { field, low, high } => Ok(forms::between(alloc, asked, field, low, high)?),
-        Filter::Range { field, low, high } => Ok(forms::range(alloc, asked, field, *low, *high)?),
+        Filter::Fold { field, text } => forms::fold(alloc, asked, field, text),
+        Filter::Seq { field, texts } => forms::sequence(alloc, asked, field, texts.as_slice()),
+        Filter::Length { field, low, high } => forms::length(alloc, asked, field, *low, *high),
+        Filter::Between { field, low, high } => forms::between(alloc, asked, field, low, high),
+        Filter::Range { field, low, high } => forms::range(alloc, asked, field, *low, *high),
         Filter::Last { span } => Ok(asked.is_recent(*span)),
         Filter::Times { from, to } => Ok(asked.is_during(*from, *to)),
         Filter::Select(select) => selects(alloc, select, asked),
@@ -55,7 +70,7 @@ fn is_met(alloc: Global, filter: &Filter, asked: &Subject<'_>) -> Result<bool, P
 }
 
 #[cycle(holding)]
-fn are_all_met(alloc: Global, filters: &[Filter], asked: &Subject<'_>) -> Result<bool, PlainFault>
+fn are_all_met(alloc: Global, filters: &[Filter], asked: &Subject<'_>) -> Result<bool, AllocError>
     ensures { IfOk result
         (λ met. met ≡ are_all_met (conditions (map condition filters.now)) (subject_of asked.now)) }
 {
@@ -68,7 +83,7 @@ fn are_all_met(alloc: Global, filters: &[Filter], asked: &Subject<'_>) -> Result
 }
 
 #[cycle(holding)]
-fn is_some_met(alloc: Global, filters: &[Filter], asked: &Subject<'_>) -> Result<bool, PlainFault>
+fn is_some_met(alloc: Global, filters: &[Filter], asked: &Subject<'_>) -> Result<bool, AllocError>
     ensures { IfOk result
         (λ met. met ≡ is_some_met (conditions (map condition filters.now)) (subject_of asked.now)) }
 {
@@ -81,7 +96,7 @@ fn is_some_met(alloc: Global, filters: &[Filter], asked: &Subject<'_>) -> Result
 }
 
 /// Whether the stream is selected. A record is of the stream without labels.
-fn selects(alloc: Global, select: &Select, asked: &Subject<'_>) -> Result<bool, PlainFault>
+fn selects(alloc: Global, select: &Select, asked: &Subject<'_>) -> Result<bool, AllocError>
     ensures { IfOk result (λ found. found ≡ selects (groups_of select.now) (subject_of asked.now).labels) }
 {
     match asked {

@@ -4,7 +4,6 @@ ghost use Rattle.lq_ast.specs.Condition as is;
 ghost use Rattle.lq_ast.specs.Holds.{is_met};
 ghost use Rattle.lq_plain.specs.Subject.{subject_of};
 
-use crate::fault::PlainFault;
 use crate::pattern::is_found;
 use crate::sequence::are_in_order;
 use crate::subject::Subject;
@@ -96,7 +95,7 @@ pub(crate) fn regex(
     asked: &Subject<'_>,
     field: &Text,
     pattern: &Text,
-) -> Result<bool, PlainFault>
+) -> Result<bool, AllocError>
     ensures { IfOk result (λ met. met ≡ is_met (is.pattern field.now pattern.now) (subject_of asked.now)) }
 {
     let value = asked.value(alloc, field)?;

@@ -9,9 +9,9 @@ ghost use Rattle.lq_ast.specs.Tuples.{is_wholly_empty, tuple_of};
 ghost use Rattle.lq_ast.specs.View.{condition};
 
 use crate::array::array_text;
-use crate::fault::PlainFault;
-use crate::filter::record_holds;
+use crate::filter::is_met;
 use crate::sort_pipe::copies;
+use crate::subject::Subject;
 use crate::total::sum_text;
 use crate::tuples::tuples;
 use crate::values::{distinct, filled, in_order, values};
@@ -24,11 +24,11 @@ pub(crate) fn statistic_text(
     alloc: Global,
     func: &Func,
     records: &[FieldList],
-) -> Result<Option<Text>, PlainFault>
+) -> Result<Option<Text>, AllocError>
     ensures { IfOk result (λ text. text ≡ statistic_text (statistic func.now) records.now) }
 {
     let asked = asked(alloc, &func.only, records)?;
-    Ok(call_text(alloc, func.call, func.names.as_slice(), asked.as_slice())?)
+    call_text(alloc, func.call, func.names.as_slice(), asked.as_slice())
 }
 
 /// The records that a function is asked of: all, or those for which its filter holds.
@@ -36,21 +36,21 @@ fn asked(
     alloc: Global,
     only: &Option<Filter>,
     records: &[FieldList],
-) -> Result<Vec<FieldList>, PlainFault>
+) -> Result<Vec<FieldList>, AllocError>
     ensures { IfOk result (λ made. made.items ≡ asked (option_map condition only.now) records.now) }
 {
     match only {
-        None => Ok(copies(alloc, records)?),
+        None => copies(alloc, records),
         Some(filter) => kept(alloc, filter, records),
     }
 }
 
-fn kept(alloc: Global, only: &Filter, records: &[FieldList]) -> Result<Vec<FieldList>, PlainFault>
+fn kept(alloc: Global, only: &Filter, records: &[FieldList]) -> Result<Vec<FieldList>, AllocError>
     ensures { IfOk result (λ made. made.items ≡ filter (record_holds (condition only.now)) records.now) }
 {
     let mut kept = Vec::new(alloc);
     for fields in records {
-        if record_holds(alloc, only, fields)? {
+        if is_met(alloc, only, &Subject::Record(fields))? {
             kept.push(fields.try_copy(alloc)?)?;
         }
     }

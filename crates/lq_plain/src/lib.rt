@@ -10,6 +10,7 @@ mod functions;
 mod groups;
 mod insertion;
 mod pattern;
+mod patterns;
 mod selector;
 mod sequence;
 mod sort_pipe;

@@ -1,13 +1,30 @@
 //! Regular expressions.
-ghost use Rattle.std.specs.Prelude.{◌≡◌, IfOk, string_bytes};
-ghost use Rattle.lq_ast.specs.Patterns.{is_found, whole};
+ghost use Rattle.std.specs.Prelude.{◌≡◌, IfOk, IfErr, string_bytes};
+ghost use Rattle.lq_ast.specs.Patterns.{IsReadable, is_found, whole};
+ghost use Rattle.lq_plain.specs.declared.fault.PlainFault.TheVariants.{Unreadable};
 
 use crate::fault::PlainFault;
 use regex::{Error, Regex};
 use std::alloc::{AllocError, Global};
 
-/// Whether the regular expression is found somewhere in the value.
-pub(crate) fn is_found(alloc: Global, pattern: &str, value: &str) -> Result<bool, PlainFault>
+/// Reads the regular expression, to see whether it can be read.
+pub(crate) fn read(alloc: Global, pattern: &str) -> Result<(), PlainFault>
+    ensures readable { IfOk result (λ _. IsReadable pattern.now) }
+    ensures unreadable { IfErr result (λ fault. fault ≡ Unreadable → IsReadable pattern.now → ⊥) }
+{
+    match Regex::new(alloc, pattern) {
+        Ok(regex) => {
+            drop(regex);
+            Ok(())
+        }
+        Err(Error::Syntax(_)) => Err(PlainFault::Unreadable),
+        Err(_) => Err(PlainFault::Memory),
+    }
+}
+
+/// Whether the regular expression is found somewhere in the value. It has been read before, so that now memory alone
+/// can be wanting.
+pub(crate) fn is_found(alloc: Global, pattern: &str, value: &str) -> Result<bool, AllocError>
     ensures { IfOk result (λ found. found ≡ is_found pattern.now value.now) }
 {
     match Regex::new(alloc, pattern) {
@@ -15,21 +32,25 @@ pub(crate) fn is_found(alloc: Global, pattern: &str, value: &str) -> Result<bool
             let mut matcher = regex.matcher(alloc)?;
             Ok(matcher.is_match(value))
         }
-        Err(Error::Syntax(_)) => Err(PlainFault::Unreadable),
-        Err(_) => Err(PlainFault::Memory),
+        Err(_) => Err(AllocError),
     }
 }
 
 /// Whether it matches the whole value.
-pub(crate) fn is_whole(alloc: Global, pattern: &str, value: &str) -> Result<bool, PlainFault>
+pub(crate) fn is_whole(alloc: Global, pattern: &str, value: &str) -> Result<bool, AllocError>
     ensures { IfOk result (λ found. found ≡ is_found (whole pattern.now) value.now) }
 {
     let whole = whole_text(alloc, pattern)?;
     is_found(alloc, whole.as_str(), value)
 }
 
-fn whole_text(alloc: Global, pattern: &str) -> Result<String, AllocError>
+/// What is searched for where a whole value has to match.
+pub(crate) fn whole_text(alloc: Global, pattern: &str) -> Result<String, AllocError>
     ensures { IfOk result (λ text. string_bytes text ≡ whole pattern.now) }
 {
-    format!(in alloc; "\\A(?:{pattern})\\z")
+    let mut whole = String::new(alloc);
+    whole.push_str("\\A(?:")?;
+    whole.push_str(pattern)?;
+    whole.push_str(")\\z")?;
+    Ok(whole)
 }

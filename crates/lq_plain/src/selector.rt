@@ -4,21 +4,20 @@ ghost use Rattle.std.specs.List.{list_all, list_any};
 ghost use Rattle.lq_ast.specs.Holds.{passes, selects};
 ghost use Rattle.lq_ast.specs.View.{groups_of, test_of, tests_of};
 
-use crate::fault::PlainFault;
 use crate::pattern::is_whole;
 use lq_ast::{Group, How, LabelTest, Select};
-use std::alloc::Global;
+use std::alloc::{AllocError, Global};
 use vl_row::Stream;
 
 /// Whether some group has all its tests true, or there is no group.
-pub(crate) fn selects(alloc: Global, select: &Select, stream: &Stream) -> Result<bool, PlainFault>
+pub(crate) fn selects(alloc: Global, select: &Select, stream: &Stream) -> Result<bool, AllocError>
     ensures { IfOk result (λ found. found ≡ selects (groups_of select.now) stream.now) }
 {
     let groups = select.groups.as_slice();
     Ok(groups.is_empty() || some_selects(alloc, groups, stream)?)
 }
 
-fn some_selects(alloc: Global, groups: &[Group], stream: &Stream) -> Result<bool, PlainFault>
+fn some_selects(alloc: Global, groups: &[Group], stream: &Stream) -> Result<bool, AllocError>
     ensures { IfOk result (λ found. found ≡ list_any (list_all (passes stream.now)) (map tests_of groups.now)) }
 {
     match groups {
@@ -32,7 +31,7 @@ fn some_selects(alloc: Global, groups: &[Group], stream: &Stream) -> Result<bool
     }
 }
 
-fn all_pass(alloc: Global, tests: &[LabelTest], stream: &Stream) -> Result<bool, PlainFault>
+fn all_pass(alloc: Global, tests: &[LabelTest], stream: &Stream) -> Result<bool, AllocError>
     ensures { IfOk result (λ found. found ≡ list_all (passes stream.now) (map test_of tests.now)) }
 {
     match tests {
@@ -43,7 +42,7 @@ fn all_pass(alloc: Global, tests: &[LabelTest], stream: &Stream) -> Result<bool,
     }
 }
 
-fn passes(alloc: Global, test: &LabelTest, stream: &Stream) -> Result<bool, PlainFault>
+fn passes(alloc: Global, test: &LabelTest, stream: &Stream) -> Result<bool, AllocError>
     ensures { IfOk result (λ found. found ≡ passes stream.now (test_of test.now)) }
 {
     let value = stream.value(test.name.as_str());

@@ -1,28 +1,36 @@
 //! The `stats` pipe.
-ghost use Rattle.std.specs.Prelude.{◌≡◌, IfOk, OnOk, map, zip};
+ghost use Rattle.std.specs.Prelude.{◌≡◌, IfOk, IfErr, OnOk, map, zip};
+ghost use Rattle.std.specs.List.{AllByRecursion};
 ghost use Rattle.lq_ast.specs.Grouping.{all, group_record, grouped, set_statistics};
+ghost use Rattle.lq_ast.specs.Patterns.{CanBeRead, patterns_of_grouping};
 ghost use Rattle.lq_ast.specs.PipeView.{group_by, grouping, statistic};
 ghost use Rattle.lq_ast.specs.Records.{put_field, put_fields};
 ghost use Rattle.lq_plain.specs.Outcome.{prepended};
+ghost use Rattle.lq_plain.specs.Refusal.{IsRefusal};
 
 use crate::fault::PlainFault;
 use crate::functions::statistic_text;
 use crate::groups::{group_tuples, members};
+use crate::patterns::read_functions;
 use lq_ast::{Func, StatKey, StatsPipe};
 use std::alloc::{AllocError, Global};
 use vl_row::{FieldList, Items, Recs, Text};
 
 /// A record for each group of the records in tuple order, without keys always one; or the name of the first function of
-/// the first group whose total is no 64-bit integer.
+/// the first group whose total is no 64-bit integer. First each regular expression of the functions'
+/// filters is read: `Unreadable` says that one of them cannot be.
 pub fn grouped(
     alloc: Global,
     p: &StatsPipe,
     records: &[FieldList],
 ) -> Result<Result<Recs, Text>, PlainFault>
-    ensures { IfOk result (λ answer. answer ≡ grouped (grouping p.now) records.now) }
+    ensures value { IfOk result (λ answer. answer ≡ grouped (grouping p.now) records.now) }
+    ensures readable { IfOk result (λ _. AllByRecursion CanBeRead (patterns_of_grouping (grouping p.now))) }
+    ensures unreadable { IfErr result (IsRefusal (patterns_of_grouping (grouping p.now))) }
 {
+    read_functions(alloc, p.funcs.as_slice())?;
     let tuples = group_tuples(alloc, p.keys.as_slice(), records)?;
-    group_records(alloc, p, records, tuples.as_slice(), Vec::new(alloc))
+    Ok(group_records(alloc, p, records, tuples.as_slice(), Vec::new(alloc))?)
 }
 
 /// These records, and behind them one for each of the groups; or the name of the first function whose total is no
@@ -33,7 +41,7 @@ fn group_records(
     records: &[FieldList],
     tuples: &[Items<Text>],
     made: Vec<FieldList>,
-) -> Result<Result<Recs, Text>, PlainFault>
+) -> Result<Result<Recs, Text>, AllocError>
     ensures { IfOk result (λ answer. answer
         ≡ prepended made.items (all (map (group_record (grouping p.now) records.now) tuples.now))) }
 {
@@ -56,7 +64,7 @@ fn group_record(
     p: &StatsPipe,
     records: &[FieldList],
     tuple: &[Text],
-) -> Result<Result<FieldList, Text>, PlainFault>
+) -> Result<Result<FieldList, Text>, AllocError>
     ensures { IfOk result (λ answer. answer ≡ group_record (grouping p.now) records.now tuple.now) }
 {
     let members = members(alloc, p.keys.as_slice(), records, tuple)?;
@@ -71,7 +79,7 @@ fn set_statistics(
     records: &[FieldList],
     funcs: &[Func],
     made: FieldList,
-) -> Result<Result<FieldList, Text>, PlainFault>
+) -> Result<Result<FieldList, Text>, AllocError>
     ensures { IfOk result (λ answer. answer ≡ set_statistics records.now (map statistic funcs.now) made) }
 {
     let mut made = made;
