@@ -113,11 +113,11 @@ module _ (caller : Caller) (options : Options) (now : ℕ) (body : List ℕ) (in
       → reply ≡ reply_bytes (insert_status outcome) (refusal_text outcome) delivery → IsAnswered
   refused_for (desk.Full held) outcome is_outcome can refused said =
       let same : inserts.full ≡ outcome = cc in
-      looked inserts.full refused.0 (outcomes, can, refused.1) refl
+      looked inserts.full refused.0 (outcomes, can, refused.1.0) refl
       (said ∙ ap (λ o. reply_bytes (insert_status o) (refusal_text o) delivery) (sym same)) refl
   refused_for desk.Spent outcome is_outcome can refused said =
       let same : inserts.spent ≡ outcome = cc in
-      looked inserts.spent refused.0 (outcomes, can, refused.1, refused.2) refl
+      looked inserts.spent refused.0 (outcomes, can, refused.1.0, refused.1.1) refl
       (said ∙ ap (λ o. reply_bytes (insert_status o) (refusal_text o) delivery) (sym same)) refl
   refused_for desk.Memory outcome is_outcome can refused said = absurd cc
 

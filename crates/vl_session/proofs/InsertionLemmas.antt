@@ -62,8 +62,8 @@ module _ (caller : Caller) (options : Options) (now : ℕ) (body : List ℕ) (ou
 
   refuses_for : (why : InsertFault) → CanBeBatch options now body outcomes → IsRefused caller old new why
       → RefusesLines caller options now body old new (fault_of why)
-  refuses_for (desk.Full held) can is = (is.2, (is.0, (outcomes, can, is.1)))
-  refuses_for desk.Spent can is = (is.0, (outcomes, can, is.1, is.2))
+  refuses_for (desk.Full held) can is = (is.1.1, (is.0, (outcomes, can, is.1.0)))
+  refuses_for desk.Spent can is = (is.0, (outcomes, can, is.1.0, is.1.1))
   refuses_for desk.Memory can is = is
 
   -- why rows are not inserted

@@ -40,12 +40,10 @@ pub refused : (p r : PassState EntryRows) (fault : InsertFault) → Follows (cal
     → IsRefused (caller_of p) (seen_of p) (seen_of r) fault
 refused p r (Full held) follows turn refuses = (
   (follows, omega (arith, turn (full_is_no_memory held))),
-  length-seen r.seen ∙ refuses.0,
-  refuses.1,
+  (length-seen r.seen ∙ refuses.0, refuses.1),
 )
 refused p r Spent follows turn refuses = (
   (follows, omega (arith, turn spent_is_no_memory)),
-  λ full. refuses.0 (sym (length-seen r.seen) ∙ full),
-  length-seen r.seen ∙ refuses.1,
+  (λ full. refuses.0 (sym (length-seen r.seen) ∙ full), length-seen r.seen ∙ refuses.1),
 )
 refused p r Memory follows turn refuses = follows

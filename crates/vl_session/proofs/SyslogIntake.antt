@@ -53,8 +53,8 @@ takes_one caller old new (row ∷ rows) some takes = (new, takes, refl)
 -- why they are not
 pub held_up : (caller : Caller) (rows : List Row) (old new : Seen) (fault : InsertFault) → 0 < length rows
     → IsRefused caller old new fault → HoldsUp rows new (end_of_insert fault)
-held_up caller rows old new (desk.Full held) some is = (some, is.2, is.1)
-held_up caller rows old new desk.Spent some is = (some, is.1, is.2)
+held_up caller rows old new (desk.Full held) some is = (some, is.1.1, is.1.0)
+held_up caller rows old new desk.Spent some is = (some, is.1.0, is.1.1)
 held_up caller rows old new desk.Memory some is = tt
 
 -- what the refusal did
