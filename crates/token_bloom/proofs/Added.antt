@@ -1,16 +1,19 @@
 -- A word that was added may be there.
-use Rattle.std.proofs.Common.{◌≡◌, ℕ, ◌+◌, ◌*◌, ◌/◌, ◌%◌, ◌<◌, ◌≤◌, ◌^◌, Bool, true, false, eqb, ltb, List, [], ◌∷◌}
+use Rattle.std.proofs.Common.{◌≡◌, ℕ, ◌*◌, ◌/◌, ◌%◌, ◌<◌, ◌^◌, Bool, true, false, eqb, ltb, List, [], ◌∷◌}
 use Rattle.std.proofs.Common.{length, get_or, refl, sym, ap, ◌∙◌, arith, inl, inr, w64}
-use Rattle.std.specs.Prelude.{◌&&◌, slice_set, bit_or}
+use Rattle.std.specs.Prelude.{◌&&◌, ◌==◌, bit_or}
+use Rattle.std.proofs.lemmas.Bool.Decides.{nat_tests}
 use Rattle.std.specs.List.{AllByRecursion}
 use Rattle.std.specs.Int.{bit_at}
 use Rattle.std.proofs.lemmas.Bool.{cases_eq, eq-eqb, eqb-true, ne_eqb, lt-ltb, ltb-true}
 use Rattle.std.proofs.lemmas.Nat.{mod_below}
 use Rattle.std.proofs.lemmas.List.{get_or-set_same, get_or-set_other}
 use Rattle.std.proofs.Math.ListN.{length-set}
-use Rattle.std.proofs.lemmas.Nat.Bits.{bit_at_set_same, bit_at_set_other, bit_at_or}
+use Rattle.std.proofs.lemmas.Nat.Bits.{bit_at_set_same, bit_at_set_other}
 use Rattle.token_bloom.specs.Bits.{has_bit, with_bit, has_bits, with_bits, place, places, bit_count, fnv}
-use Rattle.token_bloom.specs.Filter.{may_have, with_word}
+use Rattle.token_bloom.specs.Filter.{may_have, with_hash, with_word}
+use Rattle.token_bloom.specs.Walk.{IsOfFilter}
+use Rattle.token_bloom.specs.declared.modulus.Modulus.{Modulus}
 
 row-in : (b n : ℕ) → b < 64 * n → b / 64 < n
 row-in b n lt = omega (arith, lt)
@@ -84,10 +87,26 @@ places-within ws h lt =
     let one : (i : ℕ) → place (bit_count ws) h i < 64 * length ws = λ i. mod_below _ (bit_count ws) some in
     (one 0, (one 1, (one 2, (one 3, (one 4, (one 5, tt))))))
 
-pub filled : (ws word : List ℕ) → 0 < length ws → with_word ws word ≡ with_bits ws (places (bit_count ws) (fnv word))
-filled ws word lt =
+pub some-from_test : (n : ℕ) → (n == 0) ≡ false → 0 < n
+some-from_test n e = grind (arith, nat_tests)
+
+pub hash_filled : (ws : List ℕ) (hash : ℕ) → 0 < length ws → with_hash ws hash ≡ with_bits ws (places (bit_count ws) hash)
+hash_filled ws hash lt =
     let some : eqb (length ws) 0 ≡ false = ne_eqb (length ws) 0 (λ e. omega (arith, e, lt)) in
     rw some refl
+
+pub filled : (ws word : List ℕ) → 0 < length ws → with_word ws word ≡ with_bits ws (places (bit_count ws) (fnv word))
+filled ws word lt = hash_filled ws (fnv word) lt
+
+-- The modulus of a filter is that of each filter with as many bits.
+pub IsOfFilter-set : (modulus : Modulus) (old new : List ℕ) → IsOfFilter modulus old → length new ≡ length old
+    → IsOfFilter modulus new
+IsOfFilter-set modulus old new is same =
+    record {
+      small = omega (arith, is.small, same);
+      reduces = is.reduces;
+      bits = λ some. is.bits (omega (arith, some, same)) ∙ ap (λ n. 64 * n) (sym same);
+    }
 
 both : (a b : Bool) → (a && b) ≡ true → (a ≡ true) × (b ≡ true)
 both true true e = (refl, refl)

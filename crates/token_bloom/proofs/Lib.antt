@@ -1,5 +1,6 @@
 pub mod Places
 pub mod Added
+pub mod Remainders
 pub mod Steps
 pub mod Numbers
 pub mod Commutes

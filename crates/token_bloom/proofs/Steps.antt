@@ -1,8 +1,7 @@
 -- The walk over the bits of a word.
 use Rattle.std.proofs.Common.{◌≡◌, ℕ, suc, ◌+◌, ◌-◌, ◌*◌, ◌%◌, ◌<◌, ◌≤◌, ◌^◌, Bool, true, false, List, [], ◌∷◌}
-use Rattle.std.proofs.Common.{length, refl, sym, ap, ◌∙◌, arith}
-use Rattle.std.specs.Prelude.{◌&&◌}
-use Rattle.token_bloom.specs.Bits.{has_bit, has_bits, with_bit, with_bits, places, stride, bit_count, fnv}
+use Rattle.std.proofs.Common.{refl, sym, ap, ◌∙◌, arith}
+use Rattle.token_bloom.specs.Bits.{has_bit, has_bits, with_bit, with_bits, places, stride, bit_count}
 use Rattle.token_bloom.specs.Walk.{walk}
 
 pub step-stops : (ws : List ℕ) (bits step i sum : ℕ) (total : Bool) → i < 6 → has_bit ws (sum % bits) ≡ false
@@ -63,10 +62,8 @@ walk-from bits h g lt =
 pub walk-places : (bits h : ℕ) → h < 2 ^ 64 → walk bits (stride h) 6 h ≡ places bits h
 walk-places bits h lt = walk-from bits h (stride h) lt
 
-pub word-places : (filter word : List ℕ) (bits step h : ℕ) → bits ≡ bit_count filter → step ≡ stride h
-    → h ≡ fnv word → h < 2 ^ 64
-    → walk bits step 6 h ≡ places (bit_count filter) (fnv word)
-word-places filter word bits step h b s e lt =
+pub hash-places : (filter : List ℕ) (bits step h : ℕ) → bits ≡ bit_count filter → step ≡ stride h → h < 2 ^ 64
+    → walk bits step 6 h ≡ places (bit_count filter) h
+hash-places filter bits step h b s lt =
     ap (λ (n : ℕ). walk n step 6 h) b ∙ ap (λ (n : ℕ). walk (bit_count filter) n 6 h) s
     ∙ walk-places (bit_count filter) h lt
-    ∙ ap (places (bit_count filter)) e

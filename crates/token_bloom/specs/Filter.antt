@@ -1,5 +1,5 @@
 -- A Bloom filter: which words may be there.
-use Rattle.std.specs.Prelude.{ℕ, ◌+◌, ◌*◌, ◌/◌, ◌%◌, ◌^◌, ◌≤◌, ◌&&◌, ◌==◌, Bool, List, length, nat_le, nat_lt}
+use Rattle.std.specs.Prelude.{ℕ, ◌+◌, ◌*◌, ◌/◌, ◌%◌, ◌^◌, ◌&&◌, ◌==◌, Bool, List, length, nat_le, nat_lt}
 use Rattle.std.specs.Prelude.{if◌then◌else◌, replicate}
 use Rattle.std.specs.List.{flat_map}
 use Rattle.std.specs.Int.{w64, to_le_bytes}
@@ -16,8 +16,12 @@ empty_filter tokens = replicate (words_for tokens) 0
 abbrev pub may_have : List ℕ → List ℕ → Bool
 may_have filter word = nat_lt 0 (length filter) && has_bits filter (places (bit_count filter) (fnv word))
 
+-- with all six bits of the hash set, where there is any bit
+abbrev pub with_hash : List ℕ → ℕ → List ℕ
+with_hash filter hash = if length filter == 0 then filter else with_bits filter (places (bit_count filter) hash)
+
 abbrev pub with_word : List ℕ → List ℕ → List ℕ
-with_word filter word = if length filter == 0 then filter else with_bits filter (places (bit_count filter) (fnv word))
+with_word filter word = with_hash filter (fnv word)
 
 -- the words of 64 bits, each with its least byte first
 abbrev pub filter_bytes : List ℕ → List ℕ

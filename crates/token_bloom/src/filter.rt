@@ -1,9 +1,11 @@
 //! Filters, and filters as bytes.
 
 ghost use Rattle.std.specs.Prelude.{◌≡◌, ◌<◌, ◌≤◌, ◌^◌, IfOk, IfErr, IsTrue, List, ℕ, false, length};
-ghost use Rattle.token_bloom.specs.Filter.{empty_filter, filter_bytes, is_length, may_have, most_bytes, with_word};
+ghost use Rattle.token_bloom.specs.Filter.{empty_filter, filter_bytes, is_length, may_have, with_hash, with_word};
 
-use crate::walk::{has_word, set_word};
+use crate::hash::hash_of;
+use crate::modulus::Modulus;
+use crate::walk::{has_hash, set_hash};
 use byte_format::{Stop, put_u64s, take_u64s};
 use std::alloc::{AllocError, Global};
 use std::marker::Model;
@@ -14,16 +16,19 @@ use std::marker::Model;
 #[derive(Drop)]
 pub struct Bloom {
     filter: Vec<u64>,
+    // of the filter's bits, if it has any
+    modulus: Modulus,
 }
 
 impl Model for Bloom {
-    ghost use Rattle.std.specs.Prelude.{List, ℕ, ◌≤◌, length, ◌*◌, ◌^◌};
+    ghost use Rattle.std.specs.Prelude.{List, ℕ};
+    ghost use Rattle.token_bloom.specs.Walk.{IsOfFilter};
 
     ghost Value = { List ℕ };
 
     ghost view = { λ b. b.filter.items };
 
-    ghost invariant = { λ b. length b.filter.items ≤ 2 ^ 30 };
+    ghost invariant = { λ b. IsOfFilter b.modulus b.filter.items };
 }
 
 /// Why bytes are no filter.
@@ -42,7 +47,15 @@ impl Bloom {
         ensures { IfOk result (λ bloom. bloom ≡ empty_filter tokens) }
     {
         let filter = vec![in alloc; 0; (16 * tokens + 63) / 64]?;
-        Ok(Bloom { filter })
+        Ok(Bloom::of(filter))
+    }
+
+    fn of(filter: Vec<u64>) -> Bloom
+        requires { length filter.items ≤ 2 ^ 30 }
+        ensures { result ≡ filter.items }
+    {
+        let modulus = Modulus::of((filter.len() as u64 * 64).max(64));
+        Bloom { filter, modulus }
     }
 
     /// Adds a word: sets its six bits, where the filter has any bit.
@@ -51,14 +64,15 @@ impl Bloom {
         ensures added { 0 < length self.old → IsTrue (may_have self.new word.now) }
         ensures kept { (other : List ℕ) → IsTrue (may_have self.old other) → IsTrue (may_have self.new other) }
     {
-        self.set(word);
+        self.add_hash(hash_of(word));
     }
 
-    fn set(&mut self, word: &[u8])
-        ensures { self.new ≡ with_word self.old word.now }
+    /// Adds the word that has this hash, as `add` does.
+    pub fn add_hash(&mut self, hash: u64)
+        ensures { self.new ≡ with_hash self.old hash }
     {
         if !self.filter.is_empty() {
-            set_word(self.filter.as_mut_slice(), word);
+            set_hash(self.filter.as_mut_slice(), self.modulus, hash);
         }
     }
 
@@ -66,7 +80,7 @@ impl Bloom {
     pub fn may_have(&self, word: &[u8]) -> bool
         ensures { result ≡ may_have self.now word.now }
     {
-        !self.filter.is_empty() && has_word(self.filter.as_slice(), word)
+        !self.filter.is_empty() && has_hash(self.filter.as_slice(), self.modulus, hash_of(word))
     }
 
     /// The words of 64 bits that the filter consists of.
@@ -81,7 +95,7 @@ impl Bloom {
         ensures { IfOk result (λ bloom. bloom ≡ self.now) }
     {
         let filter = self.filter.to_vec(alloc)?;
-        Ok(Bloom { filter })
+        Ok(Bloom::of(filter))
     }
 
     /// The filter as bytes.
@@ -103,7 +117,7 @@ impl Bloom {
             return Err(BloomFault::BadLength);
         }
         match take_u64s(alloc, bytes.len() / 8, bytes) {
-            Ok((filter, _)) => Ok(Bloom { filter }),
+            Ok((filter, _)) => Ok(Bloom::of(filter)),
             Err(_) => Err(BloomFault::Memory),
         }
     }

@@ -3,8 +3,8 @@
 ghost use Rattle.std.specs.Prelude.{◌≡◌};
 ghost use Rattle.token_bloom.specs.Bits.{fnv, stride};
 
-/// FNV-1a of 64 bits.
-pub(crate) fn hash_of(word: &[u8]) -> u64
+/// The hash of a word by which a filter finds its bits: FNV-1a of 64 bits.
+pub fn hash_of(word: &[u8]) -> u64
     ensures { result ≡ fnv word.now }
 {
     let mut hash = 14_695_981_039_346_656_037;

@@ -3,6 +3,8 @@
 
 mod filter;
 mod hash;
+mod modulus;
 mod walk;
 
 pub use filter::{Bloom, BloomFault};
+pub use hash::hash_of;

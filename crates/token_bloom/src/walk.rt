@@ -2,10 +2,11 @@
 //! the number of bits.
 
 ghost use Rattle.std.specs.Prelude.{◌≡◌, ◌+◌, ◌*◌, ◌%◌, ◌^◌, ◌<◌, ◌≤◌};
-ghost use Rattle.token_bloom.specs.Bits.{bit_count, has_bit, has_bits, with_bit, with_bits, places, fnv, stride};
-ghost use Rattle.token_bloom.specs.Walk.{walk, IsPace};
+ghost use Rattle.token_bloom.specs.Bits.{bit_count, has_bit, has_bits, with_bit, with_bits, places, stride};
+ghost use Rattle.token_bloom.specs.Walk.{walk, IsModulus, IsPace};
 
-use crate::hash::{hash_of, stride_of};
+use crate::hash::stride_of;
+use crate::modulus::Modulus;
 
 /// How a walk goes on from bit to bit: by the stride, and by what the stride and 2^64 leave modulo the number of bits.
 #[derive(Clone, Copy)]
@@ -23,18 +24,17 @@ struct Step {
     place: u64,
 }
 
-fn pace_of(bits: u64, stride: u64) -> Pace
-    requires some { 0 < bits }
-    requires room { bits ≤ 2 ^ 36 }
+fn pace_of(modulus: Modulus, stride: u64) -> Pace
+    requires { IsModulus modulus }
     ensures pace { IsPace result }
-    ensures bits { result.bits ≡ bits }
+    ensures bits { result.bits ≡ modulus.bits }
     ensures stride { result.stride ≡ stride }
 {
     Pace {
-        bits,
+        bits: modulus.bits,
         stride,
-        short: stride % bits,
-        wrap: bits.wrapping_neg() % bits,
+        short: modulus.rest(stride),
+        wrap: modulus.wrap,
     }
 }
 
@@ -83,39 +83,33 @@ fn set(filter: &mut [u64], b: usize)
     filter[b / 64] |= 1 << (b % 64);
 }
 
-/// Whether all six bits of the word are set.
-pub(crate) fn has_word(filter: &[u64], word: &[u8]) -> bool
-    requires some { 0 < bit_count filter.now }
-    requires room { bit_count filter.now ≤ 2 ^ 36 }
-    ensures { result ≡ has_bits filter.now (places (bit_count filter.now) (fnv word.now)) }
+/// Whether all six bits of the word with this hash are set.
+pub(crate) fn has_hash(filter: &[u64], modulus: Modulus, hash: u64) -> bool
+    requires modulus { IsModulus modulus }
+    requires bits { modulus.bits ≡ bit_count filter.now }
+    ensures { result ≡ has_bits filter.now (places (bit_count filter.now) hash) }
 {
-    let bits = filter.len() as u64 * 64;
-    let hash = hash_of(word);
-    let pace = pace_of(bits, stride_of(hash));
-    has_walk(filter, pace, hash)
+    let pace = pace_of(modulus, stride_of(hash));
+    has_walk(filter, pace, hash, modulus.rest(hash))
 }
 
-/// Sets all six bits of the word.
-pub(crate) fn set_word(filter: &mut [u64], word: &[u8])
-    requires some { 0 < bit_count filter.old }
-    requires room { bit_count filter.old ≤ 2 ^ 36 }
-    ensures { filter.new ≡ with_bits filter.old (places (bit_count filter.old) (fnv word.now)) }
+/// Sets all six bits of the word with this hash.
+pub(crate) fn set_hash(filter: &mut [u64], modulus: Modulus, hash: u64)
+    requires modulus { IsModulus modulus }
+    requires bits { modulus.bits ≡ bit_count filter.old }
+    ensures { filter.new ≡ with_bits filter.old (places (bit_count filter.old) hash) }
 {
-    let bits = filter.len() as u64 * 64;
-    let hash = hash_of(word);
-    let pace = pace_of(bits, stride_of(hash));
-    set_walk(filter, pace, hash);
+    let pace = pace_of(modulus, stride_of(hash));
+    set_walk(filter, pace, hash, modulus.rest(hash));
 }
 
-fn has_walk(filter: &[u64], pace: Pace, hash: u64) -> bool
+fn has_walk(filter: &[u64], pace: Pace, hash: u64, place: u64) -> bool
     requires pace { IsPace pace }
     requires bits { pace.bits ≡ bit_count filter.now }
+    requires place { place ≡ hash % pace.bits }
     ensures { result ≡ has_bits filter.now (walk pace.bits pace.stride 6 hash) }
 {
-    let mut at = Step {
-        sum: hash,
-        place: hash % pace.bits,
-    };
+    let mut at = Step { sum: hash, place };
     for _ in 0..6usize {
         if !is_set(filter, at.place as usize) {
             return false;
@@ -125,15 +119,13 @@ fn has_walk(filter: &[u64], pace: Pace, hash: u64) -> bool
     true
 }
 
-fn set_walk(filter: &mut [u64], pace: Pace, hash: u64)
+fn set_walk(filter: &mut [u64], pace: Pace, hash: u64, place: u64)
     requires pace { IsPace pace }
     requires bits { pace.bits ≡ bit_count filter.old }
+    requires place { place ≡ hash % pace.bits }
     ensures { filter.new ≡ with_bits filter.old (walk pace.bits pace.stride 6 hash) }
 {
-    let mut at = Step {
-        sum: hash,
-        place: hash % pace.bits,
-    };
+    let mut at = Step { sum: hash, place };
     for _ in 0..6u64 {
         set(filter, at.place as usize);
         at = next_step(at, pace);

@@ -1,5 +1,5 @@
-use Rattle.std.proofs.Common.{◌≡◌, ◌-◌, ◌+◌, ◌%◌, ◌^◌, true, false, ℕ, ap, sym, ◌∙◌}
-use Rattle.token_bloom.specs.Bits.{has_bit, has_bits}
+use Rattle.std.proofs.Common.{◌≡◌, ◌-◌, ◌+◌, ◌%◌, true, false, ap, sym, ◌∙◌}
+use Rattle.token_bloom.specs.Bits.{has_bit}
 use Rattle.token_bloom.proofs.Steps.{step-goes, step-ends, step-stops, walked}
 use Rattle.token_bloom.proofs.walk.has_walk.Goals as goal
 

@@ -1,4 +1,4 @@
-use Rattle.std.proofs.Common.{◌≡◌, ◌+◌, ◌-◌, ◌%◌, ◌^◌, ℕ, rules, ap, sym, ◌∙◌}
+use Rattle.std.proofs.Common.{◌^◌, rules, ◌∙◌}
 use Rattle.token_bloom.proofs.Places.{place-plain, place-over, overflowed, not_overflowed, wrapped, unwrapped}
 use Rattle.token_bloom.proofs.walk.next_step.Goals as goal
 

@@ -1,4 +1,4 @@
-use Rattle.std.proofs.Common.{◌≡◌, ◌-◌, ◌+◌, ◌%◌, ◌^◌, ℕ, ap, ◌∙◌}
+use Rattle.std.proofs.Common.{◌≡◌, ◌-◌, ◌+◌, ◌%◌, ℕ, ap, ◌∙◌}
 use Rattle.token_bloom.specs.Bits.{with_bit, with_bits}
 use Rattle.token_bloom.specs.Walk.{walk}
 use Rattle.token_bloom.proofs.Steps.{set-goes, set-ends}

@@ -1,5 +1,5 @@
-use Rattle.std.proofs.Common.{◌≡◌, ◌-◌, ◌%◌, length}
-use Rattle.token_bloom.specs.Bits.{with_bits, bit_count}
+use Rattle.std.proofs.Common.{◌≡◌, ◌-◌, ◌%◌}
+use Rattle.token_bloom.specs.Bits.{with_bits}
 use Rattle.token_bloom.specs.Walk.{walk}
 use Rattle.token_bloom.proofs.walk.set_walk.Given as goal
 

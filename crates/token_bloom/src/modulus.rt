@@ -1,0 +1,43 @@
+//! Remainders modulo the number of bits, by a multiplication in place of a division.
+
+ghost use Rattle.std.specs.Prelude.{◌≡◌, ◌%◌, ◌^◌, ◌<◌, ◌≤◌};
+ghost use Rattle.token_bloom.specs.Walk.{IsModulus};
+
+/// A number of bits, and what remainders modulo it are taken with.
+#[derive(Clone, Copy)]
+pub(crate) struct Modulus {
+    pub(crate) bits: u64,
+    // how often the bits go into 2^64 - 1
+    inverse: u64,
+    // what 2^64 leaves
+    pub(crate) wrap: u64,
+}
+
+impl Modulus {
+    pub(crate) fn of(bits: u64) -> Modulus
+        requires some { 0 < bits }
+        requires room { bits ≤ 2 ^ 36 }
+        ensures modulus { IsModulus result }
+        ensures bits { result.bits ≡ bits }
+    {
+        Modulus {
+            bits,
+            inverse: u64::MAX / bits,
+            wrap: bits.wrapping_neg() % bits,
+        }
+    }
+
+    /// What the number leaves. How often the bits go into it is found to within one.
+    pub(crate) fn rest(self, number: u64) -> u64
+        requires { IsModulus self }
+        ensures { result ≡ number % self.bits }
+    {
+        let times = ((number as u128 * self.inverse as u128) >> 64) as u64;
+        let left = number - times * self.bits;
+        if left < self.bits {
+            left
+        } else {
+            left - self.bits
+        }
+    }
+}
