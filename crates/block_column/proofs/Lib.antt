@@ -3,6 +3,7 @@ pub mod KindLaws
 pub mod BodyLaws
 pub mod Again
 pub mod Whole
+pub mod Within
 pub mod Rising
 pub mod Same
 pub mod Slots

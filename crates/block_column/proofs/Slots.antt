@@ -26,6 +26,25 @@ all-put f p (s ∷ ss) (suc i) x all one =
     let parts = both_true (p (f s)) (list_all p (map f ss)) all in
     rw parts.0 (all-put f p ss i x parts.1 one)
 
+-- the text that was put is among them
+pub put-there : {X : Type 0} (f : X → List ℕ) (slots : List X) (i : ℕ) (x : X) → i < length slots
+    → list_any (bytes_eq (f x)) (map f (slice_set slots i x)) ≡ true
+put-there f [] i x lt = absurd (omega (arith, lt))
+put-there f (s ∷ ss) zero x lt =
+    let same : bytes_eq (f x) (f x) ≡ true = (bytes_eq-Decides (f x) (f x)).1 refl in
+    rw same refl
+put-there f (s ∷ ss) (suc i) x lt =
+    right_true (bytes_eq (f x) (f s)) (list_any (bytes_eq (f x)) (map f (slice_set ss i x))) (put-there f ss i x
+    (omega (arith, lt)))
+
+-- what holds of each holds of the one in a slot
+pub each-slot : {X : Type 0} (f : X → List ℕ) (p : List ℕ → Bool) (slots : List X) (i : ℕ) (d : X) → i < length slots
+    → list_all p (map f slots) ≡ true → p (f (get_or slots i d)) ≡ true
+each-slot f p [] i d lt all = absurd (omega (arith, lt))
+each-slot f p (s ∷ ss) zero d lt all = (both_true (p (f s)) (list_all p (map f ss)) all).0
+each-slot f p (s ∷ ss) (suc i) d lt all =
+    each-slot f p ss i d (omega (arith, lt)) (both_true (p (f s)) (list_all p (map f ss)) all).1
+
 -- equal texts
 pub all-same : {X : Type 0} (f : X → List ℕ) (p : List ℕ → Bool) (n : ℕ) (x : X) → p (f x) ≡ true
     → list_all p (map f (replicate n x)) ≡ true

@@ -1,11 +1,11 @@
 -- The texts of all values.
-use Rattle.std.proofs.Common.{◌≡◌, ℕ, ℤ, ◌+◌, ◌<◌, ◌≤◌, ◌^◌, true, false, ltb, List, [], ◌∷◌, ◌++◌, length, get_or, take}
-use Rattle.std.proofs.Common.{drop, Some, refl, sym, ap, ◌∙◌, arith}
+use Rattle.std.proofs.Common.{◌≡◌, ℕ, ℤ, ◌+◌, ◌<◌, ◌^◌, true, false, ltb, List, [], ◌∷◌, ◌++◌, length, get_or, take}
+use Rattle.std.proofs.Common.{Some, refl, sym, ap, ◌∙◌, arith}
 use Rattle.std.specs.Prelude.{sum_by, IsUtf8, None}
 use Rattle.std.specs.List.{list_all, slice_get}
 use Rattle.std.specs.Str.{is_utf8}
-use Rattle.std.proofs.lemmas.Bool.{le-ltb, lt-ltb, eq-eqb}
-use Rattle.std.proofs.lemmas.List.{take_more, take-append-drop}
+use Rattle.std.proofs.lemmas.Bool.{lt-ltb, eq-eqb}
+use Rattle.std.proofs.lemmas.List.{take_more}
 use Rattle.std.proofs.lemmas.List.Folds.{list_all-append}
 use Rattle.std.proofs.lemmas.List.Sums.{sum_by-append, sum_by-cons}
 use Rattle.std.proofs.lemmas.Option.{slice_get-get_or}
@@ -31,18 +31,6 @@ more-size ts t = omega (arith, sum_by-append length ts (t ∷ []), sum_by-cons l
 pub more-utf8 : (ts : List (List ℕ)) (t : List ℕ) → list_all is_utf8 ts ≡ true → IsUtf8 t
     → list_all is_utf8 (ts ++ t ∷ []) ≡ true
 more-utf8 ts t all one = rw (list_all-append is_utf8 ts (t ∷ []), all, is_utf8-from_IsUtf8 t one) refl
-
--- too long already
-pub too-long : (found : List (List ℕ)) (i : ℕ) (t : List ℕ) → i < length found → slice_get found i ≡ Some t
-    → 2 ^ 32 ≤ sum_by length (take i found) + length t
-    → ltb (sum_by length found) (2 ^ 32) ≡ false
-too-long found i t lt e le =
-    let all = sum_by-append length (take (i + 1) found) (drop (i + 1) found) in
-    let parts : sum_by length found ≡ sum_by length (take (i + 1) found ++ drop (i + 1) found) =
-    ap (sum_by length) (sym (take-append-drop (i + 1) found)) in
-    let front : sum_by length (take (i + 1) found) ≡ sum_by length (take i found ++ t ∷ []) =
-    ap (sum_by length) (one-more found i t lt e) in
-    le-ltb (sum_by length found) (2 ^ 32) (omega (arith, le, all, parts, front, more-size (take i found) t))
 
 pub is-written : (rows : ℕ) (ts : List (List ℕ)) → length ts ≡ rows → list_all is_utf8 ts ≡ true
     → sum_by length ts < 2 ^ 32 → column_writing rows ts ≡ Some (column_spelling ts)

@@ -2,7 +2,7 @@
 use Rattle.std.specs.Prelude.{◌≡◌, ℕ, List, []}
 use Rattle.block_column.specs.Kinds.{Kind, constant, integers, dictionary, plain, is_listed, kind_of}
 
--- Each text of the one list is in the other.
+-- The lists have the same texts.
 abbrev pub HaveSameTexts : List (List ℕ) → List (List ℕ) → Type 0
 HaveSameTexts texts others = (text : List ℕ) → is_listed texts text ≡ is_listed others text
 

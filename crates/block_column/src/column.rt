@@ -1,7 +1,7 @@
 //! Columns.
 
 ghost use Rattle.std.specs.Prelude.{◌≡◌, ◌<◌, ◌^◌, ◌++◌, IfErr, IfOk, List, Ok, OnOk, Some, length, map, slice_get};
-ghost use Rattle.std.specs.Prelude.{IfSome, sum_by, true, ℕ};
+ghost use Rattle.std.specs.Prelude.{IfNone, IfSome, false, sum_by, true, ℕ};
 ghost use Rattle.std.specs.List.{list_all};
 ghost use Rattle.std.specs.Str.{is_utf8};
 ghost use Rattle.byte_format.specs.Format.{front};
@@ -10,7 +10,7 @@ ghost use Rattle.byte_format.specs.Spelling.{reading};
 ghost use Rattle.col_codec.specs.Answers.{AnswersAs, IsPlaceOf};
 ghost use Rattle.block_column.specs.Body.{body, column, column_spelling, column_writing};
 ghost use Rattle.block_column.specs.Kinds.{body_of, code_of_kind, kind_of};
-ghost use Rattle.block_column.specs.Lengths.{HasLengths};
+ghost use Rattle.block_column.specs.Lengths.{HasLengths, are_within};
 ghost use Rattle.block_column.specs.Members.{HaveSameTexts, decimals_of};
 ghost use Rattle.block_column.specs.Values.{value_text};
 
@@ -180,15 +180,20 @@ impl FoundColumn {
         Ok((FoundColumn { cells }, rest))
     }
 
-    /// The same values in the first kind that fits, and how long they are, unless they are too long together. All are
-    /// in UTF-8.
-    pub fn to_column(&self, alloc: Global) -> Result<Option<(ValueColumn, Lengths)>, AllocError>
+    /// The same values in the first kind that fits, and how long they are, unless one of them has more bytes than
+    /// `most`, or all together 2^32 or more. All are in UTF-8.
+    pub fn to_column(
+        &self,
+        alloc: Global,
+        most: usize,
+    ) -> Result<Option<(ValueColumn, Lengths)>, AllocError>
         ensures column { IfOk result (λ found. IfSome found (λ x. x.0 ≡ self.now)) }
         ensures lengths { IfOk result (λ found. IfSome found (λ x. HasLengths x.1 self.now)) }
         ensures texts { IfOk result (λ found. IfSome found (λ x. list_all is_utf8 self.now ≡ true)) }
-        ensures small { IfOk result (λ found. IfSome found (λ x. sum_by length self.now < 2 ^ 32)) }
+        ensures within { IfOk result (λ found. IfSome found (λ x. are_within most self.now ≡ true)) }
+        ensures none { IfOk result (λ found. IfNone found (are_within most self.now ≡ false)) }
     {
-        column_of(alloc, &self.cells)
+        column_of(alloc, &self.cells, most)
     }
 
     /// How many rows there are.

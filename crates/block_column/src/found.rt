@@ -1,10 +1,11 @@
 //! Values that were read, in the first kind that fits.
 
-ghost use Rattle.std.specs.Prelude.{◌≡◌, ◌<◌, ◌^◌, ◌||◌, ◌&&◌, IfOk, IfSome, IsUtf8, max, length, map, nat_lt, replicate, sum_by, true};
+ghost use Rattle.std.specs.Prelude.{◌≡◌, ◌<◌, ◌^◌, ◌||◌, ◌&&◌, IfNone, IfOk, IfSome, IsUtf8, false, length, map, max};
+ghost use Rattle.std.specs.Prelude.{nat_lt, replicate, sum_by, true};
 ghost use Rattle.std.specs.List.{list_all};
 ghost use Rattle.std.specs.Str.{is_utf8};
 ghost use Rattle.block_column.specs.Cells.{IsCells, decimals_in, text_at, texts_of};
-ghost use Rattle.block_column.specs.Lengths.{HasLengths, has_text};
+ghost use Rattle.block_column.specs.Lengths.{HasLengths, are_within, has_text};
 
 use crate::cells::{Cells, coded};
 use crate::column::ValueColumn;
@@ -26,20 +27,23 @@ pub struct Lengths {
     pub all: bool,
 }
 
-/// A column of the values that are held, and how long these are, unless they are too long together.
+/// A column of the values that are held, and how long these are, unless one is longer than `most`, or all are too long
+/// together.
 pub(crate) fn column_of(
     alloc: Global,
     cells: &Cells,
+    most: usize,
 ) -> Result<Option<(ValueColumn, Lengths)>, AllocError>
     requires { IsCells cells.now }
     ensures column { IfOk result (λ found. IfSome found (λ x. x.0 ≡ texts_of cells.now)) }
     ensures lengths { IfOk result (λ found. IfSome found (λ x. HasLengths x.1 (texts_of cells.now))) }
     ensures texts { IfOk result (λ found. IfSome found (λ x. list_all is_utf8 (texts_of cells.now) ≡ true)) }
-    ensures small { IfOk result (λ found. IfSome found (λ x. sum_by length (texts_of cells.now) < 2 ^ 32)) }
+    ensures within { IfOk result (λ found. IfSome found (λ x. are_within most (texts_of cells.now) ≡ true)) }
+    ensures none { IfOk result (λ found. IfNone found (are_within most (texts_of cells.now) ≡ false)) }
 {
     let decimals = decimals_of(alloc, cells)?;
     let values = row_texts(alloc, cells, decimals.as_slice())?;
-    let Some(lengths) = lengths_of(values.as_slice()) else {
+    let Some(lengths) = lengths_of(values.as_slice(), most) else {
         return Ok(None);
     };
     let column = ValueColumn::try_of(alloc, values.as_slice())?;
@@ -99,11 +103,13 @@ fn coded_texts<'a>(
     Ok(lent)
 }
 
-/// How long the values are, unless they are too long together. All are in UTF-8.
-fn lengths_of(values: &[&str]) -> Option<Lengths>
+/// How long the values are, unless one is longer than `most`, or all are too long together. All are in UTF-8.
+fn lengths_of(values: &[&str], most: usize) -> Option<Lengths>
     ensures lengths { IfSome result (λ lengths. HasLengths lengths (map (λ t. t.now) values.now)) }
     ensures texts { IfSome result (λ lengths. list_all is_utf8 (map (λ t. t.now) values.now) ≡ true) }
     ensures small { IfSome result (λ lengths. sum_by (λ t. length t.now) values.now < 2 ^ 32) }
+    ensures within { IfSome result (λ lengths. are_within most (map (λ t. t.now) values.now) ≡ true) }
+    ensures none { IfNone result (are_within most (map (λ t. t.now) values.now) ≡ false) }
 {
     let mut size = 0;
     let mut longest = 0;
@@ -111,6 +117,9 @@ fn lengths_of(values: &[&str]) -> Option<Lengths>
     let mut all = true;
     for value in values {
         let len = value.len();
+        if len > most {
+            return None;
+        }
         if len >= MAX_SIZE - size {
             return None;
         }

@@ -37,16 +37,19 @@ impl<'a> Recent<'a> {
         Ok(Recent { slots })
     }
 
-    /// Whether the text is remembered.
+    /// Whether the slot of the text has it. Then it is remembered, and where it is in each slot, that is so.
     pub fn has(&self, text: &str) -> bool
-        ensures { IsTrue result → list_any (bytes_eq text.now) self.now ≡ true }
+        ensures there { IsTrue result → list_any (bytes_eq text.now) self.now ≡ true }
+        ensures each { list_all (bytes_eq text.now) self.now ≡ true → IsTrue result }
     {
         self.slots[slot_of(text)] == text
     }
 
     /// Remembers the text. What holds of all that were remembered, and of this one, holds of all that are.
     pub fn put(&mut self, text: &'a str)
-        ensures { (p : List ℕ → Bool) → list_all p self.old ≡ true → p text.now ≡ true → list_all p self.new ≡ true }
+        ensures there { list_any (bytes_eq text.now) self.new ≡ true }
+        ensures kept { (p : List ℕ → Bool) → list_all p self.old ≡ true → p text.now ≡ true
+            → list_all p self.new ≡ true }
     {
         let slot = slot_of(text);
         self.slots[slot] = text;

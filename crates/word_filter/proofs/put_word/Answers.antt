@@ -10,7 +10,7 @@ use Rattle.word_filter.proofs.put_word.Goals as goal
 pub returns-then-has-clause-words : goal.returns-then-has-clause-words
 returns-then-has-clause-words c =
     sym (there-again (map text_of c.args.all.now.keys) c.args.recent.now c.args.word.now c.requires.some
-    c.requires.recent (c.has.ensures c.if-has.true))
+    c.requires.recent (c.has.ensures.there c.if-has.true))
 
 pub returns-clause-words : goal.returns-clause-words
 returns-clause-words c =
@@ -23,5 +23,5 @@ returns-clause-recent c =
     let listed = listed-new c.args.all.now.keys c.insert.new.self.keys c.args.word c.in_ok-insert.ensures.updates.0 in
     let here : list_any (bytes_eq c.args.word.now) (map text_of c.insert.new.self.keys) ≡ true =
     listed c.args.word.now ∙ (rw (itself c.args.word.now) refl) in
-    c.put.ensures (is_there new) (there-kept old new c.args.recent.now (λ text e. listed text ∙ right_true (bytes_eq text
+    c.put.ensures.kept (is_there new) (there-kept old new c.args.recent.now (λ text e. listed text ∙ right_true (bytes_eq text
     c.args.word.now) (list_any (bytes_eq text) old) e) c.requires.recent) (put-there new c.args.word.now here)

@@ -13,7 +13,7 @@ now_of t = t.now
 pub returns-then-has-clause-values : goal.returns-then-has-clause-values
 returns-then-has-clause-values c =
     sym (put-again c.args.value.now (map now_of c.args.set.now.keys) c.requires.rising (listed-one (map now_of
-    c.args.set.now.keys) c.args.value.now c.args.recent.now c.requires.recent (c.has.ensures c.if-has.true)))
+    c.args.set.now.keys) c.args.value.now c.args.recent.now c.requires.recent (c.has.ensures.there c.if-has.true)))
 
 pub returns-clause-values : goal.returns-clause-values
 returns-clause-values c =
@@ -25,5 +25,5 @@ returns-clause-recent c =
     let value : List ℕ = c.args.value.now in
     let put : map now_of c.insert.new.self.keys ≡ insert_key bytes_cmp (map now_of c.args.set.now.keys) c.args.value.now =
     ap (map now_of) c.in_ok-insert.ensures.keys ∙ map-put now_of c.args.set.now.keys c.args.value in
-    rw put (c.put.ensures (is_listed (insert_key bytes_cmp texts value)) (listed-kept (map now_of c.args.set.now.keys)
+    rw put (c.put.ensures.kept (is_listed (insert_key bytes_cmp texts value)) (listed-kept (map now_of c.args.set.now.keys)
     c.args.recent.now c.args.value.now c.requires.recent) (put-has c.args.value.now (map now_of c.args.set.now.keys)))

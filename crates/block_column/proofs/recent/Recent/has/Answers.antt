@@ -1,15 +1,15 @@
 use Rattle.std.proofs.Common.{◌≡◌, ◌∙◌, ◌<◌, ℕ, List, Bor, ap, arith, get_or, length, subst, sym, true}
 use Rattle.std.specs.Prelude.{bytes_eq}
-use Rattle.std.specs.List.{list_any}
+use Rattle.std.specs.List.{list_all, list_any}
 use Rattle.std.proofs.lemmas.Slice.Eq.{bytes_eq-Decides}
-use Rattle.block_column.proofs.Slots.{in-slot}
+use Rattle.block_column.proofs.Slots.{each-slot, in-slot}
 use Rattle.block_column.proofs.recent.Recent.has.Goals as goal
 
 abbrev now_of : Bor (List ℕ) → List ℕ
 now_of t = t.now
 
-pub returns : goal.returns
-returns c e =
+pub returns-clause-there : goal.returns-clause-there
+returns-clause-there c e =
     let text : List ℕ = c.args.text.now in
     let same : c.index.result.now.now ≡ c.args.text.now = (bytes_eq-Decides c.index.result.now.now
     c.args.text.now).0 (sym c.eq.ensures ∙ e) in
@@ -18,3 +18,15 @@ returns c e =
     let lt : c.slot_of.result < length c.self.inside.slots.items = omega (arith, c.slot_of.ensures, c.self.invariant) in
     subst (λ (l : List (List ℕ)). list_any (bytes_eq text) l ≡ true) c.self.view_is (in-slot now_of c.args.text.now
     c.self.inside.slots.items c.slot_of.result c.index.result.now lt there)
+
+pub returns-clause-each : goal.returns-clause-each
+returns-clause-each c all =
+    let text : List ℕ = c.args.text.now in
+    let lt : c.slot_of.result < length c.self.inside.slots.items = omega (arith, c.slot_of.ensures, c.self.invariant) in
+    let held = subst (λ (l : List (List ℕ)). list_all (bytes_eq text) l ≡ true) (sym c.self.view_is) all in
+    let one = each-slot now_of (bytes_eq c.args.text.now) c.self.inside.slots.items c.slot_of.result c.index.result.now
+    lt held in
+    let same : c.args.text.now ≡ now_of (get_or c.self.inside.slots.items c.slot_of.result c.index.result.now) =
+    (bytes_eq-Decides c.args.text.now (now_of (get_or c.self.inside.slots.items c.slot_of.result
+    c.index.result.now))).0 one in
+    c.eq.ensures ∙ (bytes_eq-Decides c.index.result.now.now c.args.text.now).1 (ap now_of c.index.ensures ∙ sym same)
