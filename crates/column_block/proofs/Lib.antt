@@ -10,5 +10,6 @@ pub mod SaidLaws
 pub mod ReadAgain
 pub mod SpanLaws
 pub mod StreamLaws
+pub mod ReadStops
 mod FoundLaws
 mod QuickLaws

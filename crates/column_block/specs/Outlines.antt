@@ -25,6 +25,10 @@ last_moment (numbered ∷ next ∷ rows) = last_moment (next ∷ rows)
 abbrev pub filter_named : List Numbered → List ℕ → NamedFilter
 filter_named rows name = (name, filter_of (values_of rows name))
 
+abbrev pub outline_with : List Field → ℤ → ℤ → ℕ → List NamedFilter → Outline
+outline_with labels min max rows columns =
+    record { labels = labels; min = min; max = max; rows = rows; columns = columns }
+
 abbrev pub outline_of : List Numbered → Outline
 outline_of rows = record {
   labels = labels_of rows;

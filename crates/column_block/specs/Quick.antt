@@ -10,6 +10,7 @@ use Rattle.row_columns.specs.Columns.{Column, rows_from}
 use Rattle.row_columns.specs.declared.keys.Key.{Key}
 use Rattle.word_filter.specs.Words.{filter_of}
 use Rattle.column_block.specs.Outline.{NamedFilter, Outline}
+use Rattle.column_block.specs.Outlines.{outline_with}
 use Rattle.column_block.specs.Rows.{are_numbered_apart, are_ordered}
 
 abbrev pub column_names : List Column → List (List ℕ)
@@ -81,4 +82,4 @@ pub record AreFilled (columns : List Column) : Type 0 where
 
 -- the outline of a block in the stream without labels
 abbrev pub plain_outline : ℤ → ℤ → ℕ → List NamedFilter → Outline
-plain_outline first last rows columns = record { labels = []; min = first; max = last; rows = rows; columns = columns }
+plain_outline first last rows columns = outline_with [] first last rows columns

@@ -3,7 +3,7 @@
 ghost use Rattle.std.specs.Prelude.{◌≡◌, ◌<◌, ◌≤◌, ◌^◌, IfOk, Some, length, map, pos, slice_get};
 ghost use Rattle.log_model.specs.Row.{IsRow};
 ghost use Rattle.log_model.specs.Stream.{label_text, stream_id};
-ghost use Rattle.column_block.specs.Outlines.{outline_of};
+ghost use Rattle.column_block.specs.Outlines.{outline_of, outline_with};
 ghost use Rattle.column_block.specs.Quick.{plain_outline};
 
 use std::alloc::{AllocError, Global};
@@ -107,19 +107,9 @@ impl Head {
         let first = &rows[0];
         let last = &rows[rows.len() - 1];
         let stream = first.row.stream().try_copy(alloc)?;
-        let mut text = Text::new();
-        label_text(alloc, &stream, &mut text)?;
-        let mut id = Text::new();
-        stream_id(alloc, &stream, &mut id)?;
-        Ok(Head {
-            stream,
-            label_text: text,
-            stream_id: id,
-            min: first.row.time(),
-            max: last.row.time(),
-            rows: rows.len(),
-            columns,
-        })
+        let times = (first.row.time(), last.row.time());
+        let head = Head::made(alloc, stream, times, rows.len(), columns)?;
+        Ok(head)
     }
 
     /// The head of a block of so many rows in the stream without labels, which has these columns.
@@ -132,7 +122,21 @@ impl Head {
     ) -> Result<Head, AllocError>
         ensures { IfOk result (λ head. head ≡ plain_outline first last rows columns.items) }
     {
-        let stream = Stream::new(alloc);
+        let head = Head::made(alloc, Stream::new(alloc), (first, last), rows, columns)?;
+        Ok(head)
+    }
+
+    /// The head of so many rows in this stream, of which the first and the last have these times, and which have these
+    /// columns.
+    fn made(
+        alloc: Global,
+        stream: Stream,
+        times: (i64, i64),
+        rows: usize,
+        columns: Vec<ColumnHead>,
+    ) -> Result<Head, AllocError>
+        ensures { IfOk result (λ head. head ≡ outline_with stream times.0 times.1 rows columns.items) }
+    {
         let mut text = Text::new();
         label_text(alloc, &stream, &mut text)?;
         let mut id = Text::new();
@@ -141,8 +145,8 @@ impl Head {
             stream,
             label_text: text,
             stream_id: id,
-            min: first,
-            max: last,
+            min: times.0,
+            max: times.1,
             rows,
             columns,
         })

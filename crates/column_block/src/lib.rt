@@ -13,6 +13,7 @@ mod read;
 mod rules;
 mod said;
 mod steps;
+pub mod ways;
 mod write;
 
 pub use block::Block;

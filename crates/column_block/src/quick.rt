@@ -102,22 +102,12 @@ fn made_of(
     let first = keys[0];
     let last = keys[keys.len() - 1];
     let head = Head::plain(alloc, first.time, last.time, keys.len(), heads)?;
-    let keys = copied(alloc, keys)?;
+    let keys = keys.to_vec(alloc)?;
     Ok(Block {
         head,
         keys,
         columns: values,
     })
-}
-
-fn copied(alloc: Global, keys: &[Key]) -> Result<Vec<Key>, AllocError>
-    ensures { IfOk result (λ copies. copies.items ≡ keys.now) }
-{
-    let mut copies = Vec::with_capacity(alloc, keys.len())?;
-    for key in keys {
-        copies.push(*key)?;
-    }
-    Ok(copies)
 }
 
 /// The heads and the values of the columns, if each has some value, one has a value in each row, and no row could have
@@ -135,7 +125,7 @@ fn filled_columns(
     let mut weight = 0;
     let mut full = false;
     for column in columns {
-        let Some((head, value, lengths)) = filled_column(alloc, column)? else {
+        let Some((head, value, lengths)) = filled_column(alloc, column, MAX_WEIGHT - weight)? else {
             return Ok(None);
         };
         let Some(more) = more_weight(weight, name_len(column), lengths.longest) else {
@@ -175,17 +165,19 @@ fn either(one: bool, other: bool) -> bool
     one || other
 }
 
-/// The head of a column, its values, and how long these are, if some value is not empty.
+/// The head of a column, its values, and how long these are, if some value is not empty, and none has more bytes than
+/// `most`. That is asked before the kind of the values is sought and before their words are.
 fn filled_column(
     alloc: Global,
     column: &NamedColumn,
+    most: usize,
 ) -> Result<Option<(ColumnHead, ValueColumn, Lengths)>, AllocError>
     ensures head { IfOk result (λ found. IfSome found (λ x. x.0 ≡ filter_for column.now)) }
     ensures values { IfOk result (λ found. IfSome found (λ x. x.1 ≡ column.now.1)) }
     ensures lengths { IfOk result (λ found. IfSome found (λ x. HasLengths x.2 column.now.1)) }
     ensures filled { IfOk result (λ found. IfSome found (λ x. IsFilled column.now)) }
 {
-    let Some((values, lengths)) = column.values.to_column(alloc)? else {
+    let Some((values, lengths)) = column.values.to_column(alloc, most)? else {
         return Ok(None);
     };
     if !lengths.some {

@@ -29,7 +29,7 @@ pub(crate) fn read(alloc: Global, bytes: &[u8]) -> Result<Block, Stop>
 }
 
 /// The block whose spelling the bytes are, by the rows that its parts say.
-fn read_slowly(alloc: Global, bytes: &[u8], parts: &Parts) -> Result<Block, Stop>
+pub(crate) fn read_slowly(alloc: Global, bytes: &[u8], parts: &Parts) -> Result<Block, Stop>
     requires parts { whole part_items bytes.now ≡ Ok parts.now }
     requires rows { All (HasRows (length parts.now.keys)) parts.now.columns }
     ensures { Gives (λ rows. rows) result (reading block block_writing bytes.now) }

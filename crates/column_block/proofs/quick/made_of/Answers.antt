@@ -19,6 +19,6 @@ invariant_of-result c =
     ∙ ap (λ (t : ℤ). plain_outline t (to_z w64 (of_z w64 last)) rows c.args.heads.items) (to_z-of_z w64 first fit_first)
     ∙ ap (λ (t : ℤ). plain_outline first t rows c.args.heads.items) (to_z-of_z w64 last fit_last)
     ∙ ap (plain_outline first last rows) c.requires.heads in
-    rw c.in_ok-keys.ensures (quick-held c.args.columns.now c.args.keys.now c.in_ok-head.head c.args.values.items none
-    c.requires.few c.requires.keys c.requires.rising c.requires.names (all-lengths rows c.args.columns.now
+    rw (c.in_ok-keys.ensures.items_if_clones_equal (λ x y e. e)) (quick-held c.args.columns.now
+    c.args.keys.now c.in_ok-head.head c.args.values.items none c.requires.few c.requires.keys c.requires.rising c.requires.names (all-lengths rows c.args.columns.now
     c.requires.rows) c.requires.filled head c.requires.values)

@@ -11,7 +11,8 @@ returns c =
     let last = last-is c.args.rows.now c.index-rows-rows.result c.requires.some c.index-rows-rows.is in
     let small_first : FitsSigned w64 c.time.result = search rules in
     let small_last : FitsSigned w64 c.time-2.result = search rules in
-    outline-is c.args.rows.now c.in_ok-stream.stream (to_z w64 (of_z w64 c.time.result)) (to_z w64
+    c.in_ok-head.ensures
+    ∙ outline-is c.args.rows.now c.in_ok-stream.stream (to_z w64 (of_z w64 c.time.result)) (to_z w64
     (of_z w64 c.time-2.result)) c.args.columns.items
     (c.in_ok-stream.ensures ∙ c.stream.ensures ∙ ap (λ (n : Numbered). n.row.labels) c.first.view_is ∙ sym first.0)
     (to_z-of_z w64 c.time.result small_first ∙ c.time.ensures.value ∙ ap (λ (n : Numbered). pos n.row.moment)
