@@ -90,7 +90,8 @@ places-within ws h lt =
 pub some-from_test : (n : ℕ) → (n == 0) ≡ false → 0 < n
 some-from_test n e = grind (arith, nat_tests)
 
-pub hash_filled : (ws : List ℕ) (hash : ℕ) → 0 < length ws → with_hash ws hash ≡ with_bits ws (places (bit_count ws) hash)
+pub hash_filled : (ws : List ℕ) (hash : ℕ) → 0 < length ws → with_hash ws hash ≡ with_bits ws (places
+    (bit_count ws) hash)
 hash_filled ws hash lt =
     let some : eqb (length ws) 0 ≡ false = ne_eqb (length ws) 0 (λ e. omega (arith, e, lt)) in
     rw some refl

@@ -12,7 +12,8 @@ no_less : (x a y z b h : ℕ) → 0 < b → a ≡ x * 2 ^ 64 → y + b ≤ a + 2
     → h < x + 2 * b
 no_less x a y z b h some is scaled full small = omega (arith, some, is, scaled, full, small)
 
-module _ (h b m q : ℕ) (some : 0 < b) (small : h < 2 ^ 64) (inverse : m ≡ (2 ^ 64 - 1) / b) (is : q ≡ h * m / 2 ^ 64) where
+module _ (h b m q : ℕ) (some : 0 < b) (small : h < 2 ^ 64) (inverse : m ≡ (2 ^ 64 - 1) / b) (is : q
+    ≡ h * m / 2 ^ 64) where
   high : m * b < 2 ^ 64
   high = let below : m * b ≤ 2 ^ 64 - 1 = rw inverse (div-mul-le_self (2 ^ 64 - 1) b) in omega (arith, below)
 
@@ -25,15 +26,18 @@ module _ (h b m q : ℕ) (some : 0 < b) (small : h < 2 ^ 64) (inverse : m ≡ (2
   pub goes_in : q * b ≤ h
   goes_in =
       let whole : q * 2 ^ 64 ≤ h * m = omega (arith, is) in
-      let scaled : (q * 2 ^ 64) * b ≤ h * (m * b) = rw (← mul_assoc h m b) (mul-le (q * 2 ^ 64) b (h * m) b whole (omega arith)) in
+      let scaled : (q * 2 ^ 64) * b ≤ h * (m * b) = rw (← mul_assoc h m b) (mul-le (q * 2 ^ 64) b (h * m) b whole
+      (omega arith)) in
       let within : h * (m * b) ≤ h * 2 ^ 64 = mul-le h (m * b) h (2 ^ 64) (omega arith) (omega (arith, high)) in
       no_more (q * b) ((q * 2 ^ 64) * b) (h * (m * b)) h scaled swapped within
 
   pub within_one : h < q * b + 2 * b
   within_one =
       let whole : h * m + 1 ≤ q * 2 ^ 64 + 2 ^ 64 = omega (arith, is) in
-      let scaled : (h * m + 1) * b ≤ (q * 2 ^ 64 + 2 ^ 64) * b = mul-le (h * m + 1) b (q * 2 ^ 64 + 2 ^ 64) b whole (omega arith) in
-      let left : (h * m + 1) * b ≡ h * (m * b) + b = add-mul (h * m) 1 b ∙ ap (λ n. n + 1 * b) (mul_assoc h m b) ∙ omega arith in
+      let scaled : (h * m + 1) * b ≤ (q * 2 ^ 64 + 2 ^ 64) * b = mul-le (h * m + 1) b (q * 2 ^ 64 + 2 ^ 64) b whole
+      (omega arith) in
+      let left : (h * m + 1) * b ≡ h * (m * b) + b = add-mul (h * m) 1 b ∙ ap (λ n. n + 1 * b) (mul_assoc h m b)
+      ∙ omega arith in
       let right : (q * 2 ^ 64 + 2 ^ 64) * b ≡ (q * 2 ^ 64) * b + 2 ^ 64 * b = add-mul (q * 2 ^ 64) (2 ^ 64) b in
       let full : h * 2 ^ 64 ≤ h * (m * b) + h * b =
       rw (← mul-add h (m * b) b) (mul-le h (2 ^ 64) h (m * b + b) (omega arith) low) in
@@ -46,4 +50,5 @@ module _ (h b m q : ℕ) (some : 0 < b) (small : h < 2 ^ 64) (inverse : m ≡ (2
   first_rest below = reduced-is b h (h - q * b) q (omega (arith, goes_in)) below
 
   pub second_rest : b ≤ h - q * b → h - q * b - b ≡ h % b
-  second_rest above = reduced-is b h (h - q * b - b) (q + 1) (omega (arith, goes_in, above, add-mul q 1 b)) (omega (arith, within_one, above))
+  second_rest above = reduced-is b h (h - q * b - b) (q + 1) (omega (arith, goes_in, above, add-mul q 1 b)) (omega
+      (arith, within_one, above))

@@ -1,5 +1,5 @@
-//! The walk over the six bits of a word. After the first bit it divides no more: it adds what the stride leaves modulo
-//! the number of bits.
+//! The walk over the six bits of a word. It divides nowhere: what the hash and the stride leave modulo the number of
+//! bits is found by a multiplication, and from bit to bit what the stride leaves is added.
 
 ghost use Rattle.std.specs.Prelude.{◌≡◌, ◌+◌, ◌*◌, ◌%◌, ◌^◌, ◌<◌, ◌≤◌};
 ghost use Rattle.token_bloom.specs.Bits.{bit_count, has_bit, has_bits, with_bit, with_bits, places, stride};

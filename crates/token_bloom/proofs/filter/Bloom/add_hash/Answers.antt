@@ -10,8 +10,10 @@ use Rattle.token_bloom.proofs.filter.Bloom.add_hash.Goals as goal
 pub invariant_of-self : goal.invariant_of-self
 invariant_of-self c =
     let same : length c.set_hash.new.filter ≡ length c.as_mut_slice.result.now =
-    ap length c.set_hash.ensures ∙ bits-len c.as_mut_slice.result.now (places (bit_count c.as_mut_slice.result.now) c.args.hash) in
-    let whole : take c.self.inside.filter.len (c.set_hash.new.filter ++ drop (length c.set_hash.new.filter) c.self.inside.filter.items)
+    ap length c.set_hash.ensures ∙ bits-len c.as_mut_slice.result.now (places
+    (bit_count c.as_mut_slice.result.now) c.args.hash) in
+    let whole : take c.self.inside.filter.len (c.set_hash.new.filter ++ drop
+    (length c.set_hash.new.filter) c.self.inside.filter.items)
     ≡ c.set_hash.new.filter =
     ap (λ n. take n (c.set_hash.new.filter ++ drop (length c.set_hash.new.filter) c.self.inside.filter.items))
     (sym (same ∙ c.as_mut_slice.ensures.len)) ∙ take-append_seam c.set_hash.new.filter _ in
@@ -22,8 +24,10 @@ invariant_of-self c =
 pub returns-then-not-is_empty : goal.returns-then-not-is_empty
 returns-then-not-is_empty c =
     let same : length c.set_hash.new.filter ≡ length c.as_mut_slice.result.now =
-    ap length c.set_hash.ensures ∙ bits-len c.as_mut_slice.result.now (places (bit_count c.as_mut_slice.result.now) c.args.hash) in
-    let whole : take c.self.inside.filter.len (c.set_hash.new.filter ++ drop (length c.set_hash.new.filter) c.self.inside.filter.items)
+    ap length c.set_hash.ensures ∙ bits-len c.as_mut_slice.result.now (places
+    (bit_count c.as_mut_slice.result.now) c.args.hash) in
+    let whole : take c.self.inside.filter.len (c.set_hash.new.filter ++ drop
+    (length c.set_hash.new.filter) c.self.inside.filter.items)
     ≡ c.set_hash.new.filter =
     ap (λ n. take n (c.set_hash.new.filter ++ drop (length c.set_hash.new.filter) c.self.inside.filter.items))
     (sym (same ∙ c.as_mut_slice.ensures.len)) ∙ take-append_seam c.set_hash.new.filter _ in
