@@ -42,6 +42,7 @@ words-length : (filter : List ℕ) (words : List (List ℕ)) → length (fold wi
 words-length filter [] = refl
 words-length filter (word ∷ words) = words-length (with_word filter word) words ∙ word-length filter word
 
-pub small-filter : (n : ℕ) (words : List (List ℕ)) → n < 2 ^ 32 → length (fold with_word (empty_filter n) words) < 2 ^ 32
+pub small-filter : (n : ℕ) (words : List (List ℕ)) → n < 2 ^ 32
+    → length (fold with_word (empty_filter n) words) < 2 ^ 32
 small-filter n words small =
     omega (arith, words-length (empty_filter n) words, length-replicate {A = ℕ} (words_for n) 0, small)

@@ -4,3 +4,4 @@ pub mod Kept
 pub mod Again
 pub mod There
 pub mod Sets
+pub mod Sorted

@@ -1,5 +1,5 @@
--- Words in a set, whose order is open.
-use Rattle.std.proofs.Common.{◌≡◌, ℕ, ◌+◌, Bool, true, false, cond, List, [], ◌∷◌, Bor, length, map, inl, inr, refl}
+-- Words whose order is open.
+use Rattle.std.proofs.Common.{◌≡◌, ℕ, ◌+◌, Bool, true, false, List, [], ◌∷◌, Bor, length, inl, inr, refl}
 use Rattle.std.proofs.Common.{sym, ap, ◌∙◌, arith}
 use Rattle.std.specs.Prelude.{◌||◌, bytes_eq}
 use Rattle.std.specs.BTreeSet.{insert_key}
@@ -16,7 +16,7 @@ use Rattle.std.proofs.lemmas.Slice.Eq.{bytes_eq-Decides}
 use Rattle.block_column.specs.Kinds.{distinct, is_listed}
 use Rattle.block_column.specs.Members.{HaveSameTexts}
 use Rattle.block_column.proofs.Distinct.{itself, right_true}
-use Rattle.block_column.proofs.Rising.{distinct-rising, rising-put}
+use Rattle.block_column.proofs.Rising.{distinct-rising}
 use Rattle.block_column.proofs.Same.{distinct-listed, put-listed, same-rising}
 use Rattle.log_model.specs.Field.{bytes_cmp}
 use Rattle.token_bloom.specs.Filter.{empty_filter, with_word}
@@ -26,10 +26,7 @@ use Rattle.word_filter.specs.Words.{column_words, filter_of, words_in}
 abbrev pub text_of : Bor (List ℕ) → List ℕ
 text_of t = t.now
 
-abbrev lent : List ℕ → Bor (List ℕ)
-lent t = record { ref_ptr = (0, 0); now = t }
-
--- ---- texts that are put into a set
+-- ---- which texts are there
 
 pub turned : (a b : List ℕ) → bytes_eq a b ≡ bytes_eq b a
 turned a b =
@@ -41,38 +38,11 @@ turned a b =
       ]
     ]
 
-listed-lent : (t : List ℕ) (keys : List (Bor (List ℕ)))
-    → is_listed (map text_of keys) t ≡ list_any (λ key. bytes_eq t key.now) keys
-listed-lent t [] = refl
-listed-lent t (k ∷ ks) = ap (λ (b : Bool). bytes_eq t k.now || b) (listed-lent t ks)
-
-chosen-true : (c b : Bool) → cond c true b ≡ (c || b)
-chosen-true true b = refl
-chosen-true false b = refl
-
--- What a set contains after one more was put.
-abbrev pub Puts : List (Bor (List ℕ)) → List (Bor (List ℕ)) → Bor (List ℕ) → Type 0
-Puts old new word =
-    (q : Bor (List ℕ)) → list_any (λ key. bytes_eq q.now key.now) new
-    ≡ cond (bytes_eq word.now q.now) true (list_any (λ key. bytes_eq q.now key.now) old)
-
-pub listed-new : (old new : List (Bor (List ℕ))) (word : Bor (List ℕ)) → Puts old new word → (t : List ℕ)
-    → is_listed (map text_of new) t ≡ (bytes_eq t word.now || is_listed (map text_of old) t)
-listed-new old new word puts t =
-    listed-lent t new ∙ puts (lent t)
-    ∙ chosen-true (bytes_eq word.now t) (list_any (λ (key : Bor (List ℕ)). bytes_eq t key.now) old)
-    ∙ ap (λ (b : Bool). b || list_any (λ (key : Bor (List ℕ)). bytes_eq t key.now) old) (turned word.now t)
-    ∙ ap (λ (b : Bool). bytes_eq t word.now || b) (sym (listed-lent t old))
-
-pub set-put : (old new : List (Bor (List ℕ))) (word : Bor (List ℕ)) → Puts old new word
-    → distinct (map text_of new) ≡ insert_key bytes_cmp (distinct (map text_of old)) word.now
-set-put old new word puts =
-    same-rising (distinct (map text_of new)) (insert_key bytes_cmp (distinct (map text_of old)) word.now)
-    (distinct-rising (map text_of new)) (rising-put word.now (distinct (map text_of old)) (distinct-rising (map text_of
-    old)))
-    (λ t. distinct-listed t (map text_of new) ∙ listed-new old new word puts t
-    ∙ ap (λ (b : Bool). bytes_eq t word.now || b) (sym (distinct-listed t (map text_of old)))
-    ∙ sym (put-listed t word.now (distinct (map text_of old))))
+-- Texts that are the same, however often and in whatever order, are the same once each and in order.
+pub same-distinct : (texts others : List (List ℕ)) → HaveSameTexts texts others → distinct texts ≡ distinct others
+same-distinct texts others h =
+    same-rising (distinct texts) (distinct others) (distinct-rising texts) (distinct-rising others)
+    (λ text. distinct-listed text texts ∙ h text ∙ sym (distinct-listed text others))
 
 -- ---- a filter to which words are added in any order
 
@@ -98,7 +68,8 @@ put-added : (filter key : List ℕ) (keys : List (List ℕ)) → is_listed keys 
     × (length (with_key keys key) ≡ length keys + 1)
 put-added filter key [] e = (refl, refl)
 put-added filter key (k ∷ ks) e =
-    by (bytes_cmp key k) refl (put-added (with_word filter k) key ks (no-either (bytes_eq key k) (is_listed ks key) e).1)
+    by (bytes_cmp key k) refl (put-added (with_word filter k) key ks (no-either (bytes_eq key k)
+    (is_listed ks key) e).1)
   where
     by : (o : Ordering) → bytes_cmp key k ≡ o
         → (fold with_word (with_word filter k) (with_key ks key)
@@ -142,27 +113,12 @@ none-listed : (texts : List (List ℕ)) → AreNew [] texts
 none-listed [] = tt
 none-listed (t ∷ ts) = (refl, none-listed ts)
 
-other-texts : (key : Bor (List ℕ)) (keys : List (Bor (List ℕ)))
-    → AllByRecursion (λ other. bytes_eq key.now other.now ≡ false) keys
-    → AllByRecursion (λ text. bytes_eq key.now text ≡ false) (map text_of keys)
-other-texts key [] h = tt
-other-texts key (k ∷ ks) h = (h.0, other-texts key ks h.1)
-
-abbrev same_text : Bor (List ℕ) → Bor (List ℕ) → Bool
-same_text a b = bytes_eq a.now b.now
-
-distinct-texts : (keys : List (Bor (List ℕ))) → IsDistinct same_text keys → IsDistinct bytes_eq (map text_of keys)
-unfolding IsDistinct
-distinct-texts [] d = tt
-distinct-texts (k ∷ ks) d = (other-texts k ks d.0, distinct-texts ks d.1)
-
--- The filter of the texts of a set is that of the texts in order.
-pub set-added : (keys : List (Bor (List ℕ))) (filter : List ℕ) → IsDistinct same_text keys
-    → (fold with_word filter (map text_of keys) ≡ fold with_word filter (distinct (map text_of keys)))
-    × (length (distinct (map text_of keys)) ≡ length (map text_of keys))
-set-added keys filter d =
-    let all = all-added (map text_of keys) [] filter (distinct-texts keys d) (none-listed (map text_of keys)) in
-    (sym all.0, omega (arith, all.1))
+-- The filter of texts that are there once each is that of the texts in order.
+pub once-added : (texts : List (List ℕ)) (filter : List ℕ) → IsDistinct bytes_eq texts
+    → (fold with_word filter texts ≡ fold with_word filter (distinct texts))
+    × (length (distinct texts) ≡ length texts)
+once-added texts filter d =
+    let all = all-added texts [] filter d (none-listed texts) in (sym all.0, omega (arith, all.1))
 
 -- ---- values of which each is among others
 
@@ -215,11 +171,8 @@ any-flat f (t ∷ ts) text =
 
 same-words : (texts others : List (List ℕ)) → HaveSameTexts texts others → column_words texts ≡ column_words others
 same-words texts others h =
-    same-rising (column_words texts) (column_words others) (distinct-rising (flat_map words_in texts)) (distinct-rising
-    (flat_map words_in others)) (λ text. distinct-listed text (flat_map words_in texts) ∙ any-flat words_in texts text
-    ∙ any-same (λ other. is_listed (words_in other) text) texts others h
-    ∙ sym (any-flat words_in others text)
-    ∙ sym (distinct-listed text (flat_map words_in others)))
+    same-distinct (flat_map words_in texts) (flat_map words_in others) (λ text. any-flat words_in texts text
+    ∙ any-same (λ other. is_listed (words_in other) text) texts others h ∙ sym (any-flat words_in others text))
 
 -- Values of which each is among others, and these among them, have one filter.
 pub same-filter : (texts others : List (List ℕ)) → HaveSameTexts texts others → filter_of texts ≡ filter_of others

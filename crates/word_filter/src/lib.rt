@@ -1,16 +1,18 @@
 //! The filter of a column: a Bloom filter that has the words of the column's values, and the filter as bytes.
 #![tactic(auto)]
 
-ghost use Rattle.std.specs.Prelude.{◌≡◌, ◌<◌, ◌^◌, ◌≤◌, ◌+◌, ◌++◌, IfOk, OnOk, length, map, sum_by, true};
+ghost use Rattle.std.specs.Prelude.{◌≡◌, ◌<◌, ◌^◌, ◌≤◌, ◌+◌, ◌++◌, IfOk, OnOk, bytes_eq, length, map};
+ghost use Rattle.std.specs.Prelude.{sum_by, true};
 ghost use Rattle.std.specs.BTreeSet.{insert_key};
-ghost use Rattle.std.specs.HashSet.{keys};
-ghost use Rattle.std.specs.List.{All, fold, list_all};
+ghost use Rattle.std.specs.List.{All, IsDistinct, fold, list_all};
 ghost use Rattle.std.specs.Int.{w64};
 ghost use Rattle.block_column.specs.Kinds.{distinct};
+ghost use Rattle.block_column.specs.Members.{HaveSameTexts};
 ghost use Rattle.byte_format.specs.Format.{front, many};
 ghost use Rattle.byte_format.specs.Gives.{Gives};
 ghost use Rattle.byte_format.specs.Items.{number};
 ghost use Rattle.log_model.specs.Field.{bytes_cmp};
+ghost use Rattle.token_bloom.specs.Bits.{fnv};
 ghost use Rattle.token_bloom.specs.Filter.{with_word};
 ghost use Rattle.word_filter.specs.Words.{HasWords, LeavesNoneOut, column_words, counted_filter, filter_item};
 ghost use Rattle.word_filter.specs.Words.{filter_of, filter_steps, is_there, put_words, skipped};
@@ -18,9 +20,14 @@ ghost use Rattle.word_filter.specs.Words.{filter_of, filter_steps, is_there, put
 use block_column::{Recent, ValueColumn};
 use byte_format::{Stop, put_u64s, take_u32, take_u64};
 use std::alloc::{AllocError, Global};
-use std::collections::HashSet;
-use token_bloom::Bloom;
+use token_bloom::{Bloom, hash_of};
 use word_tokens::words;
+
+/// For as many words as there are values there is room from the start, and for no more than these.
+const MOST_RESERVED: usize = 4_096;
+
+/// A list of fewer words is not thinned out before it has all of them.
+const LONG: usize = 65_536;
 
 /// A filter with room for the distinct words of these values, and with all of them.
 pub fn filter_of(alloc: Global, values: &[&str]) -> Result<Bloom, AllocError>
@@ -29,9 +36,9 @@ pub fn filter_of(alloc: Global, values: &[&str]) -> Result<Bloom, AllocError>
     ensures words { IfOk result (λ bloom. All (HasWords bloom) (map (λ t. t.now) values.now)) }
     ensures small { IfOk result (λ bloom. length bloom < 2 ^ 32) }
 {
-    let words = words_of(alloc, values)?;
+    let words = distinct_words(alloc, values)?;
     let mut bloom = Bloom::with_room(alloc, words.len())?;
-    add_words(&mut bloom, &words);
+    add_words(&mut bloom, words.as_slice());
     Ok(bloom)
 }
 
@@ -54,14 +61,42 @@ pub fn filter_law()
     ensures { LeavesNoneOut }
 {}
 
-/// The words of the values, each once.
-fn words_of<'a>(alloc: Global, values: &[&'a str]) -> Result<HashSet<&'a str>, AllocError>
-    ensures words { IfOk result (λ words. distinct (map (λ t. t.now) (keys words))
+/// The words of the values, each once, with their hashes.
+///
+/// They are sorted, and in no hash table: who chooses the words cannot make this slower than sorting them is.
+fn distinct_words<'a>(alloc: Global, values: &[&'a str]) -> Result<Vec<(u64, &'a str)>, AllocError>
+    ensures words { IfOk result (λ words. distinct (map (λ w. w.1.now) words.items)
         ≡ column_words (map (λ t. t.now) values.now)) }
-    ensures few { IfOk result (λ words. length (distinct (map (λ t. t.now) (keys words)))
+    ensures few { IfOk result (λ words. length (distinct (map (λ w. w.1.now) words.items))
         ≤ sum_by (λ t. length t.now) values.now) }
+    ensures once { IfOk result (λ words. IsDistinct bytes_eq (map (λ w. w.1.now) words.items)) }
+    ensures hashes { IfOk result (λ words. All (λ w. w.0 ≡ fnv w.1.now) words.items) }
 {
-    let mut words = HashSet::new(alloc);
+    let mut words = words_of(alloc, values)?;
+    keep_once(&mut words);
+    Ok(words)
+}
+
+/// Sorts words, and drops those that are there already.
+fn keep_once(words: &mut Vec<(u64, &str)>)
+    requires hashes { All (λ w. w.0 ≡ fnv w.1.now) words.old.items }
+    ensures same { HaveSameTexts (map (λ w. w.1.now) words.new.items) (map (λ w. w.1.now) words.old.items) }
+    ensures once { IsDistinct bytes_eq (map (λ w. w.1.now) words.new.items) }
+    ensures hashes { All (λ w. w.0 ≡ fnv w.1.now) words.new.items }
+{
+    words.sort_unstable();
+    words.dedup();
+}
+
+/// The words of the values with their hashes. A word is there more than once where it was forgotten between.
+fn words_of<'a>(alloc: Global, values: &[&'a str]) -> Result<Vec<(u64, &'a str)>, AllocError>
+    ensures words { IfOk result (λ words. distinct (map (λ w. w.1.now) words.items)
+        ≡ column_words (map (λ t. t.now) values.now)) }
+    ensures few { IfOk result (λ words. length (distinct (map (λ w. w.1.now) words.items))
+        ≤ sum_by (λ t. length t.now) values.now) }
+    ensures hashes { IfOk result (λ words. All (λ w. w.0 ≡ fnv w.1.now) words.items) }
+{
+    let mut words = Vec::with_capacity(alloc, values.len().min(MOST_RESERVED))?;
     let mut recent = Recent::new(alloc, "")?;
     for value in values {
         put_words(&mut words, &mut recent, value)?;
@@ -71,16 +106,18 @@ fn words_of<'a>(alloc: Global, values: &[&'a str]) -> Result<HashSet<&'a str>, A
 
 /// Puts the words of one value to the others.
 fn put_words<'a>(
-    all: &mut HashSet<&'a str>,
+    all: &mut Vec<(u64, &'a str)>,
     recent: &mut Recent<'a>,
     value: &'a str,
 ) -> Result<(), AllocError>
-    requires recent { list_all (is_there (map (λ t. t.now) (keys all.old))) recent.old ≡ true }
-    ensures words { OnOk result (distinct (map (λ t. t.now) (keys all.new))
-        ≡ put_words (distinct (map (λ t. t.now) (keys all.old))) value.now) }
-    ensures few { OnOk result (length (distinct (map (λ t. t.now) (keys all.new)))
-        ≤ length (distinct (map (λ t. t.now) (keys all.old))) + length value.now) }
-    ensures recent { OnOk result (list_all (is_there (map (λ t. t.now) (keys all.new))) recent.new ≡ true) }
+    requires recent { list_all (is_there (map (λ w. w.1.now) all.old.items)) recent.old ≡ true }
+    requires hashes { All (λ w. w.0 ≡ fnv w.1.now) all.old.items }
+    ensures words { OnOk result (distinct (map (λ w. w.1.now) all.new.items)
+        ≡ put_words (distinct (map (λ w. w.1.now) all.old.items)) value.now) }
+    ensures few { OnOk result (length (distinct (map (λ w. w.1.now) all.new.items))
+        ≤ length (distinct (map (λ w. w.1.now) all.old.items)) + length value.now) }
+    ensures recent { OnOk result (list_all (is_there (map (λ w. w.1.now) all.new.items)) recent.new ≡ true) }
+    ensures hashes { OnOk result (All (λ w. w.0 ≡ fnv w.1.now) all.new.items) }
 {
     for (start, end) in words(value) {
         put_word(all, recent, &value[start..end])?;
@@ -90,29 +127,51 @@ fn put_words<'a>(
 
 /// Puts a word to the others, unless it was put lately.
 fn put_word<'a>(
-    all: &mut HashSet<&'a str>,
+    all: &mut Vec<(u64, &'a str)>,
     recent: &mut Recent<'a>,
     word: &'a str,
 ) -> Result<(), AllocError>
     requires some { 0 < length word.now }
-    requires recent { list_all (is_there (map (λ t. t.now) (keys all.old))) recent.old ≡ true }
-    ensures words { OnOk result (distinct (map (λ t. t.now) (keys all.new))
-        ≡ insert_key bytes_cmp (distinct (map (λ t. t.now) (keys all.old))) word.now) }
-    ensures recent { OnOk result (list_all (is_there (map (λ t. t.now) (keys all.new))) recent.new ≡ true) }
+    requires recent { list_all (is_there (map (λ w. w.1.now) all.old.items)) recent.old ≡ true }
+    requires hashes { All (λ w. w.0 ≡ fnv w.1.now) all.old.items }
+    ensures words { OnOk result (distinct (map (λ w. w.1.now) all.new.items)
+        ≡ insert_key bytes_cmp (distinct (map (λ w. w.1.now) all.old.items)) word.now) }
+    ensures recent { OnOk result (list_all (is_there (map (λ w. w.1.now) all.new.items)) recent.new ≡ true) }
+    ensures hashes { OnOk result (All (λ w. w.0 ≡ fnv w.1.now) all.new.items) }
 {
     if recent.has(word) {
         return Ok(());
     }
-    all.insert(word)?;
+    make_room(all)?;
+    all.push((hash_of(word.as_bytes()), word))?;
     recent.put(word);
     Ok(())
 }
 
-fn add_words(bloom: &mut Bloom, words: &HashSet<&str>)
-    ensures { bloom.new ≡ fold with_word bloom.old (map (λ t. t.now) (keys words.now)) }
+/// Makes room in a long list that is full. What is there twice is dropped first, so that a few words that are said again
+/// and again take little memory. Then at least half of the room is free, so that the list is seldom sorted.
+fn make_room(all: &mut Vec<(u64, &str)>) -> Result<(), AllocError>
+    requires hashes { All (λ w. w.0 ≡ fnv w.1.now) all.old.items }
+    ensures same { OnOk result (HaveSameTexts (map (λ w. w.1.now) all.new.items) (map (λ w. w.1.now) all.old.items)) }
+    ensures hashes { OnOk result (All (λ w. w.0 ≡ fnv w.1.now) all.new.items) }
+{
+    if all.len() < all.capacity() || all.len() < LONG {
+        return Ok(());
+    }
+    keep_once(all);
+    if all.len() > all.capacity() / 2 {
+        all.reserve(all.capacity())?;
+    }
+    Ok(())
+}
+
+/// Adds words by their hashes.
+fn add_words(bloom: &mut Bloom, words: &[(u64, &str)])
+    requires hashes { All (λ w. w.0 ≡ fnv w.1.now) words.now }
+    ensures { bloom.new ≡ fold with_word bloom.old (map (λ w. w.1.now) words.now) }
 {
     for word in words {
-        bloom.add(word.as_bytes());
+        bloom.add_hash(word.0);
     }
 }
 

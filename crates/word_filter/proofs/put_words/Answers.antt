@@ -1,14 +1,12 @@
-use Rattle.std.proofs.Common.{◌≡◌, ◌∙◌, ◌∷◌, ℕ, List, Bor, length, map, refl, ap, arith}
+use Rattle.std.proofs.Common.{◌≡◌, ◌∙◌, ◌∷◌, ℕ, List, length, map, refl, ap, arith}
 use Rattle.std.specs.BTreeSet.{insert_key}
 use Rattle.std.specs.List.{fold, slice_range}
 use Rattle.block_column.specs.Kinds.{distinct}
 use Rattle.log_model.specs.Field.{bytes_cmp}
 use Rattle.word_filter.specs.Words.{put_words}
+use Rattle.word_filter.proofs.Sorted.{text_in}
 use Rattle.word_filter.proofs.WordLaws.{AreWords, are-words, few-put, filled-word, texts_at}
 use Rattle.word_filter.proofs.put_words.Goals as goal
-
-abbrev now_of : Bor (List ℕ) → List ℕ
-now_of t = t.now
 
 pub loop-start-init : goal.loop-start-init
 loop-start-init c =
@@ -17,6 +15,7 @@ loop-start-init c =
       words = are-words c.args.value.now;
       so_far = refl;
       recent = c.requires.recent;
+      hashes = c.requires.hashes;
     })
 
 pub put_word-requires-clause-some : goal.put_word-requires-clause-some
@@ -30,22 +29,24 @@ loop-start-preserved c =
     let words : AreWords c.args.value.now ((c.in-Some.start, c.in-Some.end) ∷ c.next.new.self) =
     rw c.in-Some.ensures.steps at c.loop-start.invariant.words in
     let so_far = rw c.in-Some.ensures.steps at c.loop-start.invariant.so_far in
-    let put : distinct (map now_of c.put_word.new.all.keys) ≡ insert_key bytes_cmp (distinct (map now_of
-    c.loop-start.all.keys)) (slice_range c.args.value.now c.in-Some.start c.in-Some.end) = c.in_ok-put_word.ensures.words
-    ∙ ap (insert_key bytes_cmp (distinct (map now_of c.loop-start.all.keys))) c.range.ensures.value in
+    let put : distinct (map text_in c.put_word.new.all.items) ≡ insert_key bytes_cmp (distinct (map text_in
+    c.loop-start.all.items))
+    (slice_range c.args.value.now c.in-Some.start c.in-Some.end) = c.in_ok-put_word.ensures.words
+    ∙ ap (insert_key bytes_cmp (distinct (map text_in c.loop-start.all.items))) c.range.ensures.value in
     record {
       words = words.1;
       so_far = ap (λ (l : List (List ℕ)). fold (insert_key bytes_cmp) l (texts_at c.args.value.now c.next.new.self)) put
           ∙ so_far;
       recent = c.in_ok-put_word.ensures.recent;
+      hashes = c.in_ok-put_word.ensures.hashes;
     }
 
 pub returns-clause-few : goal.returns-clause-few
 returns-clause-few c =
-    let so_far : distinct (map now_of c.loop-start.all.keys) ≡ put_words (distinct (map now_of c.args.all.now.keys))
+    let so_far : distinct (map text_in c.loop-start.all.items) ≡ put_words (distinct (map text_in c.args.all.now.items))
     c.args.value.now = rw c.in-None.ensures.steps.0 at c.loop-start.invariant.so_far in
     omega (
       arith,
       ap length so_far,
-      few-put (distinct (map now_of c.args.all.now.keys)) c.args.value.now c.utf8.value,
+      few-put (distinct (map text_in c.args.all.now.items)) c.args.value.now c.utf8.value,
     )
