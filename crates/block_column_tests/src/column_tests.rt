@@ -2,6 +2,7 @@
 ghost use Rattle.std.specs.Prelude.{◌<◌, ◌^◌, length, sum_by};
 
 use crate::hex_tests::{bytes_of, push_digits};
+use crate::part_tests::{found_text, parts_text, recent_text};
 use block_column::{Value, ValueColumn};
 use col_codec::ColumnFault;
 use std::alloc::{AllocError, Global};
@@ -18,8 +19,23 @@ pub fn answer(alloc: Global, line: &str) -> Result<String, AllocError> {
         "values" => values(alloc, rest),
         "read" => read(alloc, rows, digits),
         "made" => made(alloc, rows, digits.parse::<u16>().unwrap_or(0) as usize),
+        "parts" => parts(alloc, rest),
+        "found" => found_text(alloc, rows, digits),
+        "recent" => recent_text(alloc, rest),
         _ => format!(in alloc; "no call"),
     }
+}
+
+fn parts(alloc: Global, list: &str) -> Result<String, AllocError> {
+    let mut values = Vec::new(alloc);
+    let mut room = MOST_BYTES;
+    for value in list.split(',') {
+        if value.len() <= room {
+            room -= value.len();
+            values.push(value)?;
+        }
+    }
+    parts_text(alloc, values.as_slice())
 }
 
 fn values(alloc: Global, list: &str) -> Result<String, AllocError> {

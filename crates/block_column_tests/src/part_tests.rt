@@ -1,0 +1,98 @@
+//! What the parts of columns answer, and what bytes of any kind say.
+ghost use Rattle.std.specs.Prelude.{◌<◌, ◌^◌, length, sum_by};
+
+use crate::hex_tests::{bytes_of, push_digits};
+use block_column::{FoundColumn, Lengths, Recent, Value, ValueColumn, take_kind};
+use byte_format::Stop;
+use std::alloc::{AllocError, Global};
+use std::fmt::Write;
+
+/// The kind, the body, the decimal texts and the members of the column of these values.
+pub fn parts_text(alloc: Global, values: &[&str]) -> Result<String, AllocError>
+    requires { sum_by (λ t. length t.now) values.now < 2 ^ 32 }
+{
+    let column = ValueColumn::try_of(alloc, values)?;
+    let mut body = Vec::new(alloc);
+    column.put_body(&mut body)?;
+    let mut answer = format!(in alloc; "{} ", column.kind())?;
+    push_digits(&mut answer, body.as_slice())?;
+    let decimals = column.decimals(alloc)?;
+    for text in &decimals {
+        let _ = write!(answer, " {}", text.as_str());
+    }
+    let members = column.members(alloc, decimals.as_slice())?;
+    for text in &members {
+        let _ = write!(answer, " [{text}]");
+    }
+    Ok(answer)
+}
+
+/// What bytes say that are a column of so many rows, and the column of these values.
+pub fn found_text(alloc: Global, rows: usize, rest: &str) -> Result<String, AllocError> {
+    let (most, digits) = rest.split_once(' ').unwrap_or((rest, ""));
+    let most = most.parse::<u32>().unwrap_or(0) as usize;
+    let bytes = bytes_of(alloc, digits)?;
+    match taken(alloc, rows, bytes.as_slice()) {
+        Ok((found, left)) => {
+            let mut answer = format!(in alloc; "{left} left")?;
+            push_found(&mut answer, &found);
+            push_column(alloc, &mut answer, &found, most)?;
+            Ok(answer)
+        }
+        Err(Stop::Left(left)) => format!(in alloc; "damaged {left} ahead of the end"),
+        Err(Stop::Memory) => format!(in alloc; "no memory"),
+    }
+}
+
+fn taken(alloc: Global, rows: usize, bytes: &[u8]) -> Result<(FoundColumn, usize), Stop> {
+    let (kind, rest) = take_kind(bytes)?;
+    let (found, rest) = FoundColumn::take_body(alloc, rows, kind, rest)?;
+    Ok((found, rest.len()))
+}
+
+fn push_found(answer: &mut String, found: &FoundColumn) {
+    for i in 0..found.len() {
+        let _ = match found.value(i) {
+            Value::Str(text) => write!(answer, " [{text}]"),
+            Value::Int(integer) => write!(answer, " {integer}"),
+        };
+    }
+}
+
+fn push_column(
+    alloc: Global,
+    answer: &mut String,
+    found: &FoundColumn,
+    most: usize,
+) -> Result<(), AllocError> {
+    match found.to_column(alloc, most)? {
+        Some((column, lengths)) => {
+            let bytes = column.to_bytes(alloc)?;
+            answer.push(' ')?;
+            push_digits(answer, bytes.as_slice())?;
+            push_lengths(answer, lengths);
+        }
+        None => answer.push_str(" too long")?,
+    }
+    Ok(())
+}
+
+fn push_lengths(answer: &mut String, lengths: Lengths) {
+    let _ = write!(
+        answer,
+        " {} {} {}",
+        lengths.longest, lengths.some, lengths.all
+    );
+}
+
+/// Of each text whether it was remembered. In the beginning the first is.
+pub fn recent_text(alloc: Global, list: &str) -> Result<String, AllocError> {
+    let (first, _) = list.split_once(',').unwrap_or((list, ""));
+    let mut recent = Recent::new(alloc, first)?;
+    let mut answer = String::new(alloc);
+    for text in list.split(',') {
+        let _ = write!(answer, " {text}:{}", recent.has(text));
+        recent.put(text);
+    }
+    Ok(answer)
+}
