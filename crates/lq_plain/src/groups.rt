@@ -12,8 +12,7 @@ use crate::tuples::distinct;
 use lq_ast::StatKey;
 use std::alloc::{AllocError, Global};
 use std::cmp::Ordering;
-use time_text::plain::write_moment;
-use time_text::read_moment;
+use time_text::plain::{read_moment, write_moment};
 use vl_row::{FieldList, Items, Text};
 
 /// The tuples of the groups in their order. Without keys there is always one group.

@@ -24,7 +24,6 @@ mod tuples;
 mod uniq_pipe;
 mod value;
 mod values;
-mod words;
 
 pub use fault::PlainFault;
 pub use filter::{holds, record_holds};

@@ -2,8 +2,8 @@
 ghost use Rattle.std.specs.Prelude.{◌≡◌, ◌≤◌, length};
 ghost use Rattle.lq_ast.specs.Phrases.{in_order};
 
-use crate::words::stands_at;
 use vl_row::Text;
+use word_tokens::plain::stands_at;
 
 /// Whether the phrases stand in the value in this order, the first at `from` or later, and each other one at the end of
 /// the one before or later. Empty ones are passed over.
