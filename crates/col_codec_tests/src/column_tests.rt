@@ -2,6 +2,7 @@
 ghost use Rattle.std.specs.Prelude.{◌<◌, ◌^◌, length, sum_by};
 
 use crate::hex_tests::{bytes_of, push_digits};
+use byte_format::Stop;
 use col_codec::{ColumnFault, IntColumn, TextColumn};
 use std::alloc::{AllocError, Global};
 use std::fmt::Write;
@@ -18,6 +19,8 @@ pub fn answer(alloc: Global, line: &str) -> Result<String, AllocError> {
         "texts" => texts(alloc, rest),
         "read-ints" => read_ints(alloc, rows, digits),
         "read-texts" => read_texts(alloc, rows, digits),
+        "take-ints" => take_ints(alloc, rows, digits),
+        "take-texts" => take_texts(alloc, rows, digits),
         _ => format!(in alloc; "no call"),
     }
 }
@@ -89,6 +92,45 @@ fn read_texts(alloc: Global, rows: usize, digits: &str) -> Result<String, AllocE
             Ok(answer)
         }
         Err(fault) => fault_text(alloc, fault),
+    }
+}
+
+/// The integers at the front of the bytes, and their column as it is put behind the bytes that are left.
+fn take_ints(alloc: Global, rows: usize, digits: &str) -> Result<String, AllocError> {
+    let bytes = bytes_of(alloc, digits)?;
+    match IntColumn::take(alloc, rows, bytes.as_slice()) {
+        Ok((column, rest)) => {
+            let mut out = rest.to_vec(alloc)?;
+            column.put(&mut out)?;
+            let mut answer = String::new(alloc);
+            push_digits(&mut answer, out.as_slice())?;
+            push_ints(&mut answer, &column)?;
+            Ok(answer)
+        }
+        Err(stop) => stop_text(alloc, stop),
+    }
+}
+
+/// The texts at the front of the bytes, and their column as it is put behind the bytes that are left.
+fn take_texts(alloc: Global, rows: usize, digits: &str) -> Result<String, AllocError> {
+    let bytes = bytes_of(alloc, digits)?;
+    match TextColumn::take(alloc, rows, bytes.as_slice()) {
+        Ok((column, rest)) => {
+            let mut out = rest.to_vec(alloc)?;
+            column.put(&mut out)?;
+            let mut answer = String::new(alloc);
+            push_digits(&mut answer, out.as_slice())?;
+            push_texts(&mut answer, &column)?;
+            Ok(answer)
+        }
+        Err(stop) => stop_text(alloc, stop),
+    }
+}
+
+fn stop_text(alloc: Global, stop: Stop) -> Result<String, AllocError> {
+    match stop {
+        Stop::Left(left) => format!(in alloc; "damaged {left} ahead of the end"),
+        Stop::Memory => format!(in alloc; "no memory"),
     }
 }
 
