@@ -1,5 +1,5 @@
 -- What is known of the rows of a block.
-use Rattle.std.proofs.Common.{◌≡◌, ℕ, ℤ, pos, List, length, refl}
+use Rattle.std.proofs.Common.{◌≡◌, ℤ, pos, List, length, refl}
 use Rattle.log_model.specs.Field.{Field}
 use Rattle.log_model.specs.History.{Numbered}
 use Rattle.column_block.specs.Outline.{NamedFilter}
