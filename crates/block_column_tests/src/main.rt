@@ -6,11 +6,11 @@
 //! A line `made` gives a number of distinct values and how many bytes each has; the program writes the kind of their
 //! column, how many bytes it has, and whether they are read again.
 //!
-//! A line `parts` gives values; the program writes the kind and the body of their column, the decimal texts that it has,
-//! and its members. A line `found` gives a number of rows, the most bytes of a value, and the bytes of a column of any
-//! kind; the program writes what they say, and then the kind of the column of these values and how long they are. A line
-//! `recent` gives texts; of each the program writes whether it was remembered, and then remembers it. The answers are
-//! those of a plain reader in Python.
+//! A line `parts` gives values; the program writes the kind and the body of their column, the decimal texts that it
+//! has, and its members. A line `found` gives a number of rows, the most bytes of a value, and the bytes of a
+//! column of any kind; the program writes what they say, and then the kind of the column of these values and how
+//! long they are. A line `recent` gives texts; of each the program writes whether it was remembered, and then
+//! remembers it. The answers are those of a plain reader in Python.
 #![tactic(auto)]
 
 mod column_tests;

@@ -3,9 +3,9 @@
 //! A line `ints` gives integers, and a line `texts` texts, with a comma between each two. The program writes the
 //! bytes of the column in hexadecimal digits, and the values that the column and the column of those bytes have. A
 //! line `read-ints` or `read-texts` gives a number of rows and bytes; the program writes the values, or what is
-//! wrong. A line `take-ints` or `take-texts` gives the same; the program takes a column from the front of the bytes, puts
-//! it behind those that are left, and writes these bytes and the values. The answers are those of a plain reader in Python. `wide` columns are made by the program, as each line
-//! says.
+//! wrong. A line `take-ints` or `take-texts` gives the same; the program takes a column from the front of the
+//! bytes, puts it behind those that are left, and writes these bytes and the values. The answers are those of a
+//! plain reader in Python. `wide` columns are made by the program, as each line says.
 #![tactic(auto)]
 
 mod column_tests;

@@ -148,8 +148,8 @@ fn put_word<'a>(
     Ok(())
 }
 
-/// Makes room in a long list that is full. What is there twice is dropped first, so that a few words that are said again
-/// and again take little memory. Then at least half of the room is free, so that the list is seldom sorted.
+/// Makes room in a long list that is full. What is there twice is dropped first, so that a few words that are said
+/// again and again take little memory. Then at least half of the room is free, so that the list is seldom sorted.
 fn make_room(all: &mut Vec<(u64, &str)>) -> Result<(), AllocError>
     requires hashes { All (λ w. w.0 ≡ fnv w.1.now) all.old.items }
     ensures same { OnOk result (HaveSameTexts (map (λ w. w.1.now) all.new.items) (map (λ w. w.1.now) all.old.items)) }
