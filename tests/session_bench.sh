@@ -1,7 +1,8 @@
 #!/usr/bin/env bash
 # Times one session of HTTP that inserts lines, 1,000 a request, and one of syslog, against `pipe '* | limit 0'` over as many
 # lines: the least processor time of each, and the ratios a line. Then 100 inserts of 1,000 lines at one desk in one thread,
-# and 100 in each of four: the least times that the inserting took, and how much more four take in. All but `pipe` is `session_stdio`.
+# and 100 in each of four, in turns: the median times that the inserting took, and how much more four take in. All but `pipe`
+# is `session_stdio`.
 # usage: tests/session_bench.sh [LINES] [REPEATS]     (200000 lines, a multiple of 1000; 5 repeats)
 set -u
 export LC_ALL=C.UTF-8
@@ -62,14 +63,17 @@ echo "pipe, $lines lines: $base ms, $(each "$base") us a line"
 echo "a session of HTTP: $posts ms, $(each "$posts") us a line, $(ratio "$posts" "$base") times pipe"
 echo "a session of syslog: $syslog ms, $(each "$syslog") us a message, $(ratio "$syslog" "$base") times pipe; $(cat "$work/out")"
 
-# spent COMMAND..: the least time of so many runs over the first 1,000 lines, as the program says it, in milliseconds
-spent() {
-  for _ in $(seq "$repeats"); do
-    "$@" < "$work/thousand" 2> /dev/null
-  done | awk '/^inserted: true/ { if (!best || $4 < best) best = $4 } END { print best / 1000 }'
-}
-
+# 100 inserts of 1,000 lines in one thread, and 100 in each of four, in turns; the program says how long they took.
 head -n 1000 "$work/lines" > "$work/thousand"
-one=$(spent "$session" inserts)
-four=$(spent "$session" inserts four)
-echo "100 inserts of 1000 lines in one thread: $one ms; in each of four: $four ms, $(ratio "$(awk -v a="$one" 'BEGIN { print 4 * a }')" "$four") times as much in a second"
+for _ in $(seq "$repeats"); do
+  "$session" inserts < "$work/thousand" 2> /dev/null
+  "$session" inserts four < "$work/thousand" 2> /dev/null
+done | awk '/^inserted: true/ { print $4 }' > "$work/spent"
+python3 - "$work/spent" <<'PYTHON'
+import sys
+from statistics import median
+spent = [int(line) / 1000 for line in open(sys.argv[1])]
+one, four = spent[0::2], spent[1::2]
+print(f"100 inserts of 1000 lines in one thread, the median of {len(one)}: {median(one):.0f} ms; in each of four: {median(four):.0f} ms, "
+      f"{4 * median(one) / median(four):.2f} times as much in a second; the least of each: {4 * min(one) / min(four):.2f} times")
+PYTHON
