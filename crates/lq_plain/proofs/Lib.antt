@@ -5,4 +5,3 @@ pub mod Outcomes
 pub mod Phrases
 pub mod Reading
 pub mod Moments
-pub mod Totals

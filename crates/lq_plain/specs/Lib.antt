@@ -3,4 +3,3 @@ pub mod Order
 pub mod Outcome
 pub mod Refusal
 pub mod Subject
-pub mod Total

@@ -110,13 +110,15 @@ fn text_at(alloc: Global, moment: i64) -> Result<Text, AllocError>
     Ok(text)
 }
 
+/// So many whole steps after 1970 as are before the moment. Without a step it is 1970.
 fn first_moment(moment: i64, step: i64) -> i64
     requires { pos 0 ≤ℤ moment }
     ensures { result ≡ pos (unsigned_abs moment - unsigned_abs moment % unsigned_abs step) }
 {
     let moment = moment.unsigned_abs();
-    match moment.checked_rem(step.unsigned_abs()) {
-        Some(over) => (moment - over) as i64,
+    let step = step.unsigned_abs();
+    match moment.checked_div(step) {
+        Some(steps) => (steps * step) as i64,
         None => 0,
     }
 }

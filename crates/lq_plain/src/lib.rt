@@ -1,5 +1,7 @@
-//! What pipes make of records, by plain slow programs that follow the definitions. They share no body with the shipped
-//! ones, which tests compare with them.
+//! What pipes make of records, and whether filters hold for rows and records, by plain slow programs that follow the
+//! definitions. They call no function of `lq_filter`, `lq_tuple`, `lq_order` and `lq_stats`, with which tests compare
+//! them. What both stand on is compared with nothing: `vl_row` (lists of fields, numbers, the order of values),
+//! `stream_label` (the text and the id of a stream, quoting), `regex` and `caseless`.
 #![tactic(auto)]
 
 mod array;

@@ -81,7 +81,7 @@ fn put_filter(alloc: Global, filter: &Filter, out: &mut Patterns) -> Result<(), 
     ensures { OnOk result (out.new.items ≡ out.old.items ++ patterns_of (condition filter.now)) }
 {
     match filter {
-        Filter::Regex { pattern, .. } => { put(alloc, pattern.as_str(), pattern.as_str(), out) }
+        Filter::Regex { pattern, .. } => put(alloc, pattern.as_str(), pattern.as_str(), out),
         Filter::Select(select) => put_groups(alloc, select.groups.as_slice(), out),
         Filter::Not(filter) => put_filter(alloc, filter, out),
         Filter::All2(filters) => put_filters(alloc, filters.as_slice(), out),

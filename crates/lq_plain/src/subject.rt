@@ -5,6 +5,7 @@ ghost use Rattle.log_model.specs.Row.{value_of};
 ghost use Rattle.lq_ast.specs.Holds.{is_recent, is_within};
 ghost use Rattle.lq_plain.specs.Subject.{subject_of};
 
+use crate::value::is_within;
 use std::alloc::{AllocError, Global};
 use stream_label::{label_text, stream_id};
 use time_text::plain::write_moment;
@@ -53,31 +54,25 @@ fn row_value(alloc: Global, row: &Row, name: &str) -> Result<Text, AllocError>
     ensures { IfOk result (λ value. value ≡ value_of row.now name.now) }
 {
     let mut text = Text::new();
-    if name == "_time" {
-        write_moment(alloc, row.time(), &mut text)?;
-        return Ok(text);
+    match name {
+        "_time" => write_moment(alloc, row.time(), &mut text)?,
+        "_stream" => label_text(alloc, row.stream(), &mut text)?,
+        "_stream_id" => stream_id(alloc, row.stream(), &mut text)?,
+        _ => text.push_str(alloc, row.value(name))?,
     }
-    if name == "_stream" {
-        label_text(alloc, row.stream(), &mut text)?;
-        return Ok(text);
-    }
-    if name == "_stream_id" {
-        stream_id(alloc, row.stream(), &mut text)?;
-        return Ok(text);
-    }
-    Text::try_of(alloc, row.value(name))
+    Ok(text)
 }
 
+/// Whether its age is less than `span`, and not below zero.
 fn is_recent(now: i64, span: i64, row: &Row) -> bool
     ensures { result ≡ (int_lt (now -ℤ span) (pos row.now.moment) && int_le (pos row.now.moment) now) }
 {
-    let time = row.time();
-    now as i128 - (span as i128) < time as i128 && time <= now
+    let age = now as i128 - row.time() as i128;
+    0 <= age && age < span as i128
 }
 
 fn is_during(from: i128, to: i128, row: &Row) -> bool
     ensures { result ≡ is_within from to (pos row.now.moment) }
 {
-    let time = row.time() as i128;
-    from <= time && time <= to
+    is_within(from, to, row.time() as i128)
 }

@@ -2,8 +2,7 @@
 ghost use Rattle.std.specs.Prelude.{◌≡◌, IfOk, filter_map};
 ghost use Rattle.std.specs.Fmt.{signed_decimal};
 ghost use Rattle.log_model.specs.Order.{number_of};
-ghost use Rattle.lq_ast.specs.Statistics.{sum_text};
-ghost use Rattle.lq_plain.specs.Total.{sum_of, with_number};
+ghost use Rattle.lq_ast.specs.Statistics.{sum_text, total};
 
 use std::alloc::{AllocError, Global};
 use vl_row::{Text, number};
@@ -13,34 +12,36 @@ use vl_row::{Text, number};
 pub(crate) fn sum_text(alloc: Global, values: &[Text]) -> Result<Option<Text>, AllocError>
     ensures { IfOk result (λ text. text ≡ sum_text (filter_map number_of values.now)) }
 {
-    let Some(total) = total(values) else {
+    let numbers = numbers(alloc, values)?;
+    let numbers = numbers.as_slice();
+    if numbers.is_empty() {
         return Ok(Some(Text::new()));
-    };
-    match i64::try_from(total) {
+    }
+    match i64::try_from(total(numbers)) {
         Ok(total) => Ok(Some(decimal(alloc, total)?)),
         Err(_) => Ok(None),
     }
 }
 
-/// The sum of the numbers among the values, if there are any.
-fn total(values: &[Text]) -> Option<i128>
-    ensures { result ≡ sum_of (filter_map number_of values.now) }
+/// The numbers among the values.
+fn numbers(alloc: Global, values: &[Text]) -> Result<Vec<i64>, AllocError>
+    ensures { IfOk result (λ numbers. numbers.items ≡ filter_map number_of values.now) }
 {
-    let mut sum = None;
-    for value in values {
-        sum = with_number(sum, value.as_str());
-    }
-    sum
+    values
+        .iter()
+        .filter_map(|value| number(value.as_str()))
+        .collect(alloc)
 }
 
-/// The sum with the number that a text says, if it says one.
-fn with_number(sum: Option<i128>, value: &str) -> Option<i128>
-    ensures { result ≡ with_number sum value.now }
+/// The sum of numbers, which are fewer than 2^64, and so it fits.
+fn total(numbers: &[i64]) -> i128
+    ensures { result ≡ total numbers.now }
 {
-    match number(value) {
-        Some(number) => Some(sum.unwrap_or(0).saturating_add(number as i128)),
-        None => sum,
+    let mut sum = 0;
+    for number in numbers {
+        sum += *number as i128;
     }
+    sum
 }
 
 fn decimal(alloc: Global, number: i64) -> Result<Text, AllocError>

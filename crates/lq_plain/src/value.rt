@@ -63,7 +63,7 @@ pub(crate) fn has_length(value: &str, low: u64, high: u64) -> bool
     ensures { result ≡ (nat_le low (length (chars value.now)) && nat_le (length (chars value.now)) high) }
 {
     let length = characters(value) as u64;
-    low <= length && length <= high
+    !(length < low || high < length)
 }
 
 fn characters(value: &str) -> usize
@@ -76,16 +76,22 @@ fn characters(value: &str) -> usize
 pub(crate) fn is_between(value: &str, low: &str, high: &str) -> bool
     ensures { result ≡ (not (is_lt (bytes_cmp value.now low.now)) && is_lt (bytes_cmp value.now high.now)) }
 {
-    let value = value.as_bytes();
-    !value.cmp(low.as_bytes()).is_lt() && value.cmp(high.as_bytes()).is_lt()
+    !(value < low) && value < high
 }
 
 /// Whether the value is a number between the ends, both included.
 pub(crate) fn is_number_within(value: &str, low: i128, high: i128) -> bool
     ensures { result ≡ option_map_or (is_within low high) (number_of value.now) false }
 {
-    match number(value) {
-        Some(n) => low <= n as i128 && n as i128 <= high,
-        None => false,
-    }
+    let Some(number) = number(value) else {
+        return false;
+    };
+    is_within(low, high, number as i128)
+}
+
+/// Whether the number is between the ends, both included.
+pub(crate) fn is_within(low: i128, high: i128, number: i128) -> bool
+    ensures { result ≡ is_within low high number }
+{
+    !(number < low || high < number)
 }

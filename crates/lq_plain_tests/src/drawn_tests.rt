@@ -6,7 +6,7 @@ use std::alloc::{AllocError, Global};
 use vl_row::{FieldList, Items, Text};
 
 /// The names of the fields that records have.
-const NAMES: &[&str] = &["_msg", "app", "level", "ms"];
+pub(crate) const NAMES: &[&str] = &["_msg", "app", "level", "ms"];
 
 /// The names of the fields that pipes ask for: also one that no record has, and one that no field can have.
 pub(crate) const ASKED: &[&str] = &["_msg", "app", "level", "ms", "none", ""];
@@ -66,7 +66,7 @@ impl Draws {
     }
 
     /// One of some texts.
-    fn one_of(&mut self, texts: &[&'static str]) -> &'static str {
+    pub(crate) fn one_of(&mut self, texts: &[&'static str]) -> &'static str {
         if texts.is_empty() {
             return "";
         }
@@ -116,6 +116,19 @@ impl Draws {
             keys: Items::of(keys),
             limit: self.limit(),
             offset: self.below(20),
+        })
+    }
+
+    /// A pipe that keeps few of the first records.
+    pub(crate) fn first_pipe(&mut self, alloc: Global) -> Result<SortPipe, AllocError> {
+        let mut keys = Vec::new(alloc);
+        for _ in 0..1 + self.below(3) {
+            keys.push(self.sort_key(alloc)?)?;
+        }
+        Ok(SortPipe {
+            keys: Items::of(keys),
+            limit: Some(self.below(9)),
+            offset: self.below(3),
         })
     }
 

@@ -32,6 +32,10 @@ const PATTERNS: &[&str] = &[
     "", "a", "^a", "^a$", "[0-9]+$", "er+or", "h.he", "(?i)AB", "\\bthen", "^-?\\d+$", "a|b",
 ];
 
+/// Patterns that no label can have: the first cannot be read alone, the second not where it has to match a whole value,
+/// and the others neither way.
+const BROKEN: &[&str] = &["a)(b", "(?x)a#b", "(", "a)", "[a", "*", "a{2,1}", "\\q"];
+
 /// The fields that filters ask of rows.
 const FIELDS: &[&str] = &[
     "_msg",
@@ -118,7 +122,7 @@ impl Draws {
                 Ok(Filter::Seq { field, texts })
             }
             2 => {
-                let pattern = self.text(alloc, PATTERNS)?;
+                let pattern = self.pattern(alloc)?;
                 Ok(Filter::Regex { field, pattern })
             }
             _ => self.selector(alloc),
@@ -173,14 +177,25 @@ impl Draws {
 
     fn label_test(&mut self, alloc: Global) -> Result<LabelTest, AllocError> {
         let name = self.text(alloc, &["app", "level", "none"])?;
-        let (how, texts) = match self.below(4) {
-            0 => (How::Is, TEXTS),
-            1 => (How::IsNot, TEXTS),
-            2 => (How::Matches, PATTERNS),
-            _ => (How::MatchesNot, PATTERNS),
+        let how = match self.below(4) {
+            0 => How::Is,
+            1 => How::IsNot,
+            2 => How::Matches,
+            _ => How::MatchesNot,
         };
-        let text = self.text(alloc, texts)?;
+        let text = match how {
+            How::Is | How::IsNot => self.text(alloc, TEXTS)?,
+            How::Matches | How::MatchesNot => self.pattern(alloc)?,
+        };
         Ok(LabelTest { name, how, text })
+    }
+
+    /// A regular expression, of which one in three cannot be read.
+    fn pattern(&mut self, alloc: Global) -> Result<Text, AllocError> {
+        match self.below(3) {
+            0 => self.text(alloc, BROKEN),
+            _ => self.text(alloc, PATTERNS),
+        }
     }
 
     fn texts(&mut self, alloc: Global) -> Result<Vec<Text>, AllocError> {

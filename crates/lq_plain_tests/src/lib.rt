@@ -8,6 +8,8 @@ mod filter_tests;
 #[cfg(test)]
 mod filters_tests;
 #[cfg(test)]
+mod first_tests;
+#[cfg(test)]
 mod pipe_tests;
 #[cfg(test)]
 mod same_tests;

@@ -1,5 +1,6 @@
 //! `sort`, `uniq` and `top`.
 use crate::drawn_tests::{Draws, FEW, VALUES};
+use crate::first_tests::is_selecting;
 use crate::same_tests::{are_same, copies};
 use lq_ast::{SortPipe, TopPipe, UniqPipe};
 use lq_order::{sort_recs, top_recs, uniq_recs};
@@ -11,7 +12,11 @@ const RECORDS: u64 = 300;
 
 const PIPES: u32 = 12;
 
-fn sorts_alike(alloc: Global, p: &SortPipe, records: &[FieldList]) -> Result<bool, AllocError> {
+pub(crate) fn sort_alike(
+    alloc: Global,
+    p: &SortPipe,
+    records: &[FieldList],
+) -> Result<bool, AllocError> {
     let plain = lq_plain::sort(alloc, p, records)?;
     let shipped = sort_recs(alloc, p, copies(alloc, records)?)?;
     Ok(are_same(plain.as_slice(), shipped.as_slice()))
@@ -36,10 +41,27 @@ fn records_are_sorted_alike(rt: HostRuntime) -> Result<(), Fail> {
     for pipe in 0..PIPES {
         let p = draws.sort_pipe(rt.alloc())?;
         assert!(rt;
-            sorts_alike(rt.alloc(), &p, records.as_slice())?,
+            sort_alike(rt.alloc(), &p, records.as_slice())?,
             "pipe {pipe}"
         );
     }
+    Ok(())
+}
+
+#[test]
+fn first_records_are_sorted_alike(rt: HostRuntime) -> Result<(), Fail> {
+    let mut draws = Draws::new(9);
+    let records = draws.records(rt.alloc(), VALUES, RECORDS)?;
+    let mut selected = false;
+    for pipe in 0..PIPES {
+        let p = draws.first_pipe(rt.alloc())?;
+        selected = selected || is_selecting(&p, records.len());
+        assert!(rt;
+            sort_alike(rt.alloc(), &p, records.as_slice())?,
+            "pipe {pipe}"
+        );
+    }
+    assert!(rt; selected);
     Ok(())
 }
 

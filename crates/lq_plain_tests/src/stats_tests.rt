@@ -1,7 +1,12 @@
 //! `stats`.
-use crate::drawn_tests::{ASKED, Draws, FEW, VALUES};
+ghost use Rattle.std.specs.Prelude.{◌≡◌};
+ghost use Rattle.lq_stats.specs.Partial.{rows};
+
+use crate::drawn_tests::{ASKED, Draws, FEW, NAMES, VALUES};
 use crate::same_tests::are_same;
 use lq_ast::{Call, Func, StatKey, StatsPipe};
+use lq_filter::PrepareFault;
+use lq_plain::PlainFault;
 use lq_stats::{Partial, StatFault};
 use std::alloc::{AllocError, Global};
 use std::test::Fail;
@@ -61,11 +66,36 @@ impl Draws {
     }
 }
 
-/// What the shipped statistics make of the records.
-fn shipped(alloc: Global, p: &StatsPipe, records: &[FieldList]) -> Result<Recs, StatFault> {
-    let Ok(mut partial) = Partial::of(alloc, p) else {
-        return Err(StatFault::Memory);
-    };
+/// What the shipped statistics answer.
+#[derive(Drop)]
+enum Shipped {
+    Made(Recs),
+    Overflow(Text),
+    Refused,
+    Memory,
+}
+
+fn shipped_of(alloc: Global, p: &StatsPipe, records: &[FieldList]) -> Shipped {
+    match Partial::of(alloc, p) {
+        Ok(partial) => finished(alloc, partial, records),
+        Err(PrepareFault::RegexRefused { .. }) => Shipped::Refused,
+        Err(PrepareFault::Memory) => Shipped::Memory,
+    }
+}
+
+fn finished(alloc: Global, partial: Partial, records: &[FieldList]) -> Shipped
+    requires { rows partial ≡ 0 }
+{
+    match made(alloc, partial, records) {
+        Ok(made) => Shipped::Made(made),
+        Err(StatFault::Overflow { name }) => Shipped::Overflow(name),
+        Err(StatFault::Memory) => Shipped::Memory,
+    }
+}
+
+fn made(alloc: Global, mut partial: Partial, records: &[FieldList]) -> Result<Recs, StatFault>
+    requires { rows partial ≡ 0 }
+{
     if records.len() > 1000 {
         return Err(StatFault::Memory);
     }
@@ -73,40 +103,190 @@ fn shipped(alloc: Global, p: &StatsPipe, records: &[FieldList]) -> Result<Recs, 
     partial.finish(alloc)
 }
 
-fn is_same(plain: &Result<Recs, Text>, shipped: &Result<Recs, StatFault>) -> bool {
-    match (plain, shipped) {
-        (Ok(made), Ok(other)) => are_same(made.as_slice(), other.as_slice()),
-        (Err(own), Err(StatFault::Overflow { name })) => own.as_str() == name.as_str(),
-        _ => false,
+/// What both answer.
+#[derive(Clone, Copy, PartialEq, Eq, Debug, Drop)]
+enum Answer {
+    Records,
+    Overflow,
+    Refusal,
+    /// They answer differently, or memory was wanting.
+    Apart,
+}
+
+fn answer_of(alloc: Global, p: &StatsPipe, records: &[FieldList]) -> Answer {
+    let plain = lq_plain::grouped(alloc, p, records);
+    let shipped = shipped_of(alloc, p, records);
+    match (&plain, &shipped) {
+        (Ok(Ok(made)), Shipped::Made(other)) => {
+            if are_same(made.as_slice(), other.as_slice()) {
+                Answer::Records
+            } else {
+                Answer::Apart
+            }
+        }
+        (Ok(Err(own)), Shipped::Overflow(name)) => {
+            if own.as_str() == name.as_str() {
+                Answer::Overflow
+            } else {
+                Answer::Apart
+            }
+        }
+        (Err(PlainFault::Unreadable), Shipped::Refused) => Answer::Refusal,
+        _ => Answer::Apart,
     }
 }
 
-fn groups_alike(alloc: Global, p: &StatsPipe, records: &[FieldList]) -> bool {
-    match lq_plain::grouped(alloc, p, records) {
-        Ok(plain) => is_same(&plain, &shipped(alloc, p, records)),
-        Err(_) => false,
+/// What drawn pipes answered.
+#[derive(Drop)]
+struct Seen {
+    records: bool,
+    overflow: bool,
+    refusal: bool,
+    apart: bool,
+}
+
+impl Seen {
+    fn new() -> Seen {
+        Seen {
+            records: false,
+            overflow: false,
+            refusal: false,
+            apart: false,
+        }
+    }
+
+    fn see(&mut self, answer: Answer) {
+        match answer {
+            Answer::Records => self.records = true,
+            Answer::Overflow => self.overflow = true,
+            Answer::Refusal => self.refusal = true,
+            Answer::Apart => self.apart = true,
+        }
     }
 }
 
-fn all_group_alike(
+fn see_all(
     alloc: Global,
     draws: &mut Draws,
     values: &[&'static str],
-) -> Result<bool, AllocError> {
+    seen: &mut Seen,
+) -> Result<(), AllocError> {
     let records = draws.records(alloc, values, RECORDS)?;
     for _ in 0..PIPES {
         let p = draws.stats_pipe(alloc)?;
-        if !groups_alike(alloc, &p, records.as_slice()) {
-            return Ok(false);
-        }
+        seen.see(answer_of(alloc, &p, records.as_slice()));
     }
-    Ok(true)
+    Ok(())
 }
 
 #[test]
 fn records_are_grouped_alike(rt: HostRuntime) -> Result<(), Fail> {
     let mut draws = Draws::new(6);
-    assert!(rt; all_group_alike(rt.alloc(), &mut draws, VALUES)?);
-    assert!(rt; all_group_alike(rt.alloc(), &mut draws, FEW)?);
+    let mut seen = Seen::new();
+    see_all(rt.alloc(), &mut draws, VALUES, &mut seen)?;
+    see_all(rt.alloc(), &mut draws, FEW, &mut seen)?;
+    assert!(rt; !seen.apart);
+    assert!(rt; seen.records && seen.refusal);
+    Ok(())
+}
+
+/// Half of the least sum that is too great, its negative, and other values: the sums of some groups overflow.
+const HALVES: &[&str] = &["", "1", "a", "4611686018427387904", "-4611686018427387904"];
+
+/// So few that some sums fit in each group.
+const SUMMED: u64 = 30;
+
+const SUMS: u32 = 30;
+
+/// Sums of these fields by these keys, each named as its field.
+fn sums(
+    alloc: Global,
+    keys: &[&'static str],
+    fields: &[&'static str],
+) -> Result<StatsPipe, AllocError> {
+    let mut asked = Vec::new(alloc);
+    for name in keys {
+        let name = Text::try_of(alloc, name)?;
+        asked.push(StatKey { name, step: None })?;
+    }
+    let mut funcs = Vec::new(alloc);
+    for field in fields {
+        funcs.push(sum(alloc, field)?)?;
+    }
+    Ok(StatsPipe {
+        keys: Items::of(asked),
+        funcs: Items::of(funcs),
+    })
+}
+
+fn sum(alloc: Global, field: &str) -> Result<Func, AllocError> {
+    let mut names = Vec::new(alloc);
+    names.push(Text::try_of(alloc, field)?)?;
+    Ok(Func {
+        call: Call::Sum,
+        names: Items::of(names),
+        only: None,
+        name: Text::try_of(alloc, field)?,
+    })
+}
+
+/// The first of the fields whose sum alone overflows in some group.
+fn first_alone(
+    alloc: Global,
+    keys: &[&'static str],
+    fields: &[&'static str],
+    records: &[FieldList],
+) -> Result<&'static str, AllocError> {
+    for field in fields {
+        let p = sums(alloc, keys, &[*field])?;
+        if answer_of(alloc, &p, records) == Answer::Overflow {
+            return Ok(*field);
+        }
+    }
+    Ok("")
+}
+
+/// Whether the pipe names another field than this one.
+fn names_other(alloc: Global, p: &StatsPipe, records: &[FieldList], field: &str) -> bool {
+    match lq_plain::grouped(alloc, p, records) {
+        Ok(Err(name)) => name.as_str() != field,
+        _ => false,
+    }
+}
+
+/// Sums over records that are drawn. Whether some pipe names a field before which another one overflows too, in a later
+/// group.
+fn see_sums(alloc: Global, draws: &mut Draws, seen: &mut Seen) -> Result<bool, AllocError> {
+    let records = draws.records(alloc, HALVES, SUMMED)?;
+    let records = records.as_slice();
+    let mut some = false;
+    for _ in 0..SUMS {
+        let keys = [draws.one_of(NAMES), draws.one_of(NAMES)];
+        let keys = if draws.below(2) == 1 {
+            &keys[..1]
+        } else {
+            &keys[..]
+        };
+        let fields = [
+            draws.one_of(NAMES),
+            draws.one_of(NAMES),
+            draws.one_of(NAMES),
+        ];
+        let p = sums(alloc, keys, &fields)?;
+        seen.see(answer_of(alloc, &p, records));
+        let first = first_alone(alloc, keys, &fields, records)?;
+        some = some || names_other(alloc, &p, records, first);
+    }
+    Ok(some)
+}
+
+#[test]
+fn the_first_function_of_the_first_group_is_named_alike(rt: HostRuntime) -> Result<(), Fail> {
+    let mut draws = Draws::new(10);
+    let mut seen = Seen::new();
+    let some = see_sums(rt.alloc(), &mut draws, &mut seen)?;
+    assert!(rt; !seen.apart);
+    assert!(rt; seen.records && seen.overflow);
+    assert!(rt; some);
     Ok(())
 }
