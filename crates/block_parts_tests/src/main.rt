@@ -1,9 +1,9 @@
 //! Tests of `block_parts`.
 //!
-//! Each line is bytes in hexadecimal digits. The program writes the labels, the keys and the columns that they say, and
-//! the bytes of the keys again; or how many bytes are left from the damaged item on. A line `labels` gives labels, and a
-//! line `column` a name and values; the program writes the bytes of these labels or of this column. The answers are those of a plain
-//! reader in Python.
+//! Each line is bytes in hexadecimal digits. The program writes the labels, the keys and the columns that they say,
+//! and the bytes of the keys again; or how many bytes are left from the damaged item on. A line `labels` gives
+//! labels, and a line `column` a name and values; the program writes the bytes of these labels or of this column. The
+//! answers are those of a plain reader in Python.
 #![tactic(auto)]
 
 mod hex_tests;
