@@ -1,11 +1,17 @@
 //! The columns of rows.
 
-use row_columns::{column_names, column_values, row_keys};
+use row_columns::{Key, column_names, column_values, numbered_row, row_keys};
 use std::alloc::{AllocError, Global};
 use std::fmt::Write;
-use vl_row::{FieldList, Numbered, Row};
+use vl_row::{FieldList, Numbered, Row, Text};
 
 pub fn answer(alloc: Global, line: &str) -> Result<String, AllocError> {
+    if let Some(text) = line.strip_prefix("row ") {
+        return match row_of(alloc, text)? {
+            Some(numbered) => again_text(alloc, &numbered),
+            None => format!(in alloc; "no row"),
+        };
+    }
     let mut rows = Vec::new(alloc);
     for text in line.split(';') {
         match row_of(alloc, text)? {
@@ -17,11 +23,18 @@ pub fn answer(alloc: Global, line: &str) -> Result<String, AllocError> {
 }
 
 fn row_of(alloc: Global, text: &str) -> Result<Option<Numbered>, AllocError> {
-    let (key, fields) = text.split_once('|').unwrap_or((text, ""));
+    let (key, rest) = text.split_once('|').unwrap_or((text, ""));
+    let (fields, labels) = rest.split_once('|').unwrap_or((rest, ""));
     let (time, rest) = key.split_once(' ').unwrap_or((key, ""));
     let (batch, place) = rest.split_once(' ').unwrap_or((rest, ""));
+    let names = names_of(alloc, labels)?;
     let fields = fields_of(alloc, fields)?;
-    match Row::try_new(alloc, time.parse::<i64>().unwrap_or(0), &[], fields) {
+    match Row::try_new(
+        alloc,
+        time.parse::<i64>().unwrap_or(0),
+        names.as_slice(),
+        fields,
+    ) {
         Ok(row) => Ok(Some(Numbered {
             batch: batch.parse::<u64>().unwrap_or(0),
             place: place.parse::<u32>().unwrap_or(0),
@@ -40,6 +53,37 @@ fn fields_of(alloc: Global, text: &str) -> Result<FieldList, AllocError> {
         }
     }
     Ok(fields)
+}
+
+fn names_of(alloc: Global, text: &str) -> Result<Vec<Text>, AllocError> {
+    let mut names = Vec::new(alloc);
+    for name in text.split(',') {
+        names.push(Text::try_of(alloc, name)?)?;
+    }
+    Ok(names)
+}
+
+/// The row that is made again of the stream, the key and the fields of a row.
+fn again_text(alloc: Global, numbered: &Numbered) -> Result<String, AllocError> {
+    let again = again(alloc, numbered)?;
+    let mut text = format!(in alloc; "{} {} {}", again.row.time(), again.batch, again.place)?;
+    for label in again.row.stream().as_slice() {
+        let _ = write!(text, " {{{}={}}}", label.name(), label.value());
+    }
+    for field in again.row.fields().as_slice() {
+        let _ = write!(text, " {}={}", field.name(), field.value());
+    }
+    Ok(text)
+}
+
+fn again(alloc: Global, numbered: &Numbered) -> Result<Numbered, AllocError> {
+    let fields = numbered.row.fields().try_copy(alloc)?;
+    let key = Key {
+        time: numbered.row.time(),
+        batch: numbered.batch,
+        place: numbered.place,
+    };
+    numbered_row(alloc, numbered.row.stream(), key, fields)
 }
 
 fn columns_text(alloc: Global, rows: &[Numbered]) -> Result<String, AllocError> {
