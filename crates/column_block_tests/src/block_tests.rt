@@ -4,6 +4,8 @@ ghost use Rattle.row_columns.specs.Columns.{names_of};
 
 use crate::hex_tests::{bytes_of, push_digits};
 use crate::plain_tests::plain_text;
+use crate::way_tests::{damaged_at, head_text, plainly, quick_text, way_text};
+use column_block::ways::by_rows;
 use column_block::{Block, BlockFault, Head, Open, Steps, Value, is_block};
 use std::alloc::{AllocError, Global};
 use std::fmt::Write;
@@ -17,6 +19,25 @@ pub fn answer(alloc: Global, line: &str) -> Result<String, AllocError> {
     if let Some(digits) = line.strip_prefix("= ") {
         let bytes = bytes_of(alloc, digits)?;
         return read_text(alloc, bytes.as_slice());
+    }
+    if let Some(digits) = line.strip_prefix("quick= ") {
+        let bytes = bytes_of(alloc, digits)?;
+        return quick_text(alloc, bytes.as_slice());
+    }
+    if let Some(sizes) = line.strip_prefix("quick-long ") {
+        return long_text(alloc, sizes);
+    }
+    if let Some(text) = line.strip_prefix("quick ") {
+        return match rows_of(alloc, text)? {
+            Some(rows) => way_text(alloc, rows.as_slice()),
+            None => format!(in alloc; "no row"),
+        };
+    }
+    if let Some(text) = line.strip_prefix("head ") {
+        return match rows_of(alloc, text)? {
+            Some(rows) => head_text(alloc, rows.as_slice()),
+            None => format!(in alloc; "no row"),
+        };
     }
     if let Some(sizes) = line.strip_prefix("made ") {
         return made_text(alloc, sizes);
@@ -97,12 +118,33 @@ fn rows_text(alloc: Global, rows: &[Numbered]) -> Result<String, AllocError> {
     Ok(text)
 }
 
-/// What the block of these bytes says, or where they are damaged.
+/// What the block of these bytes says, or where they are damaged. The plain way of reading answers the same.
 fn read_text(alloc: Global, bytes: &[u8]) -> Result<String, AllocError> {
-    match Block::from_bytes(alloc, bytes) {
-        Ok(block) => block_text(alloc, &block),
-        Err(BlockFault::Damaged { at }) => format!(in alloc; "damaged at {at}"),
-        Err(BlockFault::Memory) => Err(AllocError),
+    let mut text = match Block::from_bytes(alloc, bytes) {
+        Ok(block) => block_text(alloc, &block)?,
+        Err(BlockFault::Damaged { at }) => damaged_at(alloc, at)?,
+        Err(BlockFault::Memory) => return Err(AllocError),
+    };
+    if text != plainly(alloc, bytes)? {
+        text.push_str(" unlike the plain way")?;
+    }
+    Ok(text)
+}
+
+/// The way of reading two rows with a value of one byte each, and each with a value of so many bytes more.
+fn long_text(alloc: Global, sizes: &str) -> Result<String, AllocError> {
+    let (one, other) = sizes.split_once(' ').unwrap_or((sizes, ""));
+    let mut line = format!(in alloc; "0 1 0||full=x,a=")?;
+    for _ in 0..one.parse::<u32>().unwrap_or(0) {
+        line.push('y')?;
+    }
+    line.push_str(";0 1 1||full=x,b=")?;
+    for _ in 0..other.parse::<u32>().unwrap_or(0) {
+        line.push('y')?;
+    }
+    match rows_of(alloc, line.as_str())? {
+        Some(rows) => way_text(alloc, rows.as_slice()),
+        None => format!(in alloc; "no row"),
     }
 }
 
@@ -139,7 +181,8 @@ fn large_text(alloc: Global, rows: &[Numbered]) -> Result<String, AllocError> {
     }
     let block = Block::try_of(alloc, rows)?;
     let bytes = block.to_bytes(alloc)?;
-    let again = Block::from_bytes(alloc, bytes.as_slice()).is_ok();
+    let again = Block::from_bytes(alloc, bytes.as_slice()).is_ok()
+        && by_rows(alloc, bytes.as_slice()).is_ok();
     let cut = match bytes.as_slice() {
         [front @ .., _] => read_text(alloc, front)?,
         [] => String::new(alloc),
@@ -188,7 +231,7 @@ fn made_rows(alloc: Global, rows: u16, len: u16) -> Result<Vec<Numbered>, AllocE
     Ok(numbered)
 }
 
-fn block_text(alloc: Global, block: &Block) -> Result<String, AllocError> {
+pub(crate) fn block_text(alloc: Global, block: &Block) -> Result<String, AllocError> {
     let mut text = String::new(alloc);
     let mut steps: Steps<Tests> = Steps::new();
     let _ = block.open(&mut steps);
