@@ -262,11 +262,8 @@ fn see_sums(alloc: Global, draws: &mut Draws, seen: &mut Seen) -> Result<bool, A
     let mut some = false;
     for _ in 0..SUMS {
         let keys = [draws.one_of(NAMES), draws.one_of(NAMES)];
-        let keys = if draws.below(2) == 1 {
-            &keys[..1]
-        } else {
-            &keys[..]
-        };
+        let count = if draws.below(2) == 1 { 1 } else { 2 };
+        let keys = &keys[..count];
         let fields = [
             draws.one_of(NAMES),
             draws.one_of(NAMES),

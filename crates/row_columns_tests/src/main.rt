@@ -1,8 +1,9 @@
 //! Tests of `row_columns`.
 //!
 //! A line is rows, with a semicolon between them: the time, the batch and the place, and then the fields. The program
-//! writes the keys, and each name with the values of the rows. A line `row` is one row, behind whose fields the names of
-//! its labels stand; the program makes it again of its stream, its key and its fields, and writes it. The answers are those of a plain program in Python.
+//! writes the keys, and each name with the values of the rows. A line `row` is one row, behind whose fields the names
+//! of its labels stand; the program makes it again of its stream, its key and its fields, and writes it. The answers
+//! are those of a plain program in Python.
 #![tactic(auto)]
 
 mod row_tests;
