@@ -84,11 +84,9 @@ fn put_value<'a>(
         ≡ insert_key bytes_cmp (map (λ t. t.now) (keys set.old)) value.now) }
     ensures recent { OnOk result (list_all (is_listed (map (λ t. t.now) (keys set.new))) recent.new ≡ true) }
 {
-    if recent.has(value) {
-        return Ok(());
+    if recent.insert(value) {
+        set.insert(value)?;
     }
-    set.insert(value)?;
-    recent.put(value);
     Ok(())
 }
 

@@ -1,6 +1,6 @@
 //! Texts that were met lately.
 
-ghost use Rattle.std.specs.Prelude.{◌≡◌, ◌+◌, ◌<◌, ◌≤◌, Bool, IfOk, IsTrue, List, bytes_eq, length, true, ℕ};
+ghost use Rattle.std.specs.Prelude.{◌≡◌, ◌+◌, ◌<◌, ◌≤◌, Bool, IfOk, List, bytes_eq, false, length, true, ℕ};
 ghost use Rattle.std.specs.List.{list_all, list_any};
 
 use std::alloc::{AllocError, Global};
@@ -37,22 +37,21 @@ impl<'a> Recent<'a> {
         Ok(Recent { slots })
     }
 
-    /// Whether the slot of the text has it. Then it is remembered, and where it is in each slot, that is so.
-    pub fn has(&self, text: &str) -> bool
-        ensures there { IsTrue result → list_any (bytes_eq text.now) self.now ≡ true }
-        ensures each { list_all (bytes_eq text.now) self.now ≡ true → IsTrue result }
-    {
-        self.slots[slot_of(text)] == text
-    }
-
-    /// Remembers the text. What holds of all that were remembered, and of this one, holds of all that are.
-    pub fn put(&mut self, text: &'a str)
+    /// Remembers the text, and says whether its slot had another. Where each slot had it, that is not so. What holds of
+    /// all that were remembered, and of this one, holds of all that are.
+    pub fn insert(&mut self, text: &'a str) -> bool
+        ensures had { result ≡ false → list_any (bytes_eq text.now) self.old ≡ true }
+        ensures each { list_all (bytes_eq text.now) self.old ≡ true → result ≡ false }
         ensures there { list_any (bytes_eq text.now) self.new ≡ true }
         ensures kept { (p : List ℕ → Bool) → list_all p self.old ≡ true → p text.now ≡ true
             → list_all p self.new ≡ true }
     {
         let slot = slot_of(text);
+        if self.slots[slot] == text {
+            return false;
+        }
         self.slots[slot] = text;
+        true
     }
 }
 
@@ -70,13 +69,23 @@ pub(crate) fn slot_of(text: &str) -> usize
     (mixed >> 40) as usize % SLOTS
 }
 
-/// A number for fewer than eight bytes.
+/// A number for fewer than eight bytes: of the first four and the last four, or of the first, middle and last.
 fn short_number(bytes: &[u8]) -> u64 {
-    let mut number: u64 = 0;
-    for byte in bytes {
-        number = (number << 8) | *byte as u64;
+    let len = bytes.len();
+    if len >= 4 {
+        (four_at(bytes, 0) as u64) << 32 | four_at(bytes, len - 4) as u64
+    } else if len > 0 {
+        (bytes[0] as u64) << 16 | (bytes[len / 2] as u64) << 8 | bytes[len - 1] as u64
+    } else {
+        0
     }
-    number
+}
+
+/// The four bytes at this place, as a number.
+fn four_at(bytes: &[u8], at: usize) -> u32
+    requires { at + 4 ≤ length bytes.now }
+{
+    u32::from_le_bytes([bytes[at], bytes[at + 1], bytes[at + 2], bytes[at + 3]])
 }
 
 /// The eight bytes at this place, as a number.

@@ -85,14 +85,13 @@ fn push_lengths(answer: &mut String, lengths: Lengths) {
     );
 }
 
-/// Of each text whether it was remembered. In the beginning the first is.
+/// Of each text whether it was new to its slot. In the beginning the first is in each.
 pub fn recent_text(alloc: Global, list: &str) -> Result<String, AllocError> {
     let (first, _) = list.split_once(',').unwrap_or((list, ""));
     let mut recent = Recent::new(alloc, first)?;
     let mut answer = String::new(alloc);
     for text in list.split(',') {
-        let _ = write!(answer, " {text}:{}", recent.has(text));
-        recent.put(text);
+        let _ = write!(answer, " {text}:{}", recent.insert(text));
     }
     Ok(answer)
 }

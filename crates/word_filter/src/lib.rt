@@ -17,6 +17,9 @@ ghost use Rattle.token_bloom.specs.Filter.{with_word};
 ghost use Rattle.word_filter.specs.Words.{HasWords, LeavesNoneOut, column_words, counted_filter, filter_item};
 ghost use Rattle.word_filter.specs.Words.{filter_of, filter_steps, is_there, put_words, skipped};
 
+mod buckets;
+
+use crate::buckets::in_buckets;
 use block_column::{Recent, ValueColumn};
 use byte_format::{Stop, put_u64s, take_u32, take_u64};
 use std::alloc::{AllocError, Global};
@@ -63,7 +66,8 @@ pub fn filter_law()
 
 /// The words of the values, each once, with their hashes.
 ///
-/// They are sorted, and in no hash table: who chooses the words cannot make this slower than sorting them is.
+/// They are sorted bucket by bucket, and in no hash table: who chooses the words cannot make this slower than sorting
+/// all of them is.
 fn distinct_words<'a>(alloc: Global, values: &[&'a str]) -> Result<Vec<(u64, &'a str)>, AllocError>
     ensures words { IfOk result (λ words. distinct (map (λ w. w.1.now) words.items)
         ≡ column_words (map (λ t. t.now) values.now)) }
@@ -72,9 +76,25 @@ fn distinct_words<'a>(alloc: Global, values: &[&'a str]) -> Result<Vec<(u64, &'a
     ensures once { IfOk result (λ words. IsDistinct bytes_eq (map (λ w. w.1.now) words.items)) }
     ensures hashes { IfOk result (λ words. All (λ w. w.0 ≡ fnv w.1.now) words.items) }
 {
-    let mut words = words_of(alloc, values)?;
-    keep_once(&mut words);
-    Ok(words)
+    let words = words_of(alloc, values)?;
+    let once = once_each(alloc, words.as_slice())?;
+    Ok(once)
+}
+
+/// The words, each once.
+fn once_each<'a>(alloc: Global, words: &[(u64, &'a str)]) -> Result<Vec<(u64, &'a str)>, AllocError>
+    requires { All (λ w. w.0 ≡ fnv w.1.now) words.now }
+    ensures same { IfOk result (λ once. HaveSameTexts (map (λ w. w.1.now) once.items) (map (λ w. w.1.now) words.now)) }
+    ensures once { IfOk result (λ once. IsDistinct bytes_eq (map (λ w. w.1.now) once.items)) }
+    ensures hashes { IfOk result (λ once. All (λ w. w.0 ≡ fnv w.1.now) once.items) }
+{
+    let mut buckets = in_buckets(alloc, words)?;
+    let mut once = Vec::with_capacity(alloc, words.len())?;
+    while let Some(mut bucket) = buckets.pop() {
+        keep_once(&mut bucket);
+        once.extend_from_slice(bucket.as_slice())?;
+    }
+    Ok(once)
 }
 
 /// Sorts words, and drops those that are there already.
@@ -139,12 +159,10 @@ fn put_word<'a>(
     ensures recent { OnOk result (list_all (is_there (map (λ w. w.1.now) all.new.items)) recent.new ≡ true) }
     ensures hashes { OnOk result (All (λ w. w.0 ≡ fnv w.1.now) all.new.items) }
 {
-    if recent.has(word) {
-        return Ok(());
+    if recent.insert(word) {
+        make_room(all)?;
+        all.push((hash_of(word.as_bytes()), word))?;
     }
-    make_room(all)?;
-    all.push((hash_of(word.as_bytes()), word))?;
-    recent.put(word);
     Ok(())
 }
 

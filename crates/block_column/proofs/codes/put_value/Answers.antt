@@ -10,20 +10,27 @@ use Rattle.block_column.proofs.codes.put_value.Goals as goal
 abbrev now_of : Bor (List ℕ) → List ℕ
 now_of t = t.now
 
-pub returns-then-has-clause-values : goal.returns-then-has-clause-values
-returns-then-has-clause-values c =
+pub returns-else-insert-clause-values : goal.returns-else-insert-clause-values
+returns-else-insert-clause-values c =
     sym (put-again c.args.value.now (map now_of c.args.set.now.keys) c.requires.rising (listed-one (map now_of
-    c.args.set.now.keys) c.args.value.now c.args.recent.now c.requires.recent (c.has.ensures.there c.if-has.true)))
+    c.args.set.now.keys) c.args.value.now c.args.recent.now c.requires.recent (c.insert.ensures.had c.if-insert.false)))
 
-pub returns-clause-values : goal.returns-clause-values
-returns-clause-values c =
+pub returns-else-insert-clause-recent : goal.returns-else-insert-clause-recent
+returns-else-insert-clause-recent c =
+    c.insert.ensures.kept (is_listed (map now_of c.args.set.now.keys)) c.requires.recent
+    (listed-one (map now_of c.args.set.now.keys) c.args.value.now c.args.recent.now c.requires.recent
+    (c.insert.ensures.had c.if-insert.false))
+
+pub returns-in_ok-insert-clause-values : goal.returns-in_ok-insert-clause-values
+returns-in_ok-insert-clause-values c =
     ap (map now_of) c.in_ok-insert.ensures.keys ∙ map-put now_of c.args.set.now.keys c.args.value
 
-pub returns-clause-recent : goal.returns-clause-recent
-returns-clause-recent c =
+pub returns-in_ok-insert-clause-recent : goal.returns-in_ok-insert-clause-recent
+returns-in_ok-insert-clause-recent c =
     let texts : List (List ℕ) = map now_of c.args.set.now.keys in
     let value : List ℕ = c.args.value.now in
-    let put : map now_of c.insert.new.self.keys ≡ insert_key bytes_cmp (map now_of c.args.set.now.keys) c.args.value.now =
+    let put : map now_of c.insert-then-insert.new.self.keys ≡ insert_key bytes_cmp (map now_of c.args.set.now.keys)
+    c.args.value.now =
     ap (map now_of) c.in_ok-insert.ensures.keys ∙ map-put now_of c.args.set.now.keys c.args.value in
-    rw put (c.put.ensures.kept (is_listed (insert_key bytes_cmp texts value)) (listed-kept (map now_of c.args.set.now.keys)
+    rw put (c.insert.ensures.kept (is_listed (insert_key bytes_cmp texts value)) (listed-kept (map now_of c.args.set.now.keys)
     c.args.recent.now c.args.value.now c.requires.recent) (put-has c.args.value.now (map now_of c.args.set.now.keys)))
