@@ -6,3 +6,5 @@ pub mod There
 pub mod Sets
 pub mod Sorted
 pub mod InBuckets
+pub mod Parted
+pub mod Alike

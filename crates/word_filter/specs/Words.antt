@@ -1,9 +1,9 @@
 -- The words of a column's values, and the filter of them.
-use Rattle.std.specs.Prelude.{ℕ, Bool, ◌||◌, IsTrue, List, ◌++◌, bytes_eq, length, map, Result, Ok}
+use Rattle.std.specs.Prelude.{◌≡◌, ℕ, Bool, true, ◌||◌, IsTrue, List, ◌++◌, bytes_eq, length, map, Result, Ok}
 use Rattle.std.specs.BTreeSet.{insert_key}
 use Rattle.std.specs.Int.{w32, w64, to_le_bytes}
 use Rattle.std.specs.List.{All, flat_map, fold, list_any, slice_range}
-use Rattle.block_column.specs.Kinds.{distinct}
+use Rattle.block_column.specs.Kinds.{distinct, is_listed}
 use Rattle.byte_format.specs.Format.{Format, value, followed, many, front, ◌>>=◌}
 use Rattle.byte_format.specs.Items.{number}
 use Rattle.log_model.specs.Field.{bytes_cmp, is_empty}
@@ -29,6 +29,10 @@ HasWords filter text = All (λ word. IsTrue (may_have filter word)) (words_in te
 -- The filter of some values leaves out no word of them.
 abbrev pub LeavesNoneOut : Type 0
 LeavesNoneOut = (values : List (List ℕ)) → All (HasWords (filter_of values)) values
+
+-- These words are among the texts.
+abbrev pub AreAmong : List (List ℕ) → List (List ℕ) → Type 0
+AreAmong texts words = (word : List ℕ) → is_listed words word ≡ true → is_listed texts word ≡ true
 
 -- some texts in order, and the words of one more value
 abbrev pub put_words : List (List ℕ) → List ℕ → List (List ℕ)

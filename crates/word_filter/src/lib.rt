@@ -14,12 +14,14 @@ ghost use Rattle.byte_format.specs.Items.{number};
 ghost use Rattle.log_model.specs.Field.{bytes_cmp};
 ghost use Rattle.token_bloom.specs.Bits.{fnv};
 ghost use Rattle.token_bloom.specs.Filter.{with_word};
-ghost use Rattle.word_filter.specs.Words.{HasWords, LeavesNoneOut, column_words, counted_filter, filter_item};
-ghost use Rattle.word_filter.specs.Words.{filter_of, filter_steps, is_there, put_words, skipped};
+ghost use Rattle.word_filter.specs.Words.{AreAmong, HasWords, LeavesNoneOut, column_words, counted_filter, filter_item};
+ghost use Rattle.word_filter.specs.Words.{filter_of, filter_steps, is_there, put_words, skipped, words_in};
 
 mod buckets;
+mod fresh;
 
 use crate::buckets::in_buckets;
+use crate::fresh::fresh_part;
 use block_column::{Recent, ValueColumn};
 use byte_format::{Stop, put_u64s, take_u32, take_u64};
 use std::alloc::{AllocError, Global};
@@ -118,13 +120,35 @@ fn words_of<'a>(alloc: Global, values: &[&'a str]) -> Result<Vec<(u64, &'a str)>
 {
     let mut words = Vec::with_capacity(alloc, values.len().min(MOST_RESERVED))?;
     let mut recent = Recent::new(alloc, "")?;
-    for value in values {
-        put_words(&mut words, &mut recent, value)?;
+    for i in 0..values.len() {
+        let last = if i > 0 { values[i - 1] } else { "" };
+        put_value(&mut words, &mut recent, last, values[i])?;
     }
     Ok(words)
 }
 
-/// Puts the words of one value to the others.
+/// Puts the words of one value to the others, among which are those of the last value.
+fn put_value<'a>(
+    all: &mut Vec<(u64, &'a str)>,
+    recent: &mut Recent<'a>,
+    last: &str,
+    value: &'a str,
+) -> Result<(), AllocError>
+    requires last { AreAmong (map (λ w. w.1.now) all.old.items) (words_in last.now) }
+    requires recent { list_all (is_there (map (λ w. w.1.now) all.old.items)) recent.old ≡ true }
+    requires hashes { All (λ w. w.0 ≡ fnv w.1.now) all.old.items }
+    ensures words { OnOk result (distinct (map (λ w. w.1.now) all.new.items)
+        ≡ put_words (distinct (map (λ w. w.1.now) all.old.items)) value.now) }
+    ensures few { OnOk result (length (distinct (map (λ w. w.1.now) all.new.items))
+        ≤ length (distinct (map (λ w. w.1.now) all.old.items)) + length value.now) }
+    ensures recent { OnOk result (list_all (is_there (map (λ w. w.1.now) all.new.items)) recent.new ≡ true) }
+    ensures hashes { OnOk result (All (λ w. w.0 ≡ fnv w.1.now) all.new.items) }
+{
+    put_words(all, recent, fresh_part(last, value))?;
+    Ok(())
+}
+
+/// Puts the words of a text to the others.
 fn put_words<'a>(
     all: &mut Vec<(u64, &'a str)>,
     recent: &mut Recent<'a>,

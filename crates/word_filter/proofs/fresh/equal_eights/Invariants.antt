@@ -1,0 +1,11 @@
+use Rattle.std.proofs.Common.{length, ◌-◌, ◌≡◌, ◌≤◌, drop}
+use Rattle.word_filter.proofs.fresh.equal_eights.Given as goal
+
+abbrev pub invariant-loop-equal : goal.invariant-loop-equal
+invariant-loop-equal l = record {
+  within : l.equal ≤ l.most;
+  same : drop (length l.last - l.equal) l.last ≡ drop (length l.text - l.equal) l.text;
+}
+
+abbrev pub decreases-loop-equal : goal.decreases-loop-equal
+decreases-loop-equal l = l.most - l.equal
