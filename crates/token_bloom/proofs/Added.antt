@@ -12,7 +12,7 @@ use Rattle.std.proofs.Math.ListN.{length-set}
 use Rattle.std.proofs.lemmas.Nat.Bits.{bit_at_set_same, bit_at_set_other}
 use Rattle.token_bloom.specs.Bits.{has_bit, with_bit, has_bits, with_bits, place, places, bit_count, fnv}
 use Rattle.token_bloom.specs.Filter.{may_have, with_hash, with_word}
-use Rattle.token_bloom.specs.Walk.{IsOfFilter}
+use Rattle.token_bloom.specs.Modulus.{IsOfFilter}
 use Rattle.token_bloom.specs.declared.modulus.Modulus.{Modulus}
 
 row-in : (b n : ℕ) → b < 64 * n → b / 64 < n

@@ -1,6 +1,5 @@
 pub mod Places
 pub mod Added
 pub mod Remainders
-pub mod Steps
 pub mod Numbers
 pub mod Commutes

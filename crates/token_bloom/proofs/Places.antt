@@ -1,53 +1,33 @@
--- Places without a division.
-use Rattle.std.proofs.Common.{◌≡◌, ℕ, Bool, true, false, inl, inr, ◌+◌, ◌*◌, ◌/◌, ◌%◌, ◌<◌, ◌-◌, ◌^◌, sym}
-use Rattle.std.proofs.Common.{ap, ◌∙◌, arith}
-use Rattle.std.specs.Bool.{FalseIff}
-use Rattle.std.proofs.lemmas.Bool.{cases_lt}
-use Rattle.std.proofs.lemmas.Nat.{mod-mul-add, div-add-mod', mod_below}
-use Rattle.std.proofs.Math.Nat.{add-mul, add-mul-mod_self_right}
+-- The six places of a word, one behind another.
+use Rattle.std.proofs.Common.{◌≡◌, ℕ, zero, suc, ◌+◌, ◌*◌, ◌%◌, ◌^◌, ◌<◌, ◌≤◌, true, false, List, ◌∷◌}
+use Rattle.std.proofs.Common.{drop, refl, ap, arith}
+use Rattle.std.proofs.lemmas.List.{drop_all}
+use Rattle.token_bloom.specs.Bits.{has_bit, has_bits, place, places, stride, with_bit, with_bits}
 
-pub reduced-is : (n y q a : ℕ) → y ≡ a * n + q → q < n → q ≡ y % n
-reduced-is n y q a e lt = sym (mod-mul-add a n q lt) ∙ ap (λ (m : ℕ). m % n) (sym e)
+next_place : (bits hash i : ℕ) → i < 6
+    → drop i (places bits hash) ≡ place bits hash i ∷ drop (i + 1) (places bits hash)
+next_place bits hash zero lt = refl
+next_place bits hash (suc zero) lt = refl
+next_place bits hash (suc (suc zero)) lt = refl
+next_place bits hash (suc (suc (suc zero))) lt = refl
+next_place bits hash (suc (suc (suc (suc zero)))) lt = refl
+next_place bits hash (suc (suc (suc (suc (suc zero))))) lt = refl
+next_place bits hash (suc (suc (suc (suc (suc (suc i)))))) lt = absurd (omega (arith, lt))
 
-same : (n x y a b : ℕ) → x + a * n ≡ y + b * n → x % n ≡ y % n
-same n x y a b e = sym (add-mul-mod_self_right x a n) ∙ ap (λ (m : ℕ). m % n) e ∙ add-mul-mod_self_right y b n
+-- The place at hand is what the sum of the hash and of i strides leaves.
+module _ (ws : List ℕ) (bits hash i sum : ℕ) (more : i < 6) (at : sum ≡ (hash + i * stride hash) % 2 ^ 64) where
+  pub next_set : has_bit ws (sum % bits) ≡ true
+      → has_bits ws (drop i (places bits hash)) ≡ has_bits ws (drop (i + 1) (places bits hash))
+  next_set set = rw (next_place bits hash i more, ← at, set) refl
 
-pub place-plain : (n s t : ℕ) → (s % n + t % n) % n ≡ (s + t) % n
-place-plain n s t = same n (s % n + t % n) (s + t) (s / n + t / n) 0 (omega
-    (arith, div-add-mod' s n, div-add-mod' t n, add-mul (s / n) (t / n) n))
+  pub next_clear : has_bit ws (sum % bits) ≡ false → has_bits ws (drop i (places bits hash)) ≡ false
+  next_clear clear = rw (next_place bits hash i more, ← at, clear) refl
 
-pub place-over : (n s t y w : ℕ) → 0 < n → y + w ≡ s + t → (s % n + t % n + (n - w % n)) % n ≡ y % n
-place-over n s t y w lt over =
-    same n (s % n + t % n + (n - w % n)) y (s / n + t / n) (w / n + 1)
-    (omega (
-      arith,
-      over,
-      mod_below w n lt,
-      div-add-mod' s n,
-      div-add-mod' t n,
-      div-add-mod' w n,
-      add-mul (s / n)
-          (t / n) n,
-      add-mul (w / n) 1 n,
-    ))
+  pub next_written : with_bits ws (drop i (places bits hash))
+      ≡ with_bits (with_bit ws (sum % bits)) (drop (i + 1) (places bits hash))
+  next_written = rw at (ap (with_bits ws) (next_place bits hash i more))
 
-pub overflowed : {P : Type 0} (b : Bool) → b ≡ true → FalseIff b P → P → ⊥
-overflowed true e h p = h p
-overflowed false e h p = absurd cc
+pub none_left : (ws : List ℕ) (bits hash i : ℕ) → 6 ≤ i → has_bits ws (drop i (places bits hash)) ≡ true
+none_left ws bits hash i past = ap (has_bits ws) (drop_all i (places bits hash) past)
 
-pub not_overflowed : {P : Type 0} (b : Bool) → b ≡ false → FalseIff b P → P
-not_overflowed true e h = absurd cc
-not_overflowed false e h = h
-
-pub wrapped : (s t y : ℕ) → s < 2 ^ 64 → t < 2 ^ 64 → (s + t < 2 ^ 64 → ⊥) → y ≡ (s + t) % 2 ^ 64 → y + 2 ^ 64 ≡ s + t
-wrapped s t y a b past e =
-    elim (cases_lt (s + t) (2 ^ 64)) [
-      | inl lt ↦ absurd (past lt)
-      | inr le ↦ omega (arith, e)
-    ]
-
-pub unwrapped : (s t y : ℕ) → s + t < 2 ^ 64 → y ≡ (s + t) % 2 ^ 64 → y ≡ s + t
-unwrapped s t y lt e = omega (arith, e)
-
-pub wrap-is : (n : ℕ) → 0 < n → n < 2 ^ 64 → (2 ^ 64 - n) % n ≡ 2 ^ 64 % n
-wrap-is n lt le = same n (2 ^ 64 - n) (2 ^ 64) 1 0 (omega arith)
+pub ruleset has_steps = (next_set, next_clear, none_left)

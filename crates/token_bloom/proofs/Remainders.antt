@@ -1,8 +1,10 @@
 -- How often a number of bits goes into a hash, found by a multiplication to within one.
-use Rattle.std.proofs.Common.{◌≡◌, ℕ, ◌+◌, ◌*◌, ◌/◌, ◌%◌, ◌-◌, ◌<◌, ◌≤◌, ◌^◌, ap, ◌∙◌, arith}
+use Rattle.std.proofs.Common.{◌≡◌, ℕ, ◌+◌, ◌*◌, ◌/◌, ◌%◌, ◌-◌, ◌<◌, ◌≤◌, ◌^◌, ap, sym, ◌∙◌, arith}
 use Rattle.std.proofs.Math.Nat.{add-mul, mul-add, mul_assoc, mul_right_comm, div-mul-le_self, lt-div-mul-add}
-use Rattle.std.proofs.lemmas.Nat.{mul-le}
-use Rattle.token_bloom.proofs.Places.{reduced-is}
+use Rattle.std.proofs.lemmas.Nat.{mod-mul-add, mul-le}
+
+reduced-is : (n y q a : ℕ) → y ≡ a * n + q → q < n → q ≡ y % n
+reduced-is n y q a e lt = sym (mod-mul-add a n q lt) ∙ ap (λ (m : ℕ). m % n) (sym e)
 
 -- with products as numbers of their own
 no_more : (x a y h : ℕ) → a ≤ y → a ≡ x * 2 ^ 64 → y ≤ h * 2 ^ 64 → x ≤ h

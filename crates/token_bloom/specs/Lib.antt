@@ -1,3 +1,3 @@
 pub mod Bits
-pub mod Walk
+pub mod Modulus
 pub mod Filter

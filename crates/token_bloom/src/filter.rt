@@ -3,9 +3,9 @@
 ghost use Rattle.std.specs.Prelude.{◌≡◌, ◌<◌, ◌≤◌, ◌^◌, IfOk, IfErr, IsTrue, List, ℕ, false, length};
 ghost use Rattle.token_bloom.specs.Filter.{empty_filter, filter_bytes, is_length, may_have, with_hash, with_word};
 
+use crate::bits::{has_hash, set_hash};
 use crate::hash::hash_of;
 use crate::modulus::Modulus;
-use crate::walk::{has_hash, set_hash};
 use byte_format::{Stop, put_u64s, take_u64s};
 use std::alloc::{AllocError, Global};
 use std::marker::Model;
@@ -22,7 +22,7 @@ pub struct Bloom {
 
 impl Model for Bloom {
     ghost use Rattle.std.specs.Prelude.{List, ℕ};
-    ghost use Rattle.token_bloom.specs.Walk.{IsOfFilter};
+    ghost use Rattle.token_bloom.specs.Modulus.{IsOfFilter};
 
     ghost Value = { List ℕ };
 

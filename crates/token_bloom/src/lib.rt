@@ -1,10 +1,10 @@
 //! Bloom filters over the words of a column. A filter says of a word that it is not there, or that it may be.
 #![tactic(auto)]
 
+mod bits;
 mod filter;
 mod hash;
 mod modulus;
-mod walk;
 
 pub use filter::{Bloom, BloomFault};
 pub use hash::hash_of;

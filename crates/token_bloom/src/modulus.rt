@@ -1,29 +1,25 @@
 //! Remainders modulo the number of bits, by a multiplication in place of a division.
 
-ghost use Rattle.std.specs.Prelude.{◌≡◌, ◌%◌, ◌^◌, ◌<◌, ◌≤◌};
-ghost use Rattle.token_bloom.specs.Walk.{IsModulus};
+ghost use Rattle.std.specs.Prelude.{◌≡◌, ◌%◌, ◌<◌};
+ghost use Rattle.token_bloom.specs.Modulus.{IsModulus};
 
 /// A number of bits, and what remainders modulo it are taken with.
 #[derive(Clone, Copy)]
 pub(crate) struct Modulus {
-    pub(crate) bits: u64,
+    bits: u64,
     // how often the bits go into 2^64 - 1
     inverse: u64,
-    // what 2^64 leaves
-    pub(crate) wrap: u64,
 }
 
 impl Modulus {
     pub(crate) fn of(bits: u64) -> Modulus
-        requires some { 0 < bits }
-        requires room { bits ≤ 2 ^ 36 }
+        requires { 0 < bits }
         ensures modulus { IsModulus result }
         ensures bits { result.bits ≡ bits }
     {
         Modulus {
             bits,
             inverse: u64::MAX / bits,
-            wrap: bits.wrapping_neg() % bits,
         }
     }
 
@@ -34,6 +30,7 @@ impl Modulus {
     {
         let times = ((number as u128 * self.inverse as u128) >> 64) as u64;
         let left = number - times * self.bits;
+        // which one it is cannot be predicted: LLVM makes a conditional move of it, and no branch
         if left < self.bits {
             left
         } else {

@@ -3,7 +3,7 @@ use Rattle.std.proofs.Math.Seq.{take-append_seam}
 use Rattle.std.specs.Prelude.{◌==◌}
 use Rattle.token_bloom.specs.Bits.{bit_count, places}
 use Rattle.token_bloom.specs.Filter.{with_hash}
-use Rattle.token_bloom.specs.Walk.{IsOfFilter}
+use Rattle.token_bloom.specs.Modulus.{IsOfFilter}
 use Rattle.token_bloom.proofs.Added.{IsOfFilter-set, bits-len, hash_filled, some-from_test}
 use Rattle.token_bloom.proofs.filter.Bloom.add_hash.Goals as goal
 

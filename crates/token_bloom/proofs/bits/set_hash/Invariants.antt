@@ -1,0 +1,10 @@
+use Rattle.std.proofs.Common.{◌≡◌, ◌+◌, ◌*◌, ◌%◌, ◌^◌, drop}
+use Rattle.token_bloom.specs.Bits.{with_bits, places, stride}
+use Rattle.token_bloom.proofs.bits.set_hash.Given as goal
+
+abbrev pub invariant-loop : goal.invariant-loop
+invariant-loop l = record {
+  sum : l.sum ≡ (l.hash + l.counter * stride l.hash) % 2 ^ 64;
+  rest : with_bits l.initial.filter (places l.modulus.bits l.hash)
+      ≡ with_bits l.filter (drop l.counter (places l.modulus.bits l.hash));
+}
