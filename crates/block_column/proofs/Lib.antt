@@ -7,3 +7,4 @@ pub mod Within
 pub mod Rising
 pub mod Same
 pub mod Slots
+pub mod KeyLaws

@@ -1,5 +1,5 @@
 -- The four kinds of column, of which the first that fits is used.
-use Rattle.std.specs.Prelude.{ℕ, ℤ, Bool, false, ◌&&◌, not, nat_le, List, [], ◌∷◌, ◌++◌, length, map, fold}
+use Rattle.std.specs.Prelude.{ℕ, ℤ, Bool, false, true, ◌&&◌, not, nat_le, List, [], ◌∷◌, ◌++◌, length, map, fold}
 use Rattle.std.specs.Prelude.{bytes_eq, is_some, if◌then◌else◌, unwrap_or, pos}
 use Rattle.std.specs.List.{flat_map, list_all, list_any, position_or_len}
 use Rattle.std.specs.BTreeSet.{insert_key}
@@ -23,6 +23,12 @@ pub data Kind : Type 0 where
   integers : Kind
   dictionary : Kind
   plain : Kind
+
+abbrev pub is_of_integers : Kind → Bool
+is_of_integers constant = false
+is_of_integers integers = true
+is_of_integers dictionary = false
+is_of_integers plain = false
 
 abbrev pub code_of_kind : Kind → ℕ
 code_of_kind constant = 0

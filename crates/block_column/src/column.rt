@@ -9,12 +9,12 @@ ghost use Rattle.byte_format.specs.Gives.{Gives};
 ghost use Rattle.byte_format.specs.Spelling.{reading};
 ghost use Rattle.col_codec.specs.Answers.{AnswersAs, IsPlaceOf};
 ghost use Rattle.block_column.specs.Body.{body, column, column_spelling, column_writing};
-ghost use Rattle.block_column.specs.Kinds.{body_of, code_of_kind, kind_of};
+ghost use Rattle.block_column.specs.Kinds.{body_of, code_of_kind, is_of_integers, kind_of};
 ghost use Rattle.block_column.specs.Lengths.{HasLengths, are_within};
 ghost use Rattle.block_column.specs.Members.{HaveSameTexts, decimals_of};
 ghost use Rattle.block_column.specs.Values.{value_text};
 
-use crate::cells::{Cells, kind_of, len_of, value_at};
+use crate::cells::{Cells, holds_integers, kind_of, len_of, value_at};
 use crate::found::{Lengths, column_of};
 use crate::kinds::first_kind;
 use crate::members::{decimals_of, members_of};
@@ -78,6 +78,13 @@ impl ValueColumn {
         ensures { slice_get self.now i ≡ Some (value_text result) }
     {
         value_at(&self.cells, i)
+    }
+
+    /// Whether integers are held, so that their decimal texts would have to be made anew.
+    pub fn holds_integers(&self) -> bool
+        ensures { result ≡ is_of_integers (kind_of self.now) }
+    {
+        holds_integers(&self.cells)
     }
 
     /// The decimal texts of the integers, if the column holds integers, and else none.

@@ -2,6 +2,7 @@
 
 ghost use Rattle.std.specs.Prelude.{◌≡◌, ◌+◌, ◌<◌, ◌≤◌, Bool, IfOk, List, bytes_eq, false, length, true, ℕ};
 ghost use Rattle.std.specs.List.{list_all, list_any};
+ghost use Rattle.block_column.specs.Keys.{AreBytes, IsKeyed, eight_at, four_at, key_of, key_of_few};
 
 use std::alloc::{AllocError, Global};
 use std::marker::Model;
@@ -9,23 +10,33 @@ use std::marker::Model;
 /// How many texts are remembered at most.
 pub(crate) const SLOTS: usize = 512;
 
+/// A text that was put, and its key.
+#[derive(Clone, Copy)]
+struct Slot<'a> {
+    key: u64,
+    text: &'a str,
+}
+
 /// Some of the texts that were put: of those that share a slot, the last. A text that is among them need not be sought
 /// among all.
 ///
 /// A contract sees it as the list of its slots.
 #[derive(Drop)]
 pub struct Recent<'a> {
-    slots: Vec<&'a str>,
+    slots: Vec<Slot<'a>>,
 }
 
 impl<'a> Model for Recent<'a> {
     ghost use Rattle.std.specs.Prelude.{◌≡◌, List, length, map, ℕ};
+    ghost use Rattle.std.specs.List.{All};
+    ghost use Rattle.block_column.specs.Keys.{IsKeyed};
 
     ghost Value = { List (List ℕ) };
 
-    ghost view = { λ r. map (λ t. t.now) r.slots.items };
+    ghost view = { λ r. map (λ s. s.text.now) r.slots.items };
 
-    ghost invariant = { λ r. length r.slots.items ≡ 512 };
+    ghost invariant = { λ r.
+        (length r.slots.items ≡ 512) × All (λ s. IsKeyed s.key s.text.now) r.slots.items };
 }
 
 impl<'a> Recent<'a> {
@@ -33,7 +44,8 @@ impl<'a> Recent<'a> {
     pub fn new(alloc: Global, text: &'a str) -> Result<Recent<'a>, AllocError>
         ensures { (p : List ℕ → Bool) → p text.now ≡ true → IfOk result (λ recent. list_all p recent ≡ true) }
     {
-        let slots = vec![in alloc; text; SLOTS]?;
+        let key = key_of(text.as_bytes());
+        let slots = vec![in alloc; Slot { key, text }; SLOTS]?;
         Ok(Recent { slots })
     }
 
@@ -46,36 +58,71 @@ impl<'a> Recent<'a> {
         ensures kept { (p : List ℕ → Bool) → list_all p self.old ≡ true → p text.now ≡ true
             → list_all p self.new ≡ true }
     {
-        let slot = slot_of(text);
-        if self.slots[slot] == text {
+        let key = key_of(text.as_bytes());
+        let slot = Slot { key, text };
+        let place = place_of(key, text.len());
+        if have_same_text(self.slots[place], slot) {
             return false;
         }
-        self.slots[slot] = text;
+        self.slots[place] = slot;
         true
     }
 }
 
-/// The slot of a text. It depends on the length and on the first eight and the last eight bytes.
+fn have_same_text(held: Slot<'_>, slot: Slot<'_>) -> bool
+    requires held { IsKeyed held.key held.text.now }
+    requires slot { IsKeyed slot.key slot.text.now }
+    ensures { result ≡ bytes_eq held.entry.text.now slot.entry.text.now }
+{
+    held.key == slot.key && are_same(held.text.as_bytes(), slot.text.as_bytes())
+}
+
+/// Whether the texts are the same whose keys are equal. The length tells it of short ones.
+fn are_same(held: &[u8], text: &[u8]) -> bool
+    requires key { key_of held.now ≡ key_of text.now }
+    requires held { AreBytes held.now }
+    requires text { AreBytes text.now }
+    ensures { result ≡ bytes_eq held.now text.now }
+{
+    held.len() == text.len() && (text.len() < 8 || held == text)
+}
+
+/// The slot of a text.
 pub(crate) fn slot_of(text: &str) -> usize
     ensures { result < 512 }
 {
-    let bytes = text.as_bytes();
-    let ends = if bytes.len() < 8 {
-        short_number(bytes)
-    } else {
-        eight_at(bytes, 0).rotate_left(29) ^ eight_at(bytes, bytes.len() - 8)
-    };
-    let mixed = (ends ^ bytes.len() as u64).wrapping_mul(0x9e37_79b9_7f4a_7c15);
+    place_of(key_of(text.as_bytes()), text.len())
+}
+
+fn place_of(key: u64, len: usize) -> usize
+    ensures { result < 512 }
+{
+    let mixed = (key ^ len as u64).wrapping_mul(0x9e37_79b9_7f4a_7c15);
     (mixed >> 40) as usize % SLOTS
 }
 
-/// A number for fewer than eight bytes: of the first four and the last four, or of the first, middle and last.
-fn short_number(bytes: &[u8]) -> u64 {
+/// The key of a text. It depends on the first eight and the last eight bytes.
+#[tactic(auto, unfolding(crate::specs::Keys::key_of))]
+fn key_of(bytes: &[u8]) -> u64
+    ensures { result ≡ key_of bytes.now }
+{
     let len = bytes.len();
-    if len >= 4 {
-        (four_at(bytes, 0) as u64) << 32 | four_at(bytes, len - 4) as u64
-    } else if len > 0 {
-        (bytes[0] as u64) << 16 | (bytes[len / 2] as u64) << 8 | bytes[len - 1] as u64
+    if len >= 8 {
+        eight_at(bytes, 0).rotate_left(29) ^ eight_at(bytes, len - 8)
+    } else if len >= 4 {
+        four_at(bytes, 0) as u64 * 0x1_0000_0000 + four_at(bytes, len - 4) as u64
+    } else {
+        key_of_few(bytes)
+    }
+}
+
+fn key_of_few(bytes: &[u8]) -> u64
+    requires { length bytes.now < 4 }
+    ensures { result ≡ key_of_few bytes.now }
+{
+    let len = bytes.len();
+    if len > 0 {
+        bytes[0] as u64 * 65_536 + bytes[len / 2] as u64 * 256 + bytes[len - 1] as u64
     } else {
         0
     }
@@ -84,6 +131,7 @@ fn short_number(bytes: &[u8]) -> u64 {
 /// The four bytes at this place, as a number.
 fn four_at(bytes: &[u8], at: usize) -> u32
     requires { at + 4 ≤ length bytes.now }
+    ensures { result ≡ four_at bytes.now at }
 {
     u32::from_le_bytes([bytes[at], bytes[at + 1], bytes[at + 2], bytes[at + 3]])
 }
@@ -91,6 +139,7 @@ fn four_at(bytes: &[u8], at: usize) -> u32
 /// The eight bytes at this place, as a number.
 fn eight_at(bytes: &[u8], at: usize) -> u64
     requires { at + 8 ≤ length bytes.now }
+    ensures { result ≡ eight_at bytes.now at }
 {
     u64::from_le_bytes([
         bytes[at],
