@@ -7,4 +7,4 @@ pub mod Within
 pub mod Rising
 pub mod Same
 pub mod Slots
-pub mod KeyLaws
+pub mod TagLaws

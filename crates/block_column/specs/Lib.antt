@@ -1,4 +1,4 @@
-pub mod Keys
+pub mod Tags
 pub mod Kinds
 pub mod Cells
 pub mod Body

@@ -2,7 +2,7 @@
 
 ghost use Rattle.std.specs.Prelude.{◌≡◌, ◌+◌, ◌<◌, ◌≤◌, Bool, IfOk, List, bytes_eq, false, length, true, ℕ};
 ghost use Rattle.std.specs.List.{list_all, list_any};
-ghost use Rattle.block_column.specs.Keys.{AreBytes, IsKeyed, eight_at, four_at, key_of, key_of_few};
+ghost use Rattle.block_column.specs.Tags.{AreBytes, IsTagged, eight_at, four_at, tag_of, tag_of_few};
 
 use std::alloc::{AllocError, Global};
 use std::marker::Model;
@@ -10,10 +10,10 @@ use std::marker::Model;
 /// How many texts are remembered at most.
 pub(crate) const SLOTS: usize = 512;
 
-/// A text that was put, and its key.
+/// A text that was put, and its tag.
 #[derive(Clone, Copy)]
 struct Slot<'a> {
-    key: u64,
+    tag: u64,
     text: &'a str,
 }
 
@@ -29,14 +29,14 @@ pub struct Recent<'a> {
 impl<'a> Model for Recent<'a> {
     ghost use Rattle.std.specs.Prelude.{◌≡◌, List, length, map, ℕ};
     ghost use Rattle.std.specs.List.{All};
-    ghost use Rattle.block_column.specs.Keys.{IsKeyed};
+    ghost use Rattle.block_column.specs.Tags.{IsTagged};
 
     ghost Value = { List (List ℕ) };
 
     ghost view = { λ r. map (λ s. s.text.now) r.slots.items };
 
     ghost invariant = { λ r.
-        (length r.slots.items ≡ 512) × All (λ s. IsKeyed s.key s.text.now) r.slots.items };
+        (length r.slots.items ≡ 512) × All (λ s. IsTagged s.tag s.text.now) r.slots.items };
 }
 
 impl<'a> Recent<'a> {
@@ -44,8 +44,8 @@ impl<'a> Recent<'a> {
     pub fn new(alloc: Global, text: &'a str) -> Result<Recent<'a>, AllocError>
         ensures { (p : List ℕ → Bool) → p text.now ≡ true → IfOk result (λ recent. list_all p recent ≡ true) }
     {
-        let key = key_of(text.as_bytes());
-        let slots = vec![in alloc; Slot { key, text }; SLOTS]?;
+        let tag = tag_of(text.as_bytes());
+        let slots = vec![in alloc; Slot { tag, text }; SLOTS]?;
         Ok(Recent { slots })
     }
 
@@ -58,9 +58,9 @@ impl<'a> Recent<'a> {
         ensures kept { (p : List ℕ → Bool) → list_all p self.old ≡ true → p text.now ≡ true
             → list_all p self.new ≡ true }
     {
-        let key = key_of(text.as_bytes());
-        let slot = Slot { key, text };
-        let place = place_of(key, text.len());
+        let tag = tag_of(text.as_bytes());
+        let slot = Slot { tag, text };
+        let place = place_of(tag, text.len());
         if have_same_text(self.slots[place], slot) {
             return false;
         }
@@ -70,16 +70,16 @@ impl<'a> Recent<'a> {
 }
 
 fn have_same_text(held: Slot<'_>, slot: Slot<'_>) -> bool
-    requires held { IsKeyed held.key held.text.now }
-    requires slot { IsKeyed slot.key slot.text.now }
+    requires held { IsTagged held.tag held.text.now }
+    requires slot { IsTagged slot.tag slot.text.now }
     ensures { result ≡ bytes_eq held.entry.text.now slot.entry.text.now }
 {
-    held.key == slot.key && are_same(held.text.as_bytes(), slot.text.as_bytes())
+    held.tag == slot.tag && are_same(held.text.as_bytes(), slot.text.as_bytes())
 }
 
-/// Whether the texts are the same whose keys are equal. The length tells it of short ones.
+/// Whether the texts are the same whose tags are equal. The length tells it of short ones.
 fn are_same(held: &[u8], text: &[u8]) -> bool
-    requires key { key_of held.now ≡ key_of text.now }
+    requires tag { tag_of held.now ≡ tag_of text.now }
     requires held { AreBytes held.now }
     requires text { AreBytes text.now }
     ensures { result ≡ bytes_eq held.now text.now }
@@ -91,20 +91,20 @@ fn are_same(held: &[u8], text: &[u8]) -> bool
 pub(crate) fn slot_of(text: &str) -> usize
     ensures { result < 512 }
 {
-    place_of(key_of(text.as_bytes()), text.len())
+    place_of(tag_of(text.as_bytes()), text.len())
 }
 
-fn place_of(key: u64, len: usize) -> usize
+fn place_of(tag: u64, len: usize) -> usize
     ensures { result < 512 }
 {
-    let mixed = (key ^ len as u64).wrapping_mul(0x9e37_79b9_7f4a_7c15);
+    let mixed = (tag ^ len as u64).wrapping_mul(0x9e37_79b9_7f4a_7c15);
     (mixed >> 40) as usize % SLOTS
 }
 
-/// The key of a text. It depends on the first eight and the last eight bytes.
-#[tactic(auto, unfolding(crate::specs::Keys::key_of))]
-fn key_of(bytes: &[u8]) -> u64
-    ensures { result ≡ key_of bytes.now }
+/// The tag of a text. It depends on the first eight and the last eight bytes.
+#[tactic(auto, unfolding(crate::specs::Tags::tag_of))]
+fn tag_of(bytes: &[u8]) -> u64
+    ensures { result ≡ tag_of bytes.now }
 {
     let len = bytes.len();
     if len >= 8 {
@@ -112,13 +112,13 @@ fn key_of(bytes: &[u8]) -> u64
     } else if len >= 4 {
         four_at(bytes, 0) as u64 * 0x1_0000_0000 + four_at(bytes, len - 4) as u64
     } else {
-        key_of_few(bytes)
+        tag_of_few(bytes)
     }
 }
 
-fn key_of_few(bytes: &[u8]) -> u64
+fn tag_of_few(bytes: &[u8]) -> u64
     requires { length bytes.now < 4 }
-    ensures { result ≡ key_of_few bytes.now }
+    ensures { result ≡ tag_of_few bytes.now }
 {
     let len = bytes.len();
     if len > 0 {

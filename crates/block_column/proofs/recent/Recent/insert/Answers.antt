@@ -45,13 +45,13 @@ returns-clause-there c =
     let lt : c.place_of-place.result < length c.self.inside.slots.items =
     omega (arith, c.place_of-place.ensures, c.self.invariant.0) in
     put-there text_of c.self.inside.slots.items c.place_of-place.result (record {
-      key = c.key_of-key.result;
+      tag = c.tag_of-tag.result;
       text = c.args.text;
     }) lt
 
 pub returns-clause-kept : goal.returns-clause-kept
 returns-clause-kept c p all one =
     all-put text_of p c.self.inside.slots.items c.place_of-place.result (record {
-      key = c.key_of-key.result;
+      tag = c.tag_of-tag.result;
       text = c.args.text;
     }) (subst (λ (l : List (List ℕ)). list_all p l ≡ true) (sym c.self.view_is) all) one

@@ -10,4 +10,4 @@ text_of s = s.text.now
 pub returns : goal.returns
 returns c p one =
     ap (λ (l : List Slot). list_all p (map text_of l)) (c.in_ok-slots.ensures.items_if_clones_equal (λ y h. h))
-    ∙ all-same text_of p 512 (record { key = c.key_of-key.result; text = c.args.text }) one
+    ∙ all-same text_of p 512 (record { tag = c.tag_of-tag.result; text = c.args.text }) one

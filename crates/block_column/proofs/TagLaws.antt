@@ -1,4 +1,4 @@
--- Short texts are told apart by their lengths and keys.
+-- Short texts are told apart by their lengths and tags.
 use Rattle.std.proofs.Common.{◌≡◌, ◌⊎◌, ℕ, zero, suc, ◌+◌, ◌*◌, ◌-◌, ◌/◌, ◌^◌, ◌<◌, ◌≤◌, true, false, List, [], ◌∷◌, length}
 use Rattle.std.proofs.Common.{get_or, inl, inr, refl, sym, ap, ◌∙◌, arith, ⊎_elim}
 use Rattle.std.specs.Prelude.{nat_le, nat_lt}
@@ -6,7 +6,7 @@ use Rattle.std.proofs.lemmas.Bool.{cases_lt}
 use Rattle.std.proofs.lemmas.Bool.Decides.{nat_tests}
 use Rattle.std.proofs.lemmas.List.{ext_get_or}
 use Rattle.std.proofs.lemmas.Nat.{le_bytes_4}
-use Rattle.block_column.specs.Keys.{AreBytes, four_at, key_of}
+use Rattle.block_column.specs.Tags.{AreBytes, four_at, tag_of}
 
 -- ---- four bytes
 
@@ -118,24 +118,24 @@ no-four n lt = grind (arith, nat_tests)
 is-some : (n : ℕ) → 0 < n → nat_lt 0 n ≡ true
 is-some n some = grind (arith, nat_tests)
 
-key-middle : (xs : List ℕ) → 4 ≤ length xs → length xs < 8
-    → key_of xs ≡ four_at xs 0 * 2 ^ 32 + four_at xs (length xs - 4)
-unfolding key_of
-key-middle xs some few = rw (no-eight _ few, is-four _ some) refl
+tag-middle : (xs : List ℕ) → 4 ≤ length xs → length xs < 8
+    → tag_of xs ≡ four_at xs 0 * 2 ^ 32 + four_at xs (length xs - 4)
+unfolding tag_of
+tag-middle xs some few = rw (no-eight _ few, is-four _ some) refl
 
-key-few : (xs : List ℕ) → 0 < length xs → length xs < 4
-    → key_of xs ≡ get_or xs 0 0 * 65536 + get_or xs (length xs / 2) 0 * 256 + get_or xs (length xs - 1) 0
-unfolding key_of
-key-few xs some few = rw (no-eight (length xs) (omega (arith, few)), no-four (length xs) few, is-some (length xs) some) refl
+tag-few : (xs : List ℕ) → 0 < length xs → length xs < 4
+    → tag_of xs ≡ get_or xs 0 0 * 65536 + get_or xs (length xs / 2) 0 * 256 + get_or xs (length xs - 1) 0
+unfolding tag_of
+tag-few xs some few = rw (no-eight (length xs) (omega (arith, few)), no-four (length xs) few, is-some (length xs) some) refl
 
 pub same-short : (xs ys : List ℕ) → AreBytes xs → AreBytes ys → length xs ≡ length ys → length xs < 8
-    → key_of xs ≡ key_of ys → xs ≡ ys
+    → tag_of xs ≡ tag_of ys → xs ≡ ys
 same-short [] [] bytes others len short e = refl
 same-short [] (y ∷ ys) bytes others len short e = absurd (omega (arith, len))
 same-short (x ∷ xs) ys bytes others len short e =
     ⊎_elim
     (λ (few : length (x ∷ xs) < 4). same-few (x ∷ xs) ys bytes others len (omega arith) few
-    (sym (key-few (x ∷ xs) (omega arith) few) ∙ e ∙ key-few ys (omega (arith, len)) (omega (arith, len, few))))
+    (sym (tag-few (x ∷ xs) (omega arith) few) ∙ e ∙ tag-few ys (omega (arith, len)) (omega (arith, len, few))))
     (λ (some : 4 ≤ length (x ∷ xs)). same-middle (x ∷ xs) ys bytes others len some short
-    (sym (key-middle (x ∷ xs) some short) ∙ e ∙ key-middle ys (omega (arith, len, some)) (omega (arith, len, short))))
+    (sym (tag-middle (x ∷ xs) some short) ∙ e ∙ tag-middle ys (omega (arith, len, some)) (omega (arith, len, short))))
     (cases_lt (length (x ∷ xs)) 4)

@@ -16,27 +16,27 @@ eight_at bytes at =
     ∷ slice_index bytes (at + 7) ∷ [])
 
 -- of fewer than four bytes the first, the middle one and the last
-abbrev pub key_of_few : List ℕ → ℕ
-key_of_few bytes =
+abbrev pub tag_of_few : List ℕ → ℕ
+tag_of_few bytes =
     if nat_lt 0 (length bytes)
     then slice_index bytes 0 * 65536 + slice_index bytes (length bytes / 2) * 256 + slice_index bytes (length bytes - 1)
     else 0
 
 -- Of fewer than eight bytes, all are in it, and with the length it tells the text. Of more it is a mixture of the first
 -- eight and the last eight.
-unfoldable pub key_of : List ℕ → ℕ
-key_of bytes =
+unfoldable pub tag_of : List ℕ → ℕ
+tag_of bytes =
     if nat_le 8 (length bytes)
     then bit_xor (rotate_left w64 (eight_at bytes 0) 29) (eight_at bytes (length bytes - 8))
     else (if nat_le 4 (length bytes)
     then four_at bytes 0 * 2 ^ 32 + four_at bytes (length bytes - 4)
-    else key_of_few bytes)
+    else tag_of_few bytes)
 
 -- They are bytes.
 abbrev pub AreBytes : List ℕ → Type 0
 AreBytes bytes = (i : ℕ) → slice_index bytes i < 256
 
--- The key is that of the text, which consists of bytes.
-pub record IsKeyed (number : ℕ) (text : List ℕ) : Type 0 where
-  pub key : number ≡ key_of text
+-- The tag is that of the text, which consists of bytes.
+pub record IsTagged (number : ℕ) (text : List ℕ) : Type 0 where
+  pub tag : number ≡ tag_of text
   pub bytes : AreBytes text
