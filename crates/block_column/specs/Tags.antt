@@ -1,5 +1,6 @@
--- Numbers by which texts are told apart.
-use Rattle.std.specs.Prelude.{◌≡◌, ℕ, ◌+◌, ◌*◌, ◌-◌, ◌/◌, ◌^◌, ◌<◌, List, [], ◌∷◌, bit_xor, length, nat_le, nat_lt, slice_index, if◌then◌else◌}
+-- Tags, by which texts are told apart.
+use Rattle.std.specs.Prelude.{◌≡◌, ℕ, ◌+◌, ◌*◌, ◌-◌, ◌/◌, ◌^◌, ◌<◌, List, [], ◌∷◌, bit_xor, length}
+use Rattle.std.specs.Prelude.{nat_le, nat_lt, slice_index, if◌then◌else◌}
 use Rattle.std.specs.Int.{w32, w64, from_le_bytes, rotate_left}
 
 -- the four bytes at this place
@@ -22,12 +23,13 @@ tag_of_few bytes =
     then slice_index bytes 0 * 65536 + slice_index bytes (length bytes / 2) * 256 + slice_index bytes (length bytes - 1)
     else 0
 
--- Of fewer than eight bytes, all are in it, and with the length it tells the text. Of more it is a mixture of the first
--- eight and the last eight.
+-- Of fewer than eight bytes, all are in it, and with the length it tells the text. Of eight or more it is a mixture of
+-- the first eight, the middle eight and the last eight.
 unfoldable pub tag_of : List ℕ → ℕ
 tag_of bytes =
     if nat_le 8 (length bytes)
-    then bit_xor (rotate_left w64 (eight_at bytes 0) 29) (eight_at bytes (length bytes - 8))
+    then bit_xor (bit_xor (rotate_left w64 (eight_at bytes 0) 29) (rotate_left w64 (eight_at bytes (length bytes / 2 - 4)) 47))
+    (eight_at bytes (length bytes - 8))
     else (if nat_le 4 (length bytes)
     then four_at bytes 0 * 2 ^ 32 + four_at bytes (length bytes - 4)
     else tag_of_few bytes)
@@ -37,6 +39,6 @@ abbrev pub AreBytes : List ℕ → Type 0
 AreBytes bytes = (i : ℕ) → slice_index bytes i < 256
 
 -- The tag is that of the text, which consists of bytes.
-pub record IsTagged (number : ℕ) (text : List ℕ) : Type 0 where
-  pub tag : number ≡ tag_of text
+pub record IsTagged (it : ℕ) (text : List ℕ) : Type 0 where
+  pub tag : it ≡ tag_of text
   pub bytes : AreBytes text

@@ -12,7 +12,7 @@ pub(crate) const SLOTS: usize = 512;
 
 /// A text that was put, and its tag.
 #[derive(Clone, Copy)]
-struct Slot<'a> {
+struct Met<'a> {
     tag: u64,
     text: &'a str,
 }
@@ -23,7 +23,7 @@ struct Slot<'a> {
 /// A contract sees it as the list of its slots.
 #[derive(Drop)]
 pub struct Recent<'a> {
-    slots: Vec<Slot<'a>>,
+    slots: Vec<Met<'a>>,
 }
 
 impl<'a> Model for Recent<'a> {
@@ -45,7 +45,7 @@ impl<'a> Recent<'a> {
         ensures { (p : List ℕ → Bool) → p text.now ≡ true → IfOk result (λ recent. list_all p recent ≡ true) }
     {
         let tag = tag_of(text.as_bytes());
-        let slots = vec![in alloc; Slot { tag, text }; SLOTS]?;
+        let slots = vec![in alloc; Met { tag, text }; SLOTS]?;
         Ok(Recent { slots })
     }
 
@@ -59,22 +59,22 @@ impl<'a> Recent<'a> {
             → list_all p self.new ≡ true }
     {
         let tag = tag_of(text.as_bytes());
-        let slot = Slot { tag, text };
-        let place = place_of(tag, text.len());
-        if have_same_text(self.slots[place], slot) {
+        let met = Met { tag, text };
+        let slot = slot_of(tag, text.len());
+        if have_same_text(self.slots[slot], met) {
             return false;
         }
-        self.slots[place] = slot;
+        self.slots[slot] = met;
         true
     }
 }
 
-fn have_same_text(held: Slot<'_>, slot: Slot<'_>) -> bool
+fn have_same_text(held: Met<'_>, met: Met<'_>) -> bool
     requires held { IsTagged held.tag held.text.now }
-    requires slot { IsTagged slot.tag slot.text.now }
-    ensures { result ≡ bytes_eq held.entry.text.now slot.entry.text.now }
+    requires met { IsTagged met.tag met.text.now }
+    ensures { result ≡ bytes_eq held.entry.text.now met.entry.text.now }
 {
-    held.tag == slot.tag && are_same(held.text.as_bytes(), slot.text.as_bytes())
+    held.tag == met.tag && are_same(held.text.as_bytes(), met.text.as_bytes())
 }
 
 /// Whether the texts are the same whose tags are equal. The length tells it of short ones.
@@ -88,27 +88,31 @@ fn are_same(held: &[u8], text: &[u8]) -> bool
 }
 
 /// The slot of a text.
-pub(crate) fn slot_of(text: &str) -> usize
+pub(crate) fn slot_of_text(text: &str) -> usize
     ensures { result < 512 }
 {
-    place_of(tag_of(text.as_bytes()), text.len())
+    slot_of(tag_of(text.as_bytes()), text.len())
 }
 
-fn place_of(tag: u64, len: usize) -> usize
+/// The slot of the texts with this tag and of this length. The highest bits of a product depend on all bits of its
+/// factors.
+fn slot_of(tag: u64, len: usize) -> usize
     ensures { result < 512 }
 {
     let mixed = (tag ^ len as u64).wrapping_mul(0x9e37_79b9_7f4a_7c15);
-    (mixed >> 40) as usize % SLOTS
+    (mixed >> 55) as usize
 }
 
-/// The tag of a text. It depends on the first eight and the last eight bytes.
+/// The tag of a text. It depends on the first eight bytes, the middle eight and the last eight.
 #[tactic(auto, unfolding(crate::specs::Tags::tag_of))]
 fn tag_of(bytes: &[u8]) -> u64
     ensures { result ≡ tag_of bytes.now }
 {
     let len = bytes.len();
     if len >= 8 {
-        eight_at(bytes, 0).rotate_left(29) ^ eight_at(bytes, len - 8)
+        eight_at(bytes, 0).rotate_left(29)
+            ^ eight_at(bytes, len / 2 - 4).rotate_left(47)
+            ^ eight_at(bytes, len - 8)
     } else if len >= 4 {
         four_at(bytes, 0) as u64 * 0x1_0000_0000 + four_at(bytes, len - 4) as u64
     } else {

@@ -29,7 +29,7 @@ fn empty_buckets<'a>(alloc: Global, count: usize) -> Result<Vec<Vec<(u64, &'a st
 {
     let mut buckets = Vec::with_capacity(alloc, count)?;
     for _ in 0..count {
-        buckets.push(Vec::with_capacity(alloc, 2 * BUCKET_LEN)?)?;
+        buckets.push(Vec::with_capacity(alloc, BUCKET_LEN)?)?;
     }
     Ok(buckets)
 }

@@ -45,7 +45,7 @@ fn is_ascii_other(byte: u8) -> bool
     byte < 128 && !(byte.is_ascii_alphanumeric() || byte == b'_')
 }
 
-/// How many bytes there are that both texts end with.
+/// So many bytes, all there are, both texts end with. That there are no more is no clause: it only saves work.
 fn equal_end(last: &[u8], text: &[u8]) -> usize
     ensures last { result ≤ length last.now }
     ensures text { result ≤ length text.now }
@@ -59,7 +59,7 @@ fn equal_end(last: &[u8], text: &[u8]) -> usize
     equal
 }
 
-/// The same, eight bytes at a time.
+/// So many bytes both texts end with, counted eight at a time.
 fn equal_eights(last: &[u8], text: &[u8]) -> usize
     ensures last { result ≤ length last.now }
     ensures text { result ≤ length text.now }

@@ -78,25 +78,25 @@ fn distinct_words<'a>(alloc: Global, values: &[&'a str]) -> Result<Vec<(u64, &'a
     ensures once { IfOk result (λ words. IsDistinct bytes_eq (map (λ w. w.1.now) words.items)) }
     ensures hashes { IfOk result (λ words. All (λ w. w.0 ≡ fnv w.1.now) words.items) }
 {
-    let words = words_of(alloc, values)?;
-    let once = once_each(alloc, words.as_slice())?;
-    Ok(once)
+    let mut words = words_of(alloc, values)?;
+    keep_each_once(alloc, &mut words)?;
+    Ok(words)
 }
 
-/// The words, each once.
-fn once_each<'a>(alloc: Global, words: &[(u64, &'a str)]) -> Result<Vec<(u64, &'a str)>, AllocError>
-    requires { All (λ w. w.0 ≡ fnv w.1.now) words.now }
-    ensures same { IfOk result (λ once. HaveSameTexts (map (λ w. w.1.now) once.items) (map (λ w. w.1.now) words.now)) }
-    ensures once { IfOk result (λ once. IsDistinct bytes_eq (map (λ w. w.1.now) once.items)) }
-    ensures hashes { IfOk result (λ once. All (λ w. w.0 ≡ fnv w.1.now) once.items) }
+/// Keeps the words, each once. They are sorted bucket by bucket, for which so much memory again is taken.
+fn keep_each_once<'a>(alloc: Global, words: &mut Vec<(u64, &'a str)>) -> Result<(), AllocError>
+    requires { All (λ w. w.0 ≡ fnv w.1.now) words.old.items }
+    ensures same { OnOk result (HaveSameTexts (map (λ w. w.1.now) words.new.items) (map (λ w. w.1.now) words.old.items)) }
+    ensures once { OnOk result (IsDistinct bytes_eq (map (λ w. w.1.now) words.new.items)) }
+    ensures hashes { OnOk result (All (λ w. w.0 ≡ fnv w.1.now) words.new.items) }
 {
-    let mut buckets = in_buckets(alloc, words)?;
-    let mut once = Vec::with_capacity(alloc, words.len())?;
+    let mut buckets = in_buckets(alloc, words.as_slice())?;
+    words.clear();
     while let Some(mut bucket) = buckets.pop() {
         keep_once(&mut bucket);
-        once.extend_from_slice(bucket.as_slice())?;
+        words.extend_from_slice(bucket.as_slice())?;
     }
-    Ok(once)
+    Ok(())
 }
 
 /// Sorts words, and drops those that are there already.
@@ -184,6 +184,7 @@ fn put_word<'a>(
     ensures hashes { OnOk result (All (λ w. w.0 ≡ fnv w.1.now) all.new.items) }
 {
     if recent.insert(word) {
+        // After an error neither of both is used.
         make_room(all)?;
         all.push((hash_of(word.as_bytes()), word))?;
     }

@@ -2,11 +2,11 @@ use Rattle.std.proofs.Common.{◌≡◌, ◌∙◌, ◌<◌, ℕ, List, ap, arit
 use Rattle.std.specs.Prelude.{bytes_eq}
 use Rattle.std.specs.List.{list_all, list_any}
 use Rattle.std.proofs.lemmas.Slice.Eq.{bytes_eq-Decides}
-use Rattle.block_column.specs.declared.recent.Slot.{Slot}
+use Rattle.block_column.specs.declared.recent.Met.{Met}
 use Rattle.block_column.proofs.Slots.{all-put, each-slot, in-slot, put-there}
 use Rattle.block_column.proofs.recent.Recent.insert.Goals as goal
 
-abbrev text_of : Slot → List ℕ
+abbrev text_of : Met → List ℕ
 text_of s = s.text.now
 
 pub returns-then-have_same_text-clause-there : goal.returns-then-have_same_text-clause-there
@@ -14,12 +14,12 @@ returns-then-have_same_text-clause-there c =
     let text : List ℕ = c.args.text.now in
     let same : c.index.result.now.text.now ≡ c.args.text.now = (bytes_eq-Decides c.index.result.now.text.now
     c.args.text.now).0 (sym c.have_same_text.ensures ∙ c.if-have_same_text.true) in
-    let there : c.args.text.now ≡ text_of (get_or c.self.inside.slots.items c.place_of-place.result c.index.result.now) =
+    let there : c.args.text.now ≡ text_of (get_or c.self.inside.slots.items c.slot_of-slot.result c.index.result.now) =
     sym same ∙ ap text_of c.index.ensures in
-    let lt : c.place_of-place.result < length c.self.inside.slots.items =
-    omega (arith, c.place_of-place.ensures, c.self.invariant.0) in
+    let lt : c.slot_of-slot.result < length c.self.inside.slots.items =
+    omega (arith, c.slot_of-slot.ensures, c.self.invariant.0) in
     subst (λ (l : List (List ℕ)). list_any (bytes_eq text) l ≡ true) c.self.view_is (in-slot text_of c.args.text.now
-    c.self.inside.slots.items c.place_of-place.result c.index.result.now lt there)
+    c.self.inside.slots.items c.slot_of-slot.result c.index.result.now lt there)
 
 pub returns-then-have_same_text-clause-had : goal.returns-then-have_same_text-clause-had
 returns-then-have_same_text-clause-had c _ = returns-then-have_same_text-clause-there c
@@ -27,13 +27,13 @@ returns-then-have_same_text-clause-had c _ = returns-then-have_same_text-clause-
 pub returns-clause-each : goal.returns-clause-each
 returns-clause-each c all =
     let text : List ℕ = c.args.text.now in
-    let lt : c.place_of-place.result < length c.self.inside.slots.items =
-    omega (arith, c.place_of-place.ensures, c.self.invariant.0) in
+    let lt : c.slot_of-slot.result < length c.self.inside.slots.items =
+    omega (arith, c.slot_of-slot.ensures, c.self.invariant.0) in
     let held = subst (λ (l : List (List ℕ)). list_all (bytes_eq text) l ≡ true) (sym c.self.view_is) all in
-    let one = each-slot text_of (bytes_eq c.args.text.now) c.self.inside.slots.items c.place_of-place.result c.index.result.now
+    let one = each-slot text_of (bytes_eq c.args.text.now) c.self.inside.slots.items c.slot_of-slot.result c.index.result.now
     lt held in
-    let same : c.args.text.now ≡ text_of (get_or c.self.inside.slots.items c.place_of-place.result c.index.result.now) =
-    (bytes_eq-Decides c.args.text.now (text_of (get_or c.self.inside.slots.items c.place_of-place.result
+    let same : c.args.text.now ≡ text_of (get_or c.self.inside.slots.items c.slot_of-slot.result c.index.result.now) =
+    (bytes_eq-Decides c.args.text.now (text_of (get_or c.self.inside.slots.items c.slot_of-slot.result
     c.index.result.now))).0 one in
     let equal : c.have_same_text.result ≡ true =
     c.have_same_text.ensures
@@ -42,16 +42,16 @@ returns-clause-each c all =
 
 pub returns-clause-there : goal.returns-clause-there
 returns-clause-there c =
-    let lt : c.place_of-place.result < length c.self.inside.slots.items =
-    omega (arith, c.place_of-place.ensures, c.self.invariant.0) in
-    put-there text_of c.self.inside.slots.items c.place_of-place.result (record {
+    let lt : c.slot_of-slot.result < length c.self.inside.slots.items =
+    omega (arith, c.slot_of-slot.ensures, c.self.invariant.0) in
+    put-there text_of c.self.inside.slots.items c.slot_of-slot.result (record {
       tag = c.tag_of-tag.result;
       text = c.args.text;
     }) lt
 
 pub returns-clause-kept : goal.returns-clause-kept
 returns-clause-kept c p all one =
-    all-put text_of p c.self.inside.slots.items c.place_of-place.result (record {
+    all-put text_of p c.self.inside.slots.items c.slot_of-slot.result (record {
       tag = c.tag_of-tag.result;
       text = c.args.text;
     }) (subst (λ (l : List (List ℕ)). list_all p l ≡ true) (sym c.self.view_is) all) one
