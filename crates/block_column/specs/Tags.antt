@@ -28,7 +28,8 @@ tag_of_few bytes =
 unfoldable pub tag_of : List ℕ → ℕ
 tag_of bytes =
     if nat_le 8 (length bytes)
-    then bit_xor (bit_xor (rotate_left w64 (eight_at bytes 0) 29) (rotate_left w64 (eight_at bytes (length bytes / 2 - 4)) 47))
+    then bit_xor (bit_xor (rotate_left w64 (eight_at bytes 0) 29)
+    (rotate_left w64 (eight_at bytes (length bytes / 2 - 4)) 47))
     (eight_at bytes (length bytes - 8))
     else (if nat_le 4 (length bytes)
     then four_at bytes 0 * 2 ^ 32 + four_at bytes (length bytes - 4)

@@ -86,7 +86,8 @@ fn distinct_words<'a>(alloc: Global, values: &[&'a str]) -> Result<Vec<(u64, &'a
 /// Keeps the words, each once. They are sorted bucket by bucket, for which so much memory again is taken.
 fn keep_each_once<'a>(alloc: Global, words: &mut Vec<(u64, &'a str)>) -> Result<(), AllocError>
     requires { All (λ w. w.0 ≡ fnv w.1.now) words.old.items }
-    ensures same { OnOk result (HaveSameTexts (map (λ w. w.1.now) words.new.items) (map (λ w. w.1.now) words.old.items)) }
+    ensures same { OnOk result (HaveSameTexts (map (λ w. w.1.now) words.new.items)
+        (map (λ w. w.1.now) words.old.items)) }
     ensures once { OnOk result (IsDistinct bytes_eq (map (λ w. w.1.now) words.new.items)) }
     ensures hashes { OnOk result (All (λ w. w.0 ≡ fnv w.1.now) words.new.items) }
 {
