@@ -1,5 +1,5 @@
 -- Tags, by which texts are told apart.
-use Rattle.std.specs.Prelude.{◌≡◌, ℕ, ◌+◌, ◌*◌, ◌-◌, ◌/◌, ◌^◌, ◌<◌, List, [], ◌∷◌, bit_xor, length}
+use Rattle.std.specs.Prelude.{◌≡◌, ℕ, ◌+◌, ◌*◌, ◌-◌, ◌/◌, ◌%◌, ◌^◌, ◌<◌, List, [], ◌∷◌, bit_xor, length}
 use Rattle.std.specs.Prelude.{nat_le, nat_lt, slice_index, if◌then◌else◌}
 use Rattle.std.specs.Int.{w32, w64, from_le_bytes, rotate_left}
 
@@ -34,6 +34,14 @@ tag_of bytes =
     else (if nat_le 4 (length bytes)
     then four_at bytes 0 * 2 ^ 32 + four_at bytes (length bytes - 4)
     else tag_of_few bytes)
+
+-- the slot, of 512, of the texts with this tag and of this length: the highest bits of a product, which depend on all
+-- bits of its factors
+abbrev pub slot_at : ℕ → ℕ → ℕ
+slot_at tag len = bit_xor tag len * 11400714819323198485 % 2 ^ 64 / 2 ^ 55
+
+abbrev pub slot_of : List ℕ → ℕ
+slot_of text = slot_at (tag_of text) (length text)
 
 -- They are bytes.
 abbrev pub AreBytes : List ℕ → Type 0

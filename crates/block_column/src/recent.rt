@@ -1,8 +1,9 @@
 //! Texts that were met lately.
 
-ghost use Rattle.std.specs.Prelude.{◌≡◌, ◌+◌, ◌<◌, ◌≤◌, Bool, IfOk, List, bytes_eq, false, length, true, ℕ};
+ghost use Rattle.std.specs.Prelude.{◌≡◌, ◌+◌, ◌<◌, ◌≤◌, [], Bool, IfOk, List, bytes_eq, false, length, not, true, ℕ};
+ghost use Rattle.std.specs.Prelude.{slice_index_or, slice_set};
 ghost use Rattle.std.specs.List.{list_all, list_any};
-ghost use Rattle.block_column.specs.Tags.{AreBytes, IsTagged, eight_at, four_at, tag_of, tag_of_few};
+ghost use Rattle.block_column.specs.Tags.{AreBytes, IsTagged, eight_at, four_at, slot_at, slot_of, tag_of, tag_of_few};
 
 use std::alloc::{AllocError, Global};
 use std::marker::Model;
@@ -12,7 +13,7 @@ pub(crate) const SLOTS: usize = 512;
 
 /// A text that was put, and its tag.
 #[derive(Clone, Copy)]
-struct Met<'a> {
+struct Entry<'a> {
     tag: u64,
     text: &'a str,
 }
@@ -23,7 +24,7 @@ struct Met<'a> {
 /// A contract sees it as the list of its slots.
 #[derive(Drop)]
 pub struct Recent<'a> {
-    slots: Vec<Met<'a>>,
+    slots: Vec<Entry<'a>>,
 }
 
 impl<'a> Model for Recent<'a> {
@@ -45,13 +46,15 @@ impl<'a> Recent<'a> {
         ensures { (p : List ℕ → Bool) → p text.now ≡ true → IfOk result (λ recent. list_all p recent ≡ true) }
     {
         let tag = tag_of(text.as_bytes());
-        let slots = vec![in alloc; Met { tag, text }; SLOTS]?;
+        let slots = vec![in alloc; Entry { tag, text }; SLOTS]?;
         Ok(Recent { slots })
     }
 
-    /// Remembers the text, and says whether its slot had another. Where each slot had it, that is not so. What holds of
-    /// all that were remembered, and of this one, holds of all that are.
+    /// Puts the text into its slot, and says whether another was there. Where each slot had it, that is not so. What
+    /// holds of all that were remembered, and of this one, holds of all that are.
     pub fn insert(&mut self, text: &'a str) -> bool
+        ensures new { result ≡ not (bytes_eq (slice_index_or self.old (slot_of text.now) []) text.now) }
+        ensures put { self.new ≡ slice_set self.old (slot_of text.now) text.now }
         ensures had { result ≡ false → list_any (bytes_eq text.now) self.old ≡ true }
         ensures each { list_all (bytes_eq text.now) self.old ≡ true → result ≡ false }
         ensures there { list_any (bytes_eq text.now) self.new ≡ true }
@@ -59,22 +62,22 @@ impl<'a> Recent<'a> {
             → list_all p self.new ≡ true }
     {
         let tag = tag_of(text.as_bytes());
-        let met = Met { tag, text };
+        let entry = Entry { tag, text };
         let slot = slot_of(tag, text.len());
-        if have_same_text(self.slots[slot], met) {
+        if have_same_text(self.slots[slot], entry) {
             return false;
         }
-        self.slots[slot] = met;
+        self.slots[slot] = entry;
         true
     }
 }
 
-fn have_same_text(held: Met<'_>, met: Met<'_>) -> bool
+fn have_same_text(held: Entry<'_>, entry: Entry<'_>) -> bool
     requires held { IsTagged held.tag held.text.now }
-    requires met { IsTagged met.tag met.text.now }
-    ensures { result ≡ bytes_eq held.entry.text.now met.entry.text.now }
+    requires entry { IsTagged entry.tag entry.text.now }
+    ensures { result ≡ bytes_eq held.entry.text.now entry.entry.text.now }
 {
-    held.tag == met.tag && are_same(held.text.as_bytes(), met.text.as_bytes())
+    held.tag == entry.tag && are_same(held.text.as_bytes(), entry.text.as_bytes())
 }
 
 /// Whether the texts are the same whose tags are equal. The length tells it of short ones.
@@ -89,15 +92,16 @@ fn are_same(held: &[u8], text: &[u8]) -> bool
 
 /// The slot of a text.
 pub(crate) fn slot_of_text(text: &str) -> usize
-    ensures { result < 512 }
+    ensures slot { result ≡ slot_of text.now }
+    ensures below { result < 512 }
 {
     slot_of(tag_of(text.as_bytes()), text.len())
 }
 
-/// The slot of the texts with this tag and of this length. The highest bits of a product depend on all bits of its
-/// factors.
+/// The slot of the texts with this tag and of this length.
 fn slot_of(tag: u64, len: usize) -> usize
-    ensures { result < 512 }
+    ensures slot { result ≡ slot_at tag len }
+    ensures below { result < 512 }
 {
     let mixed = (tag ^ len as u64).wrapping_mul(0x9e37_79b9_7f4a_7c15);
     (mixed >> 55) as usize

@@ -1,8 +1,8 @@
 -- Texts that end alike.
 use Rattle.std.proofs.Common.{◌≡◌, ℕ, ◌+◌, ◌-◌, ◌<◌, ◌≤◌, Bool, true, false, List, [], ◌∷◌, ◌++◌, length, get_or, map, suc, take, drop, zero}
 use Rattle.std.proofs.Common.{refl, sym, ap, ap₂, subst, ◌∙◌, arith, ⊎_elim}
-use Rattle.std.specs.Prelude.{◌||◌, bytes_eq}
-use Rattle.std.specs.List.{flat_map, slice_range}
+use Rattle.std.specs.Prelude.{◌&&◌, ◌||◌, bytes_eq, nat_lt, not}
+use Rattle.std.specs.List.{flat_map, prefix_len, slice_range}
 use Rattle.std.proofs.lemmas.List.Concat.{flat_map-cons}
 use Rattle.std.specs.Str.{IsUtf8}
 use Rattle.std.specs.BTreeSet.{insert_key}
@@ -10,49 +10,72 @@ use Rattle.std.proofs.lemmas.Bool.{cases_lt}
 use Rattle.std.proofs.lemmas.Bool.Decides.{nat_tests}
 use Rattle.std.proofs.lemmas.Grind.{flat_map-append}
 use Rattle.std.proofs.lemmas.List.{append-nil, map_more, nil_from_length}
-use Rattle.std.proofs.lemmas.List.{drop-drop, drop_more, take-append-drop, take_all}
+use Rattle.std.proofs.lemmas.List.{drop-drop, drop_more, get_or-drop, length-drop, take-append-drop, take_all}
 use Rattle.std.proofs.lemmas.List.Folds.{list_any-append}
-use Rattle.std.proofs.lemmas.List.Sums.{fold-append}
+use Rattle.std.proofs.lemmas.List.Sums.{fold-append, prefix_len_stops}
 use Rattle.block_column.specs.Kinds.{distinct, is_listed}
 use Rattle.block_column.specs.Members.{HaveSameTexts}
 use Rattle.block_column.proofs.Distinct.{right_true}
 use Rattle.block_column.proofs.Same.{distinct-listed}
 use Rattle.log_model.specs.Field.{bytes_cmp}
-use Rattle.word_filter.specs.Words.{AreAmong, column_words, put_words, words_in}
+use Rattle.log_model.specs.Words.{is_word_char}
+use Rattle.word_filter.specs.Words.{AreAmong, column_words, is_separator, put_words, words_in}
 use Rattle.word_filter.proofs.Parted.{alike-at_end}
 use Rattle.word_filter.proofs.Sets.{same-distinct}
 use Rattle.word_filter.proofs.WordLaws.{few-words}
 use Rattle.word_tokens.specs.Runs.{words_of}
 use Rattle.std.proofs.lemmas.Str.{IsUtf8-nil}
-use Rattle.word_tokens.specs.Ascii.{is_ascii_other, is_ascii_word}
-use Rattle.word_tokens.proofs.AsciiWords.{is_word_char_ascii}
 
 -- ---- a text that is cut where another goes on alike
 
-other-below : (b : ℕ) → is_ascii_other b ≡ true → b < 128
-other-below b e = grind (arith, nat_tests)
+separator-below : (b : ℕ) → is_separator b ≡ true → b < 128
+separator-below b e = grind (arith, nat_tests)
 
-other-no_word : (b : ℕ) → is_ascii_other b ≡ true → is_ascii_word b ≡ false
-other-no_word b e = grind (arith, nat_tests)
+separator-no_word : (b : ℕ) → is_separator b ≡ true → is_word_char b ≡ false
+separator-no_word b e = both-no (nat_lt b 128) (is_word_char b) e
+  where
+    both-no : (s t : Bool) → (s && not t) ≡ true → t ≡ false
+    both-no true true e = cc
+    both-no true false e = refl
+    both-no false t e = cc
+
+-- the first place from one on that no test passes ahead of
+pub separator-at : (text : List ℕ) (from at : ℕ)
+    → at ≡ from + prefix_len (λ byte. not (is_separator byte)) (drop from text) → at < length text
+    → is_separator (get_or text at 0) ≡ true
+separator-at text from at is more =
+    let stops = prefix_len_stops (λ byte. not (is_separator byte)) (drop from text) 0 within in
+    sure (is_separator (get_or text at 0)) (ap (λ b. not (is_separator b)) here ∙ stops)
+  where
+    within : prefix_len (λ byte. not (is_separator byte)) (drop from text) < length (drop from text)
+    within = omega (arith, is, more, length-drop from text)
+
+    here : get_or text at 0 ≡ get_or (drop from text) (prefix_len (λ byte. not (is_separator byte)) (drop from text)) 0
+    here = ap (λ n. get_or text n 0) is
+        ∙ sym (get_or-drop from text (prefix_len (λ byte. not (is_separator byte)) (drop from text)) 0)
+
+    sure : (b : Bool) → not b ≡ false → b ≡ true
+    sure true e = refl
+    sure false e = cc
 
 pub alike-cut : (last text : List ℕ) (cut place : ℕ) → IsUtf8 last → IsUtf8 text → cut < length text
-    → drop place last ≡ drop cut text → is_ascii_other (get_or text cut 0) ≡ true
+    → drop place last ≡ drop cut text → is_separator (get_or text cut 0) ≡ true
     → HaveSameTexts (words_in (take cut text) ++ words_in last) (words_in text ++ words_in last)
 alike-cut last text cut place last_utf8 utf8 more same other =
     let split : take cut text ++ get_or text cut 0 ∷ drop (cut + 1) text ≡ text =
     ap (λ l. take cut text ++ l) (sym (drop_more text cut 0 more)) ∙ take-append-drop cut text in
     let last_split : take place last ++ get_or text cut 0 ∷ drop (cut + 1) text ≡ last =
     ap (λ l. take place last ++ l) (sym (same ∙ drop_more text cut 0 more)) ∙ take-append-drop place last in
-    let b = other-below (get_or text cut 0) other in
+    let b = separator-below (get_or text cut 0) other in
     let alike = alike-at_end (take cut text) (take place last) (get_or text cut 0) (drop (cut + 1) text)
     (subst IsUtf8 (sym split) utf8) (subst IsUtf8 (sym last_split) last_utf8) b
-    (sym (is_word_char_ascii (get_or text cut 0) b) ∙ other-no_word (get_or text cut 0) other) in
+    (separator-no_word (get_or text cut 0) other) in
     subst (λ (t : List ℕ). HaveSameTexts (words_in (take cut text) ++ words_in last) (words_in t ++ words_in last)) split
     (subst (λ (l : List ℕ). HaveSameTexts (words_in (take cut text) ++ words_in l)
     (words_in (take cut text ++ get_or text cut 0 ∷ drop (cut + 1) text) ++ words_in l)) last_split alike)
 
 pub alike-part : (last text part : List ℕ) (cut place : ℕ) → IsUtf8 last → IsUtf8 text → part ≡ slice_range text 0 cut
-    → cut ≤ length text → (cut < length text → is_ascii_other (get_or text cut 0) ≡ true)
+    → cut ≤ length text → (cut < length text → is_separator (get_or text cut 0) ≡ true)
     → drop place last ≡ drop cut text
     → HaveSameTexts (words_in part ++ words_in last) (words_in text ++ words_in last)
 alike-part last text part cut place last_utf8 utf8 is within other same =
@@ -168,6 +191,21 @@ before-eight xs n within =
     ap (λ k. drop k xs) from ∙ sym (take-append-drop 8 (drop (length xs - n - 8) xs))
     ∙ ap₂ (λ ys zs. ys ++ zs) (ap (λ k. take k (drop (length xs - n - 8) xs)) (sym eight))
     (drop-drop 8 (length xs - n - 8) xs ∙ ap (λ k. drop k xs) past)
+
+before-one : (xs : List ℕ) (n : ℕ) → n + 1 ≤ length xs
+    → drop (length xs - (n + 1)) xs ≡ get_or xs (length xs - n - 1) 0 ∷ drop (length xs - n) xs
+before-one xs n within =
+    let here : length xs - (n + 1) ≡ length xs - n - 1 = omega arith in
+    let next : length xs - n - 1 + 1 ≡ length xs - n = omega (arith, within) in
+    ap (λ k. drop k xs) here ∙ drop_more xs (length xs - n - 1) 0 (omega (arith, within))
+    ∙ ap (λ k. get_or xs (length xs - n - 1) 0 ∷ drop k xs) next
+
+pub one-more : (last text : List ℕ) (n : ℕ) → n + 1 ≤ length last → n + 1 ≤ length text
+    → drop (length last - n) last ≡ drop (length text - n) text
+    → get_or last (length last - n - 1) 0 ≡ get_or text (length text - n - 1) 0
+    → drop (length last - (n + 1)) last ≡ drop (length text - (n + 1)) text
+one-more last text n in_last in_text same one =
+    before-one last n in_last ∙ ap₂ (λ y ys. y ∷ ys) one same ∙ sym (before-one text n in_text)
 
 pub eight-more : (last text : List ℕ) (n : ℕ) → n + 8 ≤ length last → n + 8 ≤ length text
     → drop (length last - n) last ≡ drop (length text - n) text

@@ -1,5 +1,6 @@
 -- The words of a column's values, and the filter of them.
-use Rattle.std.specs.Prelude.{◌≡◌, ℕ, Bool, true, ◌||◌, IsTrue, List, ◌++◌, bytes_eq, length, map, Result, Ok}
+use Rattle.std.specs.Prelude.{◌≡◌, ℕ, Bool, true, not, ◌&&◌, ◌||◌, IsTrue, List, ◌++◌, bytes_eq, length, map}
+use Rattle.std.specs.Prelude.{nat_lt, Result, Ok}
 use Rattle.std.specs.BTreeSet.{insert_key}
 use Rattle.std.specs.Int.{w32, w64, to_le_bytes}
 use Rattle.std.specs.List.{All, flat_map, fold, list_any, slice_range}
@@ -7,6 +8,7 @@ use Rattle.block_column.specs.Kinds.{distinct, is_listed}
 use Rattle.byte_format.specs.Format.{Format, value, followed, many, front, ◌>>=◌}
 use Rattle.byte_format.specs.Items.{number}
 use Rattle.log_model.specs.Field.{bytes_cmp, is_empty}
+use Rattle.log_model.specs.Words.{is_word_char}
 use Rattle.token_bloom.specs.Filter.{empty_filter, filter_bytes, may_have, with_word}
 use Rattle.word_tokens.specs.Runs.{words_of}
 
@@ -29,6 +31,10 @@ HasWords filter text = All (λ word. IsTrue (may_have filter word)) (words_in te
 -- The filter of some values leaves out no word of them.
 abbrev pub LeavesNoneOut : Type 0
 LeavesNoneOut = (values : List (List ℕ)) → All (HasWords (filter_of values)) values
+
+-- a character of ASCII that is in no word
+abbrev pub is_separator : ℕ → Bool
+is_separator byte = nat_lt byte 128 && not (is_word_char byte)
 
 -- These words are among the texts.
 abbrev pub AreAmong : List (List ℕ) → List (List ℕ) → Type 0

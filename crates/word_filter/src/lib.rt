@@ -122,39 +122,20 @@ fn words_of<'a>(alloc: Global, values: &[&'a str]) -> Result<Vec<(u64, &'a str)>
     let mut words = Vec::with_capacity(alloc, values.len().min(MOST_RESERVED))?;
     let mut recent = Recent::new(alloc, "")?;
     for i in 0..values.len() {
-        let last = if i > 0 { values[i - 1] } else { "" };
-        put_value(&mut words, &mut recent, last, values[i])?;
+        let before = if i > 0 { values[i - 1] } else { "" };
+        put_words(&mut words, &mut recent, before, values[i])?;
     }
     Ok(words)
 }
 
-/// Puts the words of one value to the others, among which are those of the last value.
-fn put_value<'a>(
-    all: &mut Vec<(u64, &'a str)>,
-    recent: &mut Recent<'a>,
-    last: &str,
-    value: &'a str,
-) -> Result<(), AllocError>
-    requires last { AreAmong (map (λ w. w.1.now) all.old.items) (words_in last.now) }
-    requires recent { list_all (is_there (map (λ w. w.1.now) all.old.items)) recent.old ≡ true }
-    requires hashes { All (λ w. w.0 ≡ fnv w.1.now) all.old.items }
-    ensures words { OnOk result (distinct (map (λ w. w.1.now) all.new.items)
-        ≡ put_words (distinct (map (λ w. w.1.now) all.old.items)) value.now) }
-    ensures few { OnOk result (length (distinct (map (λ w. w.1.now) all.new.items))
-        ≤ length (distinct (map (λ w. w.1.now) all.old.items)) + length value.now) }
-    ensures recent { OnOk result (list_all (is_there (map (λ w. w.1.now) all.new.items)) recent.new ≡ true) }
-    ensures hashes { OnOk result (All (λ w. w.0 ≡ fnv w.1.now) all.new.items) }
-{
-    put_words(all, recent, fresh_part(last, value))?;
-    Ok(())
-}
-
-/// Puts the words of a text to the others.
+/// Puts the words of one value to the others, among which are those of the value before.
 fn put_words<'a>(
     all: &mut Vec<(u64, &'a str)>,
     recent: &mut Recent<'a>,
+    before: &str,
     value: &'a str,
 ) -> Result<(), AllocError>
+    requires before { AreAmong (map (λ w. w.1.now) all.old.items) (words_in before.now) }
     requires recent { list_all (is_there (map (λ w. w.1.now) all.old.items)) recent.old ≡ true }
     requires hashes { All (λ w. w.0 ≡ fnv w.1.now) all.old.items }
     ensures words { OnOk result (distinct (map (λ w. w.1.now) all.new.items)
@@ -164,8 +145,9 @@ fn put_words<'a>(
     ensures recent { OnOk result (list_all (is_there (map (λ w. w.1.now) all.new.items)) recent.new ≡ true) }
     ensures hashes { OnOk result (All (λ w. w.0 ≡ fnv w.1.now) all.new.items) }
 {
-    for (start, end) in words(value) {
-        put_word(all, recent, &value[start..end])?;
+    let part = fresh_part(before, value);
+    for (start, end) in words(part) {
+        put_word(all, recent, &part[start..end])?;
     }
     Ok(())
 }
@@ -185,7 +167,7 @@ fn put_word<'a>(
     ensures hashes { OnOk result (All (λ w. w.0 ≡ fnv w.1.now) all.new.items) }
 {
     if recent.insert(word) {
-        // After an error neither of both is used.
+        // After an error neither of the two is used.
         make_room(all)?;
         all.push((hash_of(word.as_bytes()), word))?;
     }

@@ -10,25 +10,25 @@ use Rattle.word_filter.proofs.words_of.Goals as goal
 abbrev blank : Bor (List ℕ)
 blank = record { ref_ptr = (0, 0); now = [] }
 
-pub put_value-requires-clause-last : goal.put_value-requires-clause-last
-put_value-requires-clause-last c =
+pub put_words-requires-clause-before : goal.put_words-requires-clause-before
+put_words-requires-clause-before c =
     elim c.if-i-gt0.branch [
-      | then-i-gt0 w ↦ rw w.last-is (value-among text_of (map text_in c.loop-i.words.items) c.args.values.now
+      | then-i-gt0 w ↦ rw w.before-is (value-among text_of (map text_in c.loop-i.words.items) c.args.values.now
           c.loop-i.i (c.loop-i.i - 1) blank (omega arith) (omega arith) c.loop-i.invariant.words)
-      | else-i-gt0 w ↦ rw w.last-is (λ word e. absurd (nothing-in word e))
+      | else-i-gt0 w ↦ rw w.before-is (λ word e. absurd (nothing-in word e))
     ]
 
 pub loop-i-preserved : goal.loop-i-preserved
 loop-i-preserved c =
     record {
-      words = c.in_ok-put_value.ensures.words ∙ ap (λ texts. put_words texts (get_or c.args.values.now c.loop-i.i blank).now) c.loop-i.invariant.words
+      words = c.in_ok-put_words.ensures.words ∙ ap (λ texts. put_words texts (get_or c.args.values.now c.loop-i.i blank).now) c.loop-i.invariant.words
           ∙ column-more text_of c.args.values.now c.loop-i.i blank c.loop-i-test.true;
       few = omega (
         arith,
-        c.in_ok-put_value.ensures.few,
+        c.in_ok-put_words.ensures.few,
         c.loop-i.invariant.few,
         sum_by_more (λ (t : Bor (List ℕ)). length t.now) c.args.values.now c.loop-i.i blank c.loop-i-test.true,
       );
-      recent = c.in_ok-put_value.ensures.recent;
-      hashes = c.in_ok-put_value.ensures.hashes;
+      recent = c.in_ok-put_words.ensures.recent;
+      hashes = c.in_ok-put_words.ensures.hashes;
     }

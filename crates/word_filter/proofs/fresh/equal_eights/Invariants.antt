@@ -4,7 +4,7 @@ use Rattle.word_filter.proofs.fresh.equal_eights.Given as goal
 abbrev pub invariant-loop-equal : goal.invariant-loop-equal
 invariant-loop-equal l = record {
   within : l.equal ≤ l.most;
-  same : drop (length l.last - l.equal) l.last ≡ drop (length l.text - l.equal) l.text;
+  same : drop (length l.before - l.equal) l.before ≡ drop (length l.text - l.equal) l.text;
 }
 
 abbrev pub decreases-loop-equal : goal.decreases-loop-equal
