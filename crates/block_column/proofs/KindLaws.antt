@@ -14,10 +14,10 @@ use Rattle.std.proofs.lemmas.Slice.Eq.{bytes_eq-Decides}
 use Rattle.byte_format.proofs.Cases.{both_true}
 use Rattle.byte_format.specs.Written.{text_bytes}
 use Rattle.col_codec.specs.Ints.{is_i64, int_spelling}
-use Rattle.col_codec.proofs.Ranges.{is_i64-fits}
+use Rattle.col_codec.proofs.Ranges.{fits-is_i64, is_i64-fits}
 use Rattle.log_model.specs.Field.{is_empty}
 use Rattle.log_model.specs.Order.{number_of}
-use Rattle.log_model.proofs.ValueOrder.{number_of-some}
+use Rattle.log_model.proofs.ValueOrder.{number_of-is, number_of-some}
 use Rattle.block_column.specs.Kinds.{Kind, constant, integers, dictionary, plain, kind_of, is_constant, are_integers}
 use Rattle.block_column.specs.Kinds.{is_number, is_short, fits_dictionary, first_of, integer_of, integers_in, distinct}
 use Rattle.block_column.specs.Kinds.{code_of, codes_of, body_of, dictionary_bytes}
@@ -115,7 +115,7 @@ first-integers ts ints e f k =
     let texts : map signed_decimal ints ≡ ts = ap (map signed_decimal) k ∙ (integers-are ts f).0 in (
       texts,
       record {
-        codes = tt;
+        codes = ap (list_all is_i64) k ∙ (integers-are ts f).1;
         narrow = tt;
         each = tt;
         kind = sym (ap kind_of texts ∙ is-integers ts e f);
@@ -169,6 +169,22 @@ first-dictionary ts held codes e f g h k =
     let same : codes_of ts ≡ codes = ap (λ (l : List (List ℕ)). map (code_of l) ts) (sym h) ∙ sym k in
     subst (λ (c : List ℕ). IsDictionary ts held c) same (subst (λ (l : List (List ℕ)). IsDictionary ts l (codes_of ts))
     (sym h) (dictionary-is ts e f g))
+
+-- the decimal texts of integers of 64 bits
+pub decimals-are : (ints : List ℤ) → list_all is_i64 ints ≡ true
+    → (are_integers (map signed_decimal ints) ≡ true) × (ints ≡ integers_in (map signed_decimal ints))
+decimals-are [] e = (refl, refl)
+decimals-are (z ∷ zs) e =
+    let parts = both_true (is_i64 z) (list_all is_i64 zs) e in
+    let more = decimals-are zs parts.1 in
+    let one : number_of (signed_decimal z) ≡ Some z = number_of-is (signed_decimal z) z (record {
+      spelled = refl;
+      fits = fits-is_i64 z parts.0;
+    }) in
+    let value : integer_of (signed_decimal z) ≡ z = ap (λ (o : Option ℤ). unwrap_or o (pos 0)) one in (
+      rw (ap is_some one) more.0,
+      ap (λ (x : ℤ). x ∷ zs) (sym value) ∙ ap (λ (l : List ℤ). integer_of (signed_decimal z) ∷ l) more.1,
+    )
 
 -- the test of a constant asks the first value too
 pub constant-tested : {X : Type 0} (f : X → List ℕ) (xs : List X) (d : X) → f d ≡ []

@@ -7,4 +7,6 @@ pub mod Within
 pub mod Rising
 pub mod Same
 pub mod Slots
+pub mod Apart
+pub mod Listed
 pub mod TagLaws

@@ -122,19 +122,16 @@ same-rising (x ∷ xs) (y ∷ ys) s t e =
         let none = not-behind y (x ∷ xs) (back, above-along y x xs back (sorted_head bytes_cmp x xs s)) in
         absurd (let no : true ≡ false = sym (first-listed y ys) ∙ sym (e y) ∙ none in cc)
 
--- what passes for all slots passes for a text that is in one
-pub listed-one : (texts : List (List ℕ)) (text : List ℕ) (slots : List (List ℕ))
-    → list_all (is_listed texts) slots ≡ true → is_listed slots text ≡ true → is_listed texts text ≡ true
-listed-one texts text [] all one = absurd cc
-listed-one texts text (s ∷ ss) all one =
-    by (bytes_eq text s) refl one (listed-one texts text ss (both_true (is_listed texts s) (list_all (is_listed texts)
-    ss) all).1)
+-- what passes for all passes for a text that is one of them
+pub each-listed : (p : List ℕ → Bool) (text : List ℕ) (texts : List (List ℕ)) → list_all p texts ≡ true
+    → is_listed texts text ≡ true → p text ≡ true
+each-listed p text [] all one = absurd cc
+each-listed p text (t ∷ ts) all one =
+    by (bytes_eq text t) refl one (each-listed p text ts (both_true (p t) (list_all p ts) all).1)
   where
-    by : (b : Bool) → bytes_eq text s ≡ b → (b || is_listed ss text) ≡ true
-        → (is_listed ss text ≡ true → is_listed texts text ≡ true) → is_listed texts text ≡ true
-    by true same h later =
-        ap (is_listed texts) ((bytes_eq-Decides text s).0 same)
-        ∙ (both_true (is_listed texts s) (list_all (is_listed texts) ss) all).0
+    by : (b : Bool) → bytes_eq text t ≡ b → (b || is_listed ts text) ≡ true
+        → (is_listed ts text ≡ true → p text ≡ true) → p text ≡ true
+    by true same h later = ap p ((bytes_eq-Decides text t).0 same) ∙ (both_true (p t) (list_all p ts) all).0
     by false same h later = later h
 
 -- what was there stays there

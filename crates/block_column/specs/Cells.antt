@@ -4,7 +4,7 @@ use Rattle.std.specs.List.{list_all}
 use Rattle.std.specs.Fmt.{signed_decimal}
 use Rattle.std.specs.Int.{w32}
 use Rattle.byte_format.specs.Written.{text_bytes}
-use Rattle.col_codec.specs.Ints.{int_spelling}
+use Rattle.col_codec.specs.Ints.{int_spelling, is_i64}
 use Rattle.col_codec.specs.Texts.{text_spelling}
 use Rattle.block_column.specs.Kinds.{Kind, constant, integers, dictionary, plain, kind_of, body_of, dictionary_bytes}
 use Rattle.block_column.specs.Kinds.{distinct, is_short}
@@ -22,10 +22,10 @@ texts_of (cells.Integers ints) = map signed_decimal ints
 texts_of (cells.Dictionary texts codes) = map (text_at texts.items) codes.items
 texts_of (cells.Plain texts) = texts
 
--- Each code stands for a text.
+-- Each integer has 64 bits, and each code stands for a text.
 abbrev pub IsCells : Cells → Type 0
 IsCells (cells.Constant text rows) = Unit {0}
-IsCells (cells.Integers ints) = Unit {0}
+IsCells (cells.Integers ints) = list_all is_i64 ints ≡ true
 IsCells (cells.Dictionary texts codes) = list_all (λ code. nat_lt code (length texts.items)) codes.items ≡ true
 IsCells (cells.Plain texts) = Unit {0}
 

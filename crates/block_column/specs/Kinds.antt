@@ -24,11 +24,12 @@ pub data Kind : Type 0 where
   dictionary : Kind
   plain : Kind
 
-abbrev pub is_of_integers : Kind → Bool
-is_of_integers constant = false
-is_of_integers integers = true
-is_of_integers dictionary = false
-is_of_integers plain = false
+-- equal values are held once
+abbrev pub is_held_once : Kind → Bool
+is_held_once constant = true
+is_held_once integers = false
+is_held_once dictionary = true
+is_held_once plain = false
 
 abbrev pub code_of_kind : Kind → ℕ
 code_of_kind constant = 0

@@ -1,7 +1,7 @@
 -- How long values are.
 use Rattle.std.specs.Prelude.{◌≡◌, ℕ, ◌^◌, Bool, ◌&&◌, max, List, length, nat_le, nat_lt, sum_by}
 use Rattle.std.specs.List.{fold, list_all, list_any}
-use Rattle.block_column.specs.declared.found.Lengths.{Lengths}
+use Rattle.block_column.specs.declared.lengths.Lengths.{Lengths}
 
 abbrev pub has_text : List ℕ → Bool
 has_text value = nat_lt 0 (length value)

@@ -1,6 +1,6 @@
 -- Tags, by which texts are told apart.
 use Rattle.std.specs.Prelude.{◌≡◌, ℕ, ◌+◌, ◌*◌, ◌-◌, ◌/◌, ◌%◌, ◌^◌, ◌<◌, List, [], ◌∷◌, bit_xor, length}
-use Rattle.std.specs.Prelude.{nat_le, nat_lt, slice_index, if◌then◌else◌}
+use Rattle.std.specs.Prelude.{Bool, false, nat_le, nat_lt, slice_index, slice_index_or, if◌then◌else◌}
 use Rattle.std.specs.Int.{w32, w64, from_le_bytes, rotate_left}
 
 -- the four bytes at this place
@@ -42,6 +42,10 @@ slot_at tag len = bit_xor tag len * 11400714819323198485 % 2 ^ 64 / 2 ^ 55
 
 abbrev pub slot_of : List ℕ → ℕ
 slot_of text = slot_at (tag_of text) (length text)
+
+-- whether the slot of the text is taken
+abbrev pub has_slot : List Bool → List ℕ → Bool
+has_slot taken text = slice_index_or taken (slot_of text) false
 
 -- They are bytes.
 abbrev pub AreBytes : List ℕ → Type 0

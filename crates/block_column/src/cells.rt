@@ -3,7 +3,7 @@
 ghost use Rattle.std.specs.Prelude.{◌≡◌, ◌<◌, Some, length, map, nat_lt, slice_get, true};
 ghost use Rattle.std.specs.List.{list_all};
 ghost use Rattle.block_column.specs.Cells.{IsCells, kind_in, text_at, texts_of};
-ghost use Rattle.block_column.specs.Kinds.{code_of_kind, is_of_integers};
+ghost use Rattle.block_column.specs.Kinds.{code_of_kind};
 ghost use Rattle.block_column.specs.Values.{value_text};
 
 use crate::column::Value;
@@ -33,13 +33,6 @@ pub(crate) fn kind_of(cells: &Cells) -> u8
         Cells::Dictionary(_, _) => 2,
         Cells::Plain(_) => 3,
     }
-}
-
-/// Whether integers are held.
-pub(crate) fn holds_integers(cells: &Cells) -> bool
-    ensures { result ≡ is_of_integers (kind_in cells.now) }
-{
-    matches!(cells, Cells::Integers(_))
 }
 
 /// How many rows there are.

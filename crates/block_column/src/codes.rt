@@ -7,16 +7,17 @@ ghost use Rattle.std.specs.List.Sorted.{IsStrictlySortedBy};
 ghost use Rattle.log_model.specs.Field.{bytes_cmp};
 ghost use Rattle.block_column.specs.Kinds.{code_of, distinct, fits_dictionary, is_listed, is_short};
 
+use crate::many::are_many;
 use crate::recent::{Recent, SLOTS, slot_of_text};
 use std::alloc::{AllocError, Global};
 use std::collections::BTreeSet;
 use vl_row::Text;
 
 /// The most distinct values that a dictionary has.
-const MAX_VALUES: usize = 255;
+pub(crate) const MAX_VALUES: usize = 255;
 
 /// The most bytes that a value of a dictionary has.
-const MAX_VALUE_LEN: usize = 256;
+pub(crate) const MAX_VALUE_LEN: usize = 256;
 
 /// Each value once, in byte order, if a dictionary can hold them.
 pub(crate) fn distinct_of(alloc: Global, values: &[&str]) -> Result<Option<Vec<Text>>, AllocError>
@@ -24,6 +25,9 @@ pub(crate) fn distinct_of(alloc: Global, values: &[&str]) -> Result<Option<Vec<T
         (λ texts. (fits_dictionary (map (λ t. t.now) values.now) ≡ true)
         × (texts.items ≡ distinct (map (λ t. t.now) values.now)))) }
 {
+    if are_many(alloc, values)? {
+        return Ok(None);
+    }
     match set_of(alloc, values)? {
         None => Ok(None),
         Some(set) => Ok(Some(listed(alloc, &set)?)),

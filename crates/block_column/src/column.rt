@@ -1,7 +1,7 @@
 //! Columns.
 
 ghost use Rattle.std.specs.Prelude.{◌≡◌, ◌<◌, ◌^◌, ◌++◌, IfErr, IfOk, List, Ok, OnOk, Some, length, map, slice_get};
-ghost use Rattle.std.specs.Prelude.{IfNone, IfSome, false, sum_by, true, ℕ};
+ghost use Rattle.std.specs.Prelude.{IfNone, IfSome, false, is_some, sum_by, true, ℕ};
 ghost use Rattle.std.specs.List.{list_all};
 ghost use Rattle.std.specs.Str.{is_utf8};
 ghost use Rattle.byte_format.specs.Format.{front};
@@ -9,23 +9,24 @@ ghost use Rattle.byte_format.specs.Gives.{Gives};
 ghost use Rattle.byte_format.specs.Spelling.{reading};
 ghost use Rattle.col_codec.specs.Answers.{AnswersAs, IsPlaceOf};
 ghost use Rattle.block_column.specs.Body.{body, column, column_spelling, column_writing};
-ghost use Rattle.block_column.specs.Kinds.{body_of, code_of_kind, is_of_integers, kind_of};
+ghost use Rattle.block_column.specs.Kinds.{body_of, code_of_kind, is_held_once, kind_of};
 ghost use Rattle.block_column.specs.Lengths.{HasLengths, are_within};
-ghost use Rattle.block_column.specs.Members.{HaveSameTexts, decimals_of};
+ghost use Rattle.block_column.specs.Members.{HaveSameTexts};
 ghost use Rattle.block_column.specs.Values.{value_text};
 
-use crate::cells::{Cells, holds_integers, kind_of, len_of, value_at};
-use crate::found::{Lengths, column_of};
+use crate::cells::{Cells, kind_of, len_of, value_at};
+use crate::kept::first_kind_of;
 use crate::kinds::first_kind;
-use crate::members::{decimals_of, members_of};
+use crate::lengths::{Lengths, lengths_of};
+use crate::members::members_of;
 use crate::put::put_cells;
 use crate::read::read;
+use crate::spelled::Spelled;
 use crate::take::take_cells;
 use byte_format::Stop;
 use col_codec::ColumnFault;
 use std::alloc::{AllocError, Global};
 use std::marker::Model;
-use vl_row::Text;
 
 /// A value of a column: its text, or the integer whose decimal text it is.
 #[derive(Clone, Copy, Debug)]
@@ -80,32 +81,16 @@ impl ValueColumn {
         value_at(&self.cells, i)
     }
 
-    /// Whether integers are held, so that their decimal texts would have to be made anew.
-    pub fn holds_integers(&self) -> bool
-        ensures { result ≡ is_of_integers (kind_of self.now) }
+    /// The distinct values, each once, if equal values are held once, and else none.
+    pub fn members<'a>(&'a self, alloc: Global) -> Result<Option<Vec<&'a str>>, AllocError>
+        requires { sum_by length self.now < 2 ^ 32 }
+        ensures once { IfOk result (λ found. is_some found ≡ is_held_once (kind_of self.now)) }
+        ensures same { IfOk result (λ found. IfSome found (λ texts.
+            HaveSameTexts (map (λ t. t.now) texts.items) self.now)) }
+        ensures small { IfOk result (λ found. IfSome found (λ texts.
+            sum_by (λ t. length t.now) texts.items < 2 ^ 32)) }
     {
-        holds_integers(&self.cells)
-    }
-
-    /// The decimal texts of the integers, if the column holds integers, and else none.
-    pub fn decimals(&self, alloc: Global) -> Result<Vec<Text>, AllocError>
-        ensures { IfOk result (λ texts. texts.items ≡ decimals_of self.now) }
-    {
-        decimals_of(alloc, &self.cells)
-    }
-
-    /// Texts among which is each value, and nothing else. For a column of integers they are the decimal texts.
-    pub fn members<'a>(
-        &'a self,
-        alloc: Global,
-        decimals: &'a [Text],
-    ) -> Result<Vec<&'a str>, AllocError>
-        requires decimals { decimals.now ≡ decimals_of self.now }
-        requires small { sum_by length self.now < 2 ^ 32 }
-        ensures same { IfOk result (λ texts. HaveSameTexts (map (λ t. t.now) texts.items) self.now) }
-        ensures small { IfOk result (λ texts. sum_by (λ t. length t.now) texts.items < 2 ^ 32) }
-    {
-        members_of(alloc, &self.cells, decimals)
+        members_of(alloc, &self.cells)
     }
 
     /// The number of the kind.
@@ -187,20 +172,33 @@ impl FoundColumn {
         Ok((FoundColumn { cells }, rest))
     }
 
-    /// The same values in the first kind that fits, and how long they are, unless one of them has more bytes than
-    /// `most`, or all together 2^32 or more. All are in UTF-8.
+    /// The same values, with what is needed to lend their texts.
+    pub fn spelled(&self, alloc: Global) -> Result<Spelled<'_>, AllocError>
+        ensures { IfOk result (λ spelled. spelled ≡ self.now) }
+    {
+        Spelled::of(alloc, &self.cells)
+    }
+
+    /// The same values, whose texts are at hand, in the first kind that fits, and how long they are, unless one of them
+    /// has more bytes than `most`, or all together 2^32 or more. All are in UTF-8.
     pub fn to_column(
         &self,
         alloc: Global,
+        texts: &[&str],
         most: usize,
     ) -> Result<Option<(ValueColumn, Lengths)>, AllocError>
+        requires { map (λ t. t.now) texts.now ≡ self.now }
         ensures column { IfOk result (λ found. IfSome found (λ x. x.0 ≡ self.now)) }
         ensures lengths { IfOk result (λ found. IfSome found (λ x. HasLengths x.1 self.now)) }
         ensures texts { IfOk result (λ found. IfSome found (λ x. list_all is_utf8 self.now ≡ true)) }
         ensures within { IfOk result (λ found. IfSome found (λ x. are_within most self.now ≡ true)) }
         ensures none { IfOk result (λ found. IfNone found (are_within most self.now ≡ false)) }
     {
-        column_of(alloc, &self.cells, most)
+        let Some(lengths) = lengths_of(texts, most) else {
+            return Ok(None);
+        };
+        let cells = first_kind_of(alloc, &self.cells, texts)?;
+        Ok(Some((ValueColumn { cells }, lengths)))
     }
 
     /// How many rows there are.

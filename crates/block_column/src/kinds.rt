@@ -33,7 +33,7 @@ pub(crate) fn first_kind(alloc: Global, values: &[&str]) -> Result<Cells, AllocE
 }
 
 /// The value that all rows have, unless it is empty.
-fn constant<'a>(values: &[&'a str]) -> Option<&'a str>
+pub(crate) fn constant<'a>(values: &[&'a str]) -> Option<&'a str>
     ensures some { IfSome result (λ value. (is_constant (map (λ t. t.now) values.now) ≡ true)
         × (first_of (map (λ t. t.now) values.now) ≡ value.now)) }
     ensures none { IfNone result (is_constant (map (λ t. t.now) values.now) ≡ false) }
@@ -61,7 +61,7 @@ fn are_all(values: &[&str], first: &str) -> bool
 }
 
 /// The integers whose decimal texts all values are.
-fn integers(alloc: Global, values: &[&str]) -> Result<Option<Vec<i64>>, AllocError>
+pub(crate) fn integers(alloc: Global, values: &[&str]) -> Result<Option<Vec<i64>>, AllocError>
     ensures { IfOk result (λ found. MatchOption found (are_integers (map (λ t. t.now) values.now) ≡ false)
         (λ ints. (are_integers (map (λ t. t.now) values.now) ≡ true)
         × (ints.items ≡ integers_in (map (λ t. t.now) values.now)))) }

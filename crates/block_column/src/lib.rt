@@ -5,15 +5,20 @@
 mod cells;
 mod codes;
 mod column;
-mod found;
+mod dictionary;
+mod kept;
 mod kinds;
+mod lengths;
+mod many;
 mod members;
 mod put;
 mod read;
 mod recent;
+mod spelled;
 mod take;
 
 pub use column::{FoundColumn, Value, ValueColumn};
-pub use found::Lengths;
+pub use lengths::Lengths;
 pub use recent::Recent;
+pub use spelled::Spelled;
 pub use take::take_kind;

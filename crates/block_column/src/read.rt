@@ -1,26 +1,44 @@
 //! Reading columns that stand alone.
 
-ghost use Rattle.std.specs.Prelude.{◌≡◌, IfOk, Ok, Some, length};
+ghost use Rattle.std.specs.Prelude.{◌≡◌, ◌-◌, ◌^◌, IfNone, IfOk, IfSome, Ok, Some, false, length, true};
+ghost use Rattle.std.specs.List.{list_all};
+ghost use Rattle.std.specs.Str.{is_utf8};
 ghost use Rattle.byte_format.specs.Format.{front, whole};
 ghost use Rattle.byte_format.specs.Gives.{Gives};
 ghost use Rattle.byte_format.specs.Spelling.{reading};
 ghost use Rattle.block_column.specs.Body.{column, column_steps, column_writing};
+ghost use Rattle.block_column.specs.Lengths.{are_within};
 
 use crate::column::{FoundColumn, ValueColumn};
 use crate::take::take_kind;
 use byte_format::{Stop, first_difference};
-use std::alloc::Global;
+use std::alloc::{AllocError, Global};
 
 /// The column of so many rows whose spelling the bytes are, or how many bytes are left from the damaged item on.
 pub(crate) fn read(alloc: Global, rows: usize, bytes: &[u8]) -> Result<ValueColumn, Stop>
     ensures { Gives (λ values. values) result (reading (column rows) (column_writing rows) bytes.now) }
 {
     let found = take_whole(alloc, rows, bytes)?;
-    let Some((values, _)) = found.to_column(alloc, usize::MAX)? else {
+    let Some(values) = to_column(alloc, &found)? else {
         return Err(Stop::Left(bytes.len()));
     };
     let spelling = values.to_bytes(alloc)?;
     compared(alloc, rows, bytes, values, spelling.as_slice())
+}
+
+/// The same values in the first kind that fits, unless they are too long together.
+fn to_column(alloc: Global, found: &FoundColumn) -> Result<Option<ValueColumn>, AllocError>
+    ensures column { IfOk result (λ made. IfSome made (λ values. values ≡ found.now)) }
+    ensures texts { IfOk result (λ made. IfSome made (λ values. list_all is_utf8 found.now ≡ true)) }
+    ensures within { IfOk result (λ made. IfSome made (λ values. are_within (2 ^ 64 - 1) found.now ≡ true)) }
+    ensures none { IfOk result (λ made. IfNone made (are_within (2 ^ 64 - 1) found.now ≡ false)) }
+{
+    let spelled = found.spelled(alloc)?;
+    let texts = spelled.texts(alloc)?;
+    match found.to_column(alloc, texts.as_slice(), usize::MAX)? {
+        Some((values, _)) => Ok(Some(values)),
+        None => Ok(None),
+    }
 }
 
 fn take_whole(alloc: Global, rows: usize, bytes: &[u8]) -> Result<FoundColumn, Stop>

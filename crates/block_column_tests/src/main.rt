@@ -6,8 +6,8 @@
 //! A line `made` gives a number of distinct values and how many bytes each has; the program writes the kind of their
 //! column, how many bytes it has, and whether they are read again.
 //!
-//! A line `parts` gives values; the program writes the kind and the body of their column, the decimal texts that it
-//! has, and its members. A line `found` gives a number of rows, the most bytes of a value, and the bytes of a
+//! A line `parts` gives values; the program writes the kind and the body of their column, and its members or that it
+//! has none. A line `found` gives a number of rows, the most bytes of a value, and the bytes of a
 //! column of any kind; the program writes what they say, and then the kind of the column of these values and how
 //! long they are. A line `recent` gives texts; of each the program writes whether its slot had another, and
 //! remembers it. The answers are those of a plain reader in Python.

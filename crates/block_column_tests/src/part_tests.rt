@@ -7,7 +7,7 @@ use byte_format::Stop;
 use std::alloc::{AllocError, Global};
 use std::fmt::Write;
 
-/// The kind, the body, the decimal texts and the members of the column of these values.
+/// The kind, the body and the members of the column of these values.
 pub fn parts_text(alloc: Global, values: &[&str]) -> Result<String, AllocError>
     requires { sum_by (λ t. length t.now) values.now < 2 ^ 32 }
 {
@@ -16,15 +16,17 @@ pub fn parts_text(alloc: Global, values: &[&str]) -> Result<String, AllocError>
     column.put_body(&mut body)?;
     let mut answer = format!(in alloc; "{} ", column.kind())?;
     push_digits(&mut answer, body.as_slice())?;
-    let decimals = column.decimals(alloc)?;
-    for text in &decimals {
-        let _ = write!(answer, " {}", text.as_str());
-    }
-    let members = column.members(alloc, decimals.as_slice())?;
-    for text in &members {
-        let _ = write!(answer, " [{text}]");
+    match column.members(alloc)? {
+        Some(members) => push_members(&mut answer, members.as_slice()),
+        None => answer.push_str(" none")?,
     }
     Ok(answer)
+}
+
+fn push_members(answer: &mut String, members: &[&str]) {
+    for text in members {
+        let _ = write!(answer, " [{text}]");
+    }
 }
 
 /// What bytes say that are a column of so many rows, and the column of these values.
@@ -65,7 +67,9 @@ fn push_column(
     found: &FoundColumn,
     most: usize,
 ) -> Result<(), AllocError> {
-    match found.to_column(alloc, most)? {
+    let spelled = found.spelled(alloc)?;
+    let texts = spelled.texts(alloc)?;
+    match found.to_column(alloc, texts.as_slice(), most)? {
         Some((column, lengths)) => {
             let bytes = column.to_bytes(alloc)?;
             answer.push(' ')?;

@@ -97,7 +97,7 @@ fn column_text(alloc: Global, name: &str, values: &[&str]) -> Result<String, All
         return format!(in alloc; "too long a name");
     }
     let column = ValueColumn::try_of(alloc, values)?;
-    let filter = filter_of_column(alloc, &column)?;
+    let filter = filter_of_column(alloc, &column, values)?;
     let mut bytes = Vec::new(alloc);
     put_column(&mut bytes, name, &filter, &column)?;
     let mut text = String::new(alloc);

@@ -76,6 +76,15 @@ impl TextColumn {
         text_at(self.bytes.as_slice(), self.ends.as_slice(), i)
     }
 
+    /// An equal column, in memory of its own.
+    pub fn try_copy(&self, alloc: Global) -> Result<TextColumn, AllocError>
+        ensures { IfOk result (λ column. column ≡ self.now) }
+    {
+        let bytes = self.bytes.to_vec(alloc)?;
+        let ends = self.ends.to_vec(alloc)?;
+        Ok(TextColumn { bytes, ends })
+    }
+
     /// The one spelling of the column: an offset of 0, the offset at which each text ends, and then the texts.
     pub fn to_bytes(&self, alloc: Global) -> Result<Vec<u8>, AllocError>
         ensures { IfOk result (λ bytes. bytes.items ≡ text_spelling self.now) }

@@ -102,8 +102,20 @@ fn take_joined<'a>(
     Ok((item.to_vec(alloc)?, rest))
 }
 
-/// Whether each of the parts that end at these places is UTF-8.
+/// Whether each of the parts that end at these places is UTF-8. Where all bytes are ASCII, they need not be looked at
+/// one by one.
 fn are_texts(bytes: &[u8], ends: &[u32]) -> bool
+    requires rising { IsRising 0 ends.now }
+    requires all { last_of ends.now ≡ length bytes.now }
+    ensures { result ≡ list_all is_utf8 (parts bytes.now 0 ends.now) }
+{
+    if bytes.is_ascii() {
+        return true;
+    }
+    are_each_texts(bytes, ends)
+}
+
+fn are_each_texts(bytes: &[u8], ends: &[u32]) -> bool
     requires rising { IsRising 0 ends.now }
     requires all { last_of ends.now ≡ length bytes.now }
     ensures { result ≡ list_all is_utf8 (parts bytes.now 0 ends.now) }

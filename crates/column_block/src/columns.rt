@@ -9,7 +9,7 @@ use block_column::ValueColumn;
 use row_columns::column_values;
 use std::alloc::{AllocError, Global};
 use vl_row::{Numbered, Text};
-use word_filter::{filter_of, filter_of_column};
+use word_filter::filter_of_column;
 
 /// The columns of these names: their heads, and their values.
 pub(crate) fn columns_of(
@@ -42,12 +42,7 @@ fn column_of(
 {
     let values = column_values(alloc, rows, name.as_str())?;
     let column = ValueColumn::try_of(alloc, values.as_slice())?;
-    let bloom = if column.holds_integers() {
-        // Their texts are here already.
-        filter_of(alloc, values.as_slice())?
-    } else {
-        filter_of_column(alloc, &column)?
-    };
+    let bloom = filter_of_column(alloc, &column, values.as_slice())?;
     let name = name.try_copy(alloc)?;
     Ok((ColumnHead::new(name, bloom), column))
 }

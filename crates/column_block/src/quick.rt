@@ -177,13 +177,15 @@ fn filled_column(
     ensures lengths { IfOk result (λ found. IfSome found (λ x. HasLengths x.2 column.now.1)) }
     ensures filled { IfOk result (λ found. IfSome found (λ x. IsFilled column.now)) }
 {
-    let Some((values, lengths)) = column.values.to_column(alloc, most)? else {
+    let spelled = column.values.spelled(alloc)?;
+    let texts = spelled.texts(alloc)?;
+    let Some((values, lengths)) = column.values.to_column(alloc, texts.as_slice(), most)? else {
         return Ok(None);
     };
     if !lengths.some {
         return Ok(None);
     }
-    let bloom = filter_of_column(alloc, &values)?;
+    let bloom = filter_of_column(alloc, &values, texts.as_slice())?;
     let name = column.name.try_copy(alloc)?;
     Ok(Some((ColumnHead::new(name, bloom), values, lengths)))
 }

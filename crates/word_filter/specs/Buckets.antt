@@ -1,23 +1,36 @@
--- Words in buckets by their hashes.
-use Rattle.std.specs.Prelude.{◌≡◌, ℕ, ◌*◌, ◌/◌, ◌%◌, ◌^◌, ◌<◌, ◌==◌, Bool, List, [], ◌∷◌, ◌++◌}
-use Rattle.std.specs.Prelude.{length, slice_index_or, slice_set}
-use Rattle.std.specs.List.{filter}
+-- Words in buckets by their hashes. Of each bucket the first word is kept apart from the others.
+use Rattle.std.specs.Prelude.{◌≡◌, ℕ, ◌-◌, ◌*◌, ◌/◌, ◌%◌, ◌^◌, ◌<◌, Bool, true, not, ◌&&◌, nat_le, nat_lt, List, []}
+use Rattle.std.specs.Prelude.{bytes_eq, length, slice_index_or}
+use Rattle.std.specs.List.{IsDistinct, list_all}
+use Rattle.token_bloom.specs.Bits.{fnv}
 
 -- the bucket of a hash, of so many: the hash is mixed first, since short words differ in few of its bits
 abbrev pub bucket_of : ℕ → ℕ → ℕ
 bucket_of count hash = hash * 11400714819323198485 % 2 ^ 64 * count / 2 ^ 64
 
--- The word with this hash belongs into this one of so many buckets.
-abbrev pub is_in : {T : Type 0} → ℕ → ℕ → ℕ × T → Bool
-is_in count i word = bucket_of count word.0 == i
+-- which word is the first of the bucket that the text belongs into, counted from 1, or 0 where there is none
+abbrev pub number_for : List ℕ → List ℕ → ℕ
+number_for buckets text = slice_index_or buckets (bucket_of (length buckets) (fnv text)) 0
 
--- Each bucket has the words that belong into it, in their order.
-abbrev pub AreInBuckets : {T : Type 0} → List (ℕ × T) → List (List (ℕ × T)) → Type 0
-AreInBuckets words buckets =
-    (i : ℕ) → i < length buckets → slice_index_or buckets i [] ≡ filter (is_in (length buckets) i) words
+abbrev pub has_some : List ℕ → List ℕ → Bool
+has_some buckets text = nat_lt 0 (number_for buckets text)
 
--- the buckets with one more word, which is put behind those of its bucket
-abbrev pub with_word_in : {T : Type 0} → List (List (ℕ × T)) → ℕ × T → List (List (ℕ × T))
-with_word_in buckets word =
-    slice_set buckets (bucket_of (length buckets) word.0)
-    (slice_index_or buckets (bucket_of (length buckets) word.0) [] ++ word ∷ [])
+-- the first word of the bucket that the text belongs into
+abbrev pub first_for : List ℕ → List (List ℕ) → List ℕ → List ℕ
+first_for buckets firsts text = slice_index_or firsts (number_for buckets text - 1) []
+
+-- The text is the first word of its bucket.
+abbrev pub is_first : List ℕ → List (List ℕ) → List ℕ → Bool
+is_first buckets firsts text = has_some buckets text && bytes_eq (first_for buckets firsts text) text
+
+-- The bucket that the text belongs into has another first word.
+abbrev pub is_other : List ℕ → List (List ℕ) → List ℕ → Bool
+is_other buckets firsts text = has_some buckets text && not (bytes_eq (first_for buckets firsts text) text)
+
+-- The first words are those of their buckets, and the others are not.
+pub record AreApart (buckets : List ℕ) (firsts others : List (List ℕ)) : Type 0 where
+  pub some : 0 < length buckets
+  pub numbers : list_all (λ number. nat_le number (length firsts)) buckets ≡ true
+  pub first : list_all (is_first buckets firsts) firsts ≡ true
+  pub other : list_all (is_other buckets firsts) others ≡ true
+  pub once : IsDistinct bytes_eq firsts

@@ -20,7 +20,7 @@ ghost use Rattle.word_filter.specs.Words.{filter_of, filter_steps, is_there, put
 mod buckets;
 mod fresh;
 
-use crate::buckets::in_buckets;
+use crate::buckets::{MOST_NUMBERED, firsts_and_others};
 use crate::fresh::fresh_part;
 use block_column::{Recent, ValueColumn};
 use byte_format::{Stop, put_u64s, take_u32, take_u64};
@@ -47,17 +47,29 @@ pub fn filter_of(alloc: Global, values: &[&str]) -> Result<Bloom, AllocError>
     Ok(bloom)
 }
 
-/// The same, for the values of a column. Its words are taken of distinct values alone where the column has those.
-pub fn filter_of_column(alloc: Global, column: &ValueColumn) -> Result<Bloom, AllocError>
-    requires { sum_by length column.now < 2 ^ 32 }
+/// The same, for the values of a column, whose texts are at hand. Its words are taken of distinct values alone where the
+/// column holds those.
+pub fn filter_of_column(
+    alloc: Global,
+    column: &ValueColumn,
+    values: &[&str],
+) -> Result<Bloom, AllocError>
+    requires values { map (λ t. t.now) values.now ≡ column.now }
+    requires small { sum_by length column.now < 2 ^ 32 }
     ensures filter { IfOk result (λ bloom. bloom ≡ filter_of column.now) }
     ensures words { IfOk result (λ bloom. All (HasWords bloom) column.now) }
     ensures small { IfOk result (λ bloom. length bloom < 2 ^ 32) }
 {
-    let decimals = column.decimals(alloc)?;
-    let members = column.members(alloc, decimals.as_slice())?;
-    let bloom = filter_of(alloc, members.as_slice())?;
-    Ok(bloom)
+    match column.members(alloc)? {
+        Some(members) => {
+            let bloom = filter_of(alloc, members.as_slice())?;
+            Ok(bloom)
+        }
+        None => {
+            let bloom = filter_of(alloc, values)?;
+            Ok(bloom)
+        }
+    }
 }
 
 /// What a search for words may rest on: the filter of some values says of no word of theirs that it is not there. This
@@ -68,8 +80,7 @@ pub fn filter_law()
 
 /// The words of the values, each once, with their hashes.
 ///
-/// They are sorted bucket by bucket, and in no hash table: who chooses the words cannot make this slower than sorting
-/// all of them is.
+/// Who chooses the words can make them meet in a few buckets, and then this takes as long as sorting all of them.
 fn distinct_words<'a>(alloc: Global, values: &[&'a str]) -> Result<Vec<(u64, &'a str)>, AllocError>
     ensures words { IfOk result (λ words. distinct (map (λ w. w.1.now) words.items)
         ≡ column_words (map (λ t. t.now) values.now)) }
@@ -83,7 +94,7 @@ fn distinct_words<'a>(alloc: Global, values: &[&'a str]) -> Result<Vec<(u64, &'a
     Ok(words)
 }
 
-/// Keeps the words, each once. They are sorted bucket by bucket, for which so much memory again is taken.
+/// Keeps the words, each once. Most are told apart by their buckets, and those that are not are sorted.
 fn keep_each_once<'a>(alloc: Global, words: &mut Vec<(u64, &'a str)>) -> Result<(), AllocError>
     requires { All (λ w. w.0 ≡ fnv w.1.now) words.old.items }
     ensures same { OnOk result (HaveSameTexts (map (λ w. w.1.now) words.new.items)
@@ -91,12 +102,16 @@ fn keep_each_once<'a>(alloc: Global, words: &mut Vec<(u64, &'a str)>) -> Result<
     ensures once { OnOk result (IsDistinct bytes_eq (map (λ w. w.1.now) words.new.items)) }
     ensures hashes { OnOk result (All (λ w. w.0 ≡ fnv w.1.now) words.new.items) }
 {
-    let mut buckets = in_buckets(alloc, words.as_slice())?;
-    words.clear();
-    while let Some(mut bucket) = buckets.pop() {
-        keep_once(&mut bucket);
-        words.extend_from_slice(bucket.as_slice())?;
+    if words.len() > MOST_NUMBERED {
+        keep_once(words);
+        return Ok(());
     }
+    let (firsts, others) = firsts_and_others(alloc, words.as_slice())?;
+    let (more, mut left) = firsts_and_others(alloc, others.as_slice())?;
+    keep_once(&mut left);
+    *words = firsts;
+    words.extend_from_slice(more.as_slice())?;
+    words.extend_from_slice(left.as_slice())?;
     Ok(())
 }
 

@@ -70,7 +70,7 @@ fn column_made(alloc: Global, values: &[&str]) -> Result<String, AllocError>
     requires { sum_by (λ t. length t.now) values.now < 2 ^ 32 }
 {
     let column = ValueColumn::try_of(alloc, values)?;
-    let bloom = filter_of_column(alloc, &column)?;
+    let bloom = filter_of_column(alloc, &column, values)?;
     let other = filter_of(alloc, values)?;
     let same = bloom.as_slice() == other.as_slice();
     let filter = shown(alloc, &bloom)?;

@@ -1,14 +1,24 @@
-use Rattle.std.proofs.Common.{◌∙◌, ℕ, List, Bor, ap, map}
+use Rattle.std.proofs.Common.{◌≡◌, ◌∙◌, ℕ, List, Bor, ap, map}
+use Rattle.block_column.specs.Members.{HaveSameTexts}
 use Rattle.word_filter.specs.Words.{filter_of}
 use Rattle.word_filter.proofs.Kept.{leaves_none_out}
 use Rattle.word_filter.proofs.Sets.{same-filter, text_of}
 use Rattle.word_filter.proofs.filter_of_column.Goals as goal
 
-pub returns-clause-filter : goal.returns-clause-filter
-returns-clause-filter c =
-    c.in_ok-bloom.ensures.filter
-    ∙ ap (λ (l : List (Bor (List ℕ))). filter_of (map text_of l)) c.as_slice-2.ensures.value
-    ∙ same-filter (map text_of c.in_ok-members.members.items) c.args.column.now c.in_ok-members.ensures.same
+pub returns-in_ok-bloom-in-Some-clause-filter : goal.returns-in_ok-bloom-in-Some-clause-filter
+returns-in_ok-bloom-in-Some-clause-filter c =
+    let same : HaveSameTexts (map text_of c.in-Some.members.items) c.args.column.now = rw c.in-Some.is at
+    c.in_ok-members.ensures.same in
+    c.in_ok-bloom-in-Some.ensures.filter
+    ∙ ap (λ (l : List (Bor (List ℕ))). filter_of (map text_of l)) c.as_slice.ensures.value
+    ∙ same-filter (map text_of c.in-Some.members.items) c.args.column.now same
 
-pub returns-clause-words : goal.returns-clause-words
-returns-clause-words c = rw (returns-clause-filter c) (leaves_none_out c.args.column.now)
+pub returns-in_ok-bloom-in-Some-clause-words : goal.returns-in_ok-bloom-in-Some-clause-words
+returns-in_ok-bloom-in-Some-clause-words c =
+    rw (returns-in_ok-bloom-in-Some-clause-filter c) (leaves_none_out c.args.column.now)
+
+pub returns-in_ok-bloom-in-None-clause-words : goal.returns-in_ok-bloom-in-None-clause-words
+returns-in_ok-bloom-in-None-clause-words c =
+    let filter : c.in_ok-bloom-in-None.bloom ≡ filter_of c.args.column.now = c.in_ok-bloom-in-None.ensures.filter
+    ∙ ap filter_of c.requires.values in
+    rw filter (leaves_none_out c.args.column.now)

@@ -1,39 +1,39 @@
-use Rattle.std.proofs.Common.{◌≡◌, ◌∙◌, ◌∷◌, [], ◌++◌, List, Vec, Global, ap, arith, map, subst}
-use Rattle.std.proofs.lemmas.List.{length-map, map-append, nil_from_length}
-use Rattle.word_filter.proofs.InBuckets.{AreOnce, all-taken, last-hashed, none-taken, one-taken}
-use Rattle.word_filter.proofs.Sorted.{Hashed}
+use Rattle.std.proofs.Common.{◌≡◌, ◌∙◌, ◌++◌, List, ℕ, ap, ap₂, map}
+use Rattle.std.proofs.lemmas.List.{map-append}
+use Rattle.std.proofs.lemmas.List.Elements.{All-append}
+use Rattle.word_filter.proofs.Firsts.{three-distinct, three-same}
+use Rattle.word_filter.proofs.Sorted.{HasItsHash, Hashed, text_in}
 use Rattle.word_filter.proofs.keep_each_once.Goals as goal
 
-abbrev words_in : Vec Hashed Global → List Hashed
-words_in b = b.items
+abbrev joined : List (List ℕ) → List (List ℕ) → List (List ℕ)
+joined xs ys = xs ++ ys
 
-pub loop-bucket-init : goal.loop-bucket-init
-loop-bucket-init c =
-    rw c.clear.ensures.items (none-taken c.args.words.now.items (map words_in c.in_ok-buckets.buckets.items)
-    (omega (arith, c.in_ok-buckets.ensures.some, length-map c.in_ok-buckets.buckets.items words_in))
-    (rw c.as_slice.ensures.value at c.in_ok-buckets.ensures.words))
-
-pub keep_once-requires : goal.keep_once-requires
-keep_once-requires c =
-    let last : map words_in c.loop-bucket.buckets.items ≡ map words_in c.pop.new.self.items ++ c.in-Some.bucket.items ∷ [] =
-    ap (map words_in) c.in-Some.ensures.items ∙ map-append words_in c.pop.new.self.items (c.in-Some.bucket ∷ []) in
-    record {
-      hashes = last-hashed c.args.words.now.items c.loop-bucket.words.items c.in-Some.bucket.items
-          (map words_in c.pop.new.self.items) (map words_in c.loop-bucket.buckets.items) c.requires last c.loop-bucket.invariant;
-    }
-
-pub loop-bucket-preserved : goal.loop-bucket-preserved
-loop-bucket-preserved c =
-    let last : map words_in c.loop-bucket.buckets.items ≡ map words_in c.pop.new.self.items ++ c.in-Some.bucket.items ∷ [] =
-    ap (map words_in) c.in-Some.ensures.items ∙ map-append words_in c.pop.new.self.items (c.in-Some.bucket ∷ []) in
-    rw (c.in_ok-extend_from_slice.ensures.items, c.as_slice-in-Some.ensures.value) (one-taken c.args.words.now.items
-    c.loop-bucket.words.items c.in-Some.bucket.items c.keep_once.new.words.items (map words_in c.pop.new.self.items)
-    (map words_in c.loop-bucket.buckets.items) c.requires last c.loop-bucket.invariant c.keep_once.ensures.same
-    c.keep_once.ensures.once c.keep_once.ensures.hashes)
+pub returns-clause-once : goal.returns-clause-once
+returns-clause-once c =
+    let firsts = c.in_ok-firsts.firsts.items in
+    let texts : map text_in c.extend_from_slice-2.new.self.items
+    ≡ (map text_in c.in_ok-firsts.firsts.items ++ map text_in c.in_ok-more.more.items) ++ map text_in c.keep_once-2.new.words.items =
+    ap (map text_in) (c.in_ok-extend_from_slice-2.ensures.items ∙ ap (λ (l : List Hashed). l ++ c.as_slice-4.result.now)
+    c.in_ok-extend_from_slice.ensures.items)
+    ∙ map-append text_in (firsts ++ c.as_slice-3.result.now) c.as_slice-4.result.now
+    ∙ ap₂ joined (map-append text_in firsts c.as_slice-3.result.now ∙ ap (λ (l : List Hashed). map text_in firsts ++ map text_in l)
+    c.as_slice-3.ensures.value) (ap (map text_in) c.as_slice-4.ensures.value) in
+    rw texts (three-distinct (map text_in c.in_ok-firsts.firsts.items) (map text_in c.in_ok-firsts.others.items)
+    (map text_in c.in_ok-more.more.items) (map text_in c.in_ok-more.left.items) (map text_in c.keep_once-2.new.words.items)
+    c.in_ok-firsts.ensures.once c.in_ok-firsts.ensures.apart (rw c.as_slice-2.ensures.value at c.in_ok-more.ensures.same)
+    c.in_ok-more.ensures.once c.in_ok-more.ensures.apart c.keep_once-2.ensures.same c.keep_once-2.ensures.once)
 
 pub returns-clause-same : goal.returns-clause-same
 returns-clause-same c =
-    all-taken c.args.words.now.items c.loop-bucket.words.items
-    (subst (λ l. AreOnce c.args.words.now.items c.loop-bucket.words.items (map words_in l))
-    (nil_from_length c.loop-bucket.buckets.items (omega (arith, c.loop-bucket.buckets.ok.0, c.in_default.ensures.cases.0)))
-    c.loop-bucket.invariant)
+    let firsts = c.in_ok-firsts.firsts.items in
+    let texts : map text_in c.extend_from_slice-2.new.self.items
+    ≡ (map text_in c.in_ok-firsts.firsts.items ++ map text_in c.in_ok-more.more.items) ++ map text_in c.keep_once-2.new.words.items =
+    ap (map text_in) (c.in_ok-extend_from_slice-2.ensures.items ∙ ap (λ (l : List Hashed). l ++ c.as_slice-4.result.now)
+    c.in_ok-extend_from_slice.ensures.items)
+    ∙ map-append text_in (firsts ++ c.as_slice-3.result.now) c.as_slice-4.result.now
+    ∙ ap₂ joined (map-append text_in firsts c.as_slice-3.result.now ∙ ap (λ (l : List Hashed). map text_in firsts ++ map text_in l)
+    c.as_slice-3.ensures.value) (ap (map text_in) c.as_slice-4.ensures.value) in
+    rw texts (three-same (map text_in c.args.words.now.items) (map text_in c.in_ok-firsts.firsts.items)
+    (map text_in c.in_ok-firsts.others.items) (map text_in c.in_ok-more.more.items) (map text_in c.in_ok-more.left.items)
+    (map text_in c.keep_once-2.new.words.items) (rw c.as_slice.ensures.value at c.in_ok-firsts.ensures.same)
+    (rw c.as_slice-2.ensures.value at c.in_ok-more.ensures.same) c.keep_once-2.ensures.same)

@@ -4,7 +4,7 @@ use Rattle.log_model.specs.Field.{bytes_cmp}
 use Rattle.block_column.specs.Kinds.{is_listed}
 use Rattle.block_column.proofs.Distinct.{map-put, put-has}
 use Rattle.block_column.proofs.Rising.{put-again}
-use Rattle.block_column.proofs.Same.{listed-kept, listed-one}
+use Rattle.block_column.proofs.Same.{each-listed, listed-kept}
 use Rattle.block_column.proofs.codes.put_value.Goals as goal
 
 abbrev now_of : Bor (List ℕ) → List ℕ
@@ -12,13 +12,13 @@ now_of t = t.now
 
 pub returns-else-insert-clause-values : goal.returns-else-insert-clause-values
 returns-else-insert-clause-values c =
-    sym (put-again c.args.value.now (map now_of c.args.set.now.keys) c.requires.rising (listed-one (map now_of
-    c.args.set.now.keys) c.args.value.now c.args.recent.now c.requires.recent (c.insert.ensures.had c.if-insert.false)))
+    sym (put-again c.args.value.now (map now_of c.args.set.now.keys) c.requires.rising (each-listed (is_listed (map now_of
+    c.args.set.now.keys)) c.args.value.now c.args.recent.now c.requires.recent (c.insert.ensures.had c.if-insert.false)))
 
 pub returns-else-insert-clause-recent : goal.returns-else-insert-clause-recent
 returns-else-insert-clause-recent c =
     c.insert.ensures.kept (is_listed (map now_of c.args.set.now.keys)) c.requires.recent
-    (listed-one (map now_of c.args.set.now.keys) c.args.value.now c.args.recent.now c.requires.recent
+    (each-listed (is_listed (map now_of c.args.set.now.keys)) c.args.value.now c.args.recent.now c.requires.recent
     (c.insert.ensures.had c.if-insert.false))
 
 pub returns-in_ok-insert-clause-values : goal.returns-in_ok-insert-clause-values

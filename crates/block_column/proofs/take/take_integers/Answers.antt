@@ -21,3 +21,7 @@ pub returns-clause-count : goal.returns-clause-count
 returns-clause-count c =
     length-map c.in_ok-ints.ints signed_decimal
     ∙ (ints-hold c.args.rows c.args.bytes.now (c.in_ok-ints.ints, c.in_ok-ints.rest.now) c.in_ok-ints.ensures).0
+
+pub returns-clause-codes : goal.returns-clause-codes
+returns-clause-codes c =
+    (ints-hold c.args.rows c.args.bytes.now (c.in_ok-ints.ints, c.in_ok-ints.rest.now) c.in_ok-ints.ensures).1

@@ -1,6 +1,0 @@
-use Rattle.std.proofs.Common.{◌≡◌, map, take}
-use Rattle.block_column.specs.Cells.{text_at}
-use Rattle.block_column.proofs.found.coded_texts.Given as goal
-
-abbrev pub invariant-loop-i : goal.invariant-loop-i
-invariant-loop-i l = map (λ t. t.now) l.lent.items ≡ map (text_at l.texts) (take l.i l.codes)
