@@ -47,8 +47,8 @@ pub fn filter_of(alloc: Global, values: &[&str]) -> Result<Bloom, AllocError>
     Ok(bloom)
 }
 
-/// The same, for the values of a column, whose texts are at hand. Its words are taken of distinct values alone where the
-/// column holds those.
+/// The same, for the values of a column, whose texts are at hand. Their words are taken of distinct values alone where
+/// the column holds those.
 pub fn filter_of_column(
     alloc: Global,
     column: &ValueColumn,
