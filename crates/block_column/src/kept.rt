@@ -14,21 +14,25 @@ use col_codec::{IntColumn, TextColumn};
 use std::alloc::{AllocError, Global};
 
 /// The values, whose texts are at hand, in the first kind that fits.
-pub(crate) fn first_kind_of(alloc: Global, cells: &Cells, texts: &[&str]) -> Result<Cells, AllocError>
+pub(crate) fn first_kind_of(
+    alloc: Global,
+    cells: &Cells,
+    texts: &[&str],
+) -> Result<Cells, AllocError>
     requires codes { IsCells cells.now }
     requires texts { map (λ t. t.now) texts.now ≡ texts_of cells.now }
     requires small { sum_by (λ t. length t.now) texts.now < 2 ^ 32 }
     ensures texts { IfOk result (λ made. texts_of made ≡ texts_of cells.now) }
     ensures first { IfOk result (λ made. IsFirst made) }
 {
-    if let Some(kept) = kept(alloc, cells, texts)? {
-        return Ok(kept);
+    match kept_cells(alloc, cells, texts)? {
+        Some(kept) => Ok(kept),
+        None => first_kind(alloc, texts),
     }
-    first_kind(alloc, texts)
 }
 
 /// A copy of the cells, if it is quickly seen that their kind is the first that fits.
-fn kept(alloc: Global, cells: &Cells, texts: &[&str]) -> Result<Option<Cells>, AllocError>
+fn kept_cells(alloc: Global, cells: &Cells, texts: &[&str]) -> Result<Option<Cells>, AllocError>
     requires codes { IsCells cells.now }
     requires texts { map (λ t. t.now) texts.now ≡ texts_of cells.now }
     ensures texts { IfOk result (λ found. IfSome found (λ made. texts_of made ≡ texts_of cells.now)) }

@@ -10,10 +10,7 @@ use std::alloc::{AllocError, Global};
 use vl_row::Text;
 
 /// The distinct values, each once, if equal values are held once, and else none.
-pub(crate) fn members_of(
-    alloc: Global,
-    cells: &Cells,
-) -> Result<Option<Vec<&str>>, AllocError>
+pub(crate) fn members_of(alloc: Global, cells: &Cells) -> Result<Option<Vec<&str>>, AllocError>
     requires narrow { IsNarrow cells.now }
     requires each { IsEach cells.now }
     ensures once { IfOk result (λ found. is_some found ≡ is_held_once (kind_in cells.now)) }
@@ -51,4 +48,3 @@ pub(crate) fn lent(alloc: Global, texts: &[Text]) -> Result<Vec<&str>, AllocErro
     }
     Ok(lent)
 }
-

@@ -15,8 +15,8 @@ use std::alloc::{AllocError, Global};
 /// So many buckets there are for each word.
 const BUCKETS_PER_WORD: usize = 4;
 
-/// The most words that can be numbered in a bucket.
-pub(crate) const MOST_NUMBERED: usize = 4_294_967_294;
+/// So many words can be numbered from 1 on in the 32 bits that a bucket has.
+pub(crate) const MOST_NUMBERED: usize = u32::MAX as usize - 1;
 
 /// The first word of each bucket, and the words that belong into a bucket with another first word.
 pub(crate) fn firsts_and_others<'a>(

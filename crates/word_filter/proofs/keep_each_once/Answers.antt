@@ -1,8 +1,7 @@
 use Rattle.std.proofs.Common.{◌≡◌, ◌∙◌, ◌++◌, List, ℕ, ap, ap₂, map}
 use Rattle.std.proofs.lemmas.List.{map-append}
-use Rattle.std.proofs.lemmas.List.Elements.{All-append}
 use Rattle.word_filter.proofs.Firsts.{three-distinct, three-same}
-use Rattle.word_filter.proofs.Sorted.{HasItsHash, Hashed, text_in}
+use Rattle.word_filter.proofs.Sorted.{Hashed, text_in}
 use Rattle.word_filter.proofs.keep_each_once.Goals as goal
 
 abbrev joined : List (List ℕ) → List (List ℕ) → List (List ℕ)

@@ -1,4 +1,4 @@
-use Rattle.std.proofs.Common.{◌≡◌, ◌≤◌, ◌+◌, ◌++◌, length, map, take}
+use Rattle.std.proofs.Common.{◌≤◌, ◌+◌, ◌++◌, length, map, take}
 use Rattle.std.specs.List.{All}
 use Rattle.block_column.specs.Members.{HaveSameTexts}
 use Rattle.word_filter.specs.Buckets.{AreApart}

@@ -5,7 +5,7 @@ use Rattle.std.proofs.lemmas.Bool.{lt-ltb}
 use Rattle.token_bloom.specs.Bits.{fnv}
 use Rattle.word_filter.specs.Buckets.{bucket_of, first_for, has_some, number_for}
 use Rattle.word_filter.proofs.Firsts.{first-put, none-same, number-at, other-put}
-use Rattle.word_filter.proofs.Sorted.{Hashed, text_in}
+use Rattle.word_filter.proofs.Sorted.{text_in}
 use Rattle.word_filter.proofs.buckets.put_apart.Goals as goal
 
 pub returns-in_ok-push-clause-apart : goal.returns-in_ok-push-clause-apart
@@ -14,8 +14,12 @@ returns-in_ok-push-clause-apart c =
     let slot : c.bucket_of-bucket.result ≡ bucket_of (length c.args.buckets.now.items) (fnv c.args.word.1.now) =
     c.bucket_of-bucket.ensures.value ∙ ap (λ (n : ℕ). bucket_of n c.args.word.0) (c.len.ensures ∙ c.args.buckets.now.ok.0)
     ∙ ap (bucket_of (length buckets)) c.requires.hash in
-    let lt : c.bucket_of-bucket.result < length c.args.buckets.now.items = omega (arith, c.bucket_of-bucket.ensures.below,
-    c.len.ensures, c.args.buckets.now.ok.0) in
+    let lt : c.bucket_of-bucket.result < length c.args.buckets.now.items = omega (
+      arith,
+      c.bucket_of-bucket.ensures.below,
+      c.len.ensures,
+      c.args.buckets.now.ok.0,
+    ) in
     let free : has_some c.args.buckets.now.items c.args.word.1.now ≡ false =
     ap (λ (i : ℕ). nat_lt 0 (get_or buckets i 0)) (sym slot)
     ∙ ap (nat_lt 0) (sym (c.index.ensures ∙ get_or_default buckets c.bucket_of-bucket.result c.index.result.now 0 lt))
@@ -34,8 +38,12 @@ returns-in_ok-push-2-clause-apart c =
     let slot : c.bucket_of-bucket.result ≡ bucket_of (length c.args.buckets.now.items) (fnv c.args.word.1.now) =
     c.bucket_of-bucket.ensures.value ∙ ap (λ (n : ℕ). bucket_of n c.args.word.0) (c.len.ensures ∙ c.args.buckets.now.ok.0)
     ∙ ap (bucket_of (length buckets)) c.requires.hash in
-    let lt : c.bucket_of-bucket.result < length c.args.buckets.now.items = omega (arith, c.bucket_of-bucket.ensures.below,
-    c.len.ensures, c.args.buckets.now.ok.0) in
+    let lt : c.bucket_of-bucket.result < length c.args.buckets.now.items = omega (
+      arith,
+      c.bucket_of-bucket.ensures.below,
+      c.len.ensures,
+      c.args.buckets.now.ok.0,
+    ) in
     let number : number_for c.args.buckets.now.items c.args.word.1.now ≡ c.index.result.now =
     ap (λ (i : ℕ). get_or buckets i 0) (sym slot)
     ∙ sym (c.index.ensures ∙ get_or_default buckets c.bucket_of-bucket.result c.index.result.now 0 lt) in
@@ -43,8 +51,14 @@ returns-in_ok-push-2-clause-apart c =
     let most : number_for c.args.buckets.now.items c.args.word.1.now ≤ length (map text_in c.args.firsts.now.items) =
     number-at c.args.buckets.now.items (length (map text_in c.args.firsts.now.items)) (bucket_of (length c.args.buckets.now.items) (fnv
     c.args.word.1.now)) c.requires.apart.numbers in
-    let within : c.index.result.now - 1 < length c.args.firsts.now.items = omega (arith, number, some, most, length-map
-    c.args.firsts.now.items text_in) in
+    let within : c.index.result.now - 1 < length c.args.firsts.now.items = omega (
+      arith,
+      number,
+      some,
+      most,
+      length-map
+          c.args.firsts.now.items text_in,
+    ) in
     let held : first_for c.args.buckets.now.items (map text_in c.args.firsts.now.items) c.args.word.1.now
     ≡ c.index-else-number-eq0.result.now.1.now =
     ap (λ (n : ℕ). get_or (map text_in firsts) (n - 1) []) number
@@ -66,8 +80,12 @@ returns-else-not-is_same-clause-same c =
     let slot : c.bucket_of-bucket.result ≡ bucket_of (length c.args.buckets.now.items) (fnv c.args.word.1.now) =
     c.bucket_of-bucket.ensures.value ∙ ap (λ (n : ℕ). bucket_of n c.args.word.0) (c.len.ensures ∙ c.args.buckets.now.ok.0)
     ∙ ap (bucket_of (length buckets)) c.requires.hash in
-    let lt : c.bucket_of-bucket.result < length c.args.buckets.now.items = omega (arith, c.bucket_of-bucket.ensures.below,
-    c.len.ensures, c.args.buckets.now.ok.0) in
+    let lt : c.bucket_of-bucket.result < length c.args.buckets.now.items = omega (
+      arith,
+      c.bucket_of-bucket.ensures.below,
+      c.len.ensures,
+      c.args.buckets.now.ok.0,
+    ) in
     let number : number_for c.args.buckets.now.items c.args.word.1.now ≡ c.index.result.now =
     ap (λ (i : ℕ). get_or buckets i 0) (sym slot)
     ∙ sym (c.index.ensures ∙ get_or_default buckets c.bucket_of-bucket.result c.index.result.now 0 lt) in
@@ -75,8 +93,14 @@ returns-else-not-is_same-clause-same c =
     let most : number_for c.args.buckets.now.items c.args.word.1.now ≤ length (map text_in c.args.firsts.now.items) =
     number-at c.args.buckets.now.items (length (map text_in c.args.firsts.now.items)) (bucket_of (length c.args.buckets.now.items) (fnv
     c.args.word.1.now)) c.requires.apart.numbers in
-    let within : c.index.result.now - 1 < length c.args.firsts.now.items = omega (arith, number, some, most, length-map
-    c.args.firsts.now.items text_in) in
+    let within : c.index.result.now - 1 < length c.args.firsts.now.items = omega (
+      arith,
+      number,
+      some,
+      most,
+      length-map
+          c.args.firsts.now.items text_in,
+    ) in
     let held : first_for c.args.buckets.now.items (map text_in c.args.firsts.now.items) c.args.word.1.now
     ≡ c.index-else-number-eq0.result.now.1.now =
     ap (λ (n : ℕ). get_or (map text_in firsts) (n - 1) []) number
