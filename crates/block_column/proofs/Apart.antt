@@ -19,7 +19,7 @@ use Rattle.block_column.specs.Tags.{has_slot, slot_of}
 use Rattle.block_column.proofs.Distinct.{distinct-more, fold-longer, one-text-more}
 use Rattle.block_column.proofs.Same.{distinct-listed, each-listed}
 
-neither : (a b : Bool) → (a || b) ≡ false → (a ≡ false) × (b ≡ false)
+pub neither : (a b : Bool) → (a || b) ≡ false → (a ≡ false) × (b ≡ false)
 neither true b e = absurd cc
 neither false b e = (refl, e)
 

@@ -1,5 +1,5 @@
 -- Values in the first kind that fits.
-use Rattle.std.proofs.Common.{◌≡◌, ℕ, ◌+◌, ◌<◌, ◌≤◌, ◌^◌, true, false, leb, ltb, List, [], ◌∷◌}
+use Rattle.std.proofs.Common.{◌≡◌, ℕ, zero, suc, ◌+◌, ◌<◌, ◌≤◌, ◌^◌, true, false, leb, ltb, List, [], ◌∷◌}
 use Rattle.std.proofs.Common.{◌++◌, length, get_or, take, map, Option, Some, None, ℤ, pos, refl, sym, ap, subst, ◌∙◌}
 use Rattle.std.proofs.Common.{arith}
 use Rattle.std.specs.Prelude.{◌&&◌, not, bytes_eq, is_some, unwrap_or, replicate, sum_by}
@@ -7,7 +7,7 @@ use Rattle.std.specs.List.{list_all}
 use Rattle.std.specs.Fmt.{signed_decimal}
 use Rattle.std.specs.Int.{w32}
 use Rattle.std.proofs.lemmas.Bool.{leb-true}
-use Rattle.std.proofs.lemmas.List.{map_more, map-append}
+use Rattle.std.proofs.lemmas.List.{length-replicate, map_more, map-append}
 use Rattle.std.proofs.lemmas.List.Folds.{list_all-map}
 use Rattle.std.proofs.lemmas.List.Sums.{sum_by-cons}
 use Rattle.std.proofs.lemmas.Slice.Eq.{bytes_eq-Decides}
@@ -89,6 +89,10 @@ filled-constant : (ts : List (List ℕ)) → is_constant ts ≡ true → 0 < len
 filled-constant [] e = absurd cc
 filled-constant (t ∷ ts) e = omega arith
 
+all-alike : (t : List ℕ) (n : ℕ) → list_all (bytes_eq t) (replicate n t) ≡ true
+all-alike t zero = refl
+all-alike t (suc n) = rw (itself t) (all-alike t n)
+
 pub first-constant : (ts : List (List ℕ)) (t : List ℕ) (n : ℕ) → is_constant ts ≡ true → first_of ts ≡ t
     → n ≡ length ts → sum_by length ts < 2 ^ 32
     → (texts_of (cells.Constant t n) ≡ ts) × IsFirst (cells.Constant t n)
@@ -106,6 +110,16 @@ first-constant ts t n e f k small =
             ∙ ap (λ (kind : Kind). body_of kind ts) (is-constant ts e) ∙ ap (text_bytes w32) f);
       },
     )
+
+-- a text in each row
+pub first-alike : (t : List ℕ) (n : ℕ) → 0 < n → is_empty t ≡ false → sum_by length (replicate n t) < 2 ^ 32
+    → IsFirst (cells.Constant t n)
+first-alike t zero some filled small = absurd (omega (arith, some))
+first-alike t (suc n) some filled small =
+    let alike : list_all (bytes_eq t) (replicate n t) ≡ true = all-alike t n in
+    let one : is_constant (replicate (suc n) t) ≡ true = rw (filled, alike) refl in
+    let rows : suc n ≡ length (replicate (suc n) t) = sym (length-replicate (suc n) t) in
+    (first-constant (replicate (suc n) t) t (suc n) one refl rows small).1
 
 pub first-integers : (ts : List (List ℕ)) (ints : List ℤ) → is_constant ts ≡ false → are_integers ts ≡ true
     → ints ≡ integers_in ts

@@ -127,3 +127,15 @@ one-used used codes i d lt there code marked =
     left : (a b : Bool) → a ≡ true → (a || b) ≡ true
     left true b e = refl
     left false b e = absurd cc
+
+-- where all are marked, each code is there
+pub all-used : (used : List Bool) (codes : List ℕ) (count : ℕ) → length used ≡ count
+    → list_all (λ is_used. is_used) used ≡ true → AreThere used codes → AreUsed count codes
+all-used used codes count len all there code lt = there code (marked used code (omega (arith, lt, len)) all)
+  where
+    marked : (used : List Bool) (i : ℕ) → i < length used → list_all (λ is_used. is_used) used ≡ true
+        → get_or used i false ≡ true
+    marked [] i lt e = absurd (omega (arith, lt))
+    marked (u ∷ us) zero lt e = (both_true u (list_all (λ is_used. is_used) us) e).0
+    marked (u ∷ us) (suc i) lt e =
+        marked us i (omega (arith, lt)) (both_true u (list_all (λ is_used. is_used) us) e).1

@@ -20,7 +20,8 @@ use Rattle.block_column.specs.Kinds.{code_of, distinct, is_listed, is_short}
 use Rattle.block_column.specs.Cells.{text_at}
 use Rattle.block_column.specs.Members.{HaveSameTexts}
 use Rattle.block_column.proofs.Distinct.{itself, put-keeps}
-use Rattle.block_column.proofs.Rising.{Above, IsRising, above-along, not-behind}
+use Rattle.std.specs.List.Sorted.{IsStrictlySortedBy}
+use Rattle.block_column.proofs.Rising.{Above, IsRising, above-along, distinct-rising, not-behind}
 
 -- ---- tests
 
@@ -169,13 +170,20 @@ none-there : (text other : List ℕ) (n : ℕ) → bytes_eq text other ≡ false
 none-there text other zero e = refl
 none-there text other (suc n) e = rw e (none-there text other n e)
 
-pub same-one : (text : List ℕ) (rows : ℕ) → 0 < rows → HaveSameTexts (text ∷ []) (replicate rows text)
+same-one : (text : List ℕ) (rows : ℕ) → 0 < rows → HaveSameTexts (text ∷ []) (replicate rows text)
 same-one text zero lt t = absurd (omega (arith, lt))
 same-one text (suc n) lt t =
     elim (cases_Bool (bytes_eq t text)) [
       | inl same ↦ rw same refl
       | inr other ↦ rw (other, none-there t text n other) refl
     ]
+
+-- a text however often, once
+pub one-distinct : (text : List ℕ) (rows : ℕ) → 0 < rows → text ∷ [] ≡ distinct (replicate rows text)
+unfolding IsStrictlySortedBy
+one-distinct text rows some =
+    same-rising (text ∷ []) (distinct (replicate rows text)) (tt, tt) (distinct-rising (replicate rows text))
+    (λ t. same-one text rows some t ∙ sym (distinct-listed t (replicate rows text)))
 
 pub same-held : (texts : List (List ℕ)) (codes : List ℕ) → texts ≡ distinct (map (text_at texts) codes)
     → HaveSameTexts texts (map (text_at texts) codes)

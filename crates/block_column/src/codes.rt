@@ -8,7 +8,7 @@ ghost use Rattle.log_model.specs.Field.{bytes_cmp};
 ghost use Rattle.block_column.specs.Kinds.{code_of, distinct, fits_dictionary, is_listed, is_short};
 
 use crate::many::are_many;
-use crate::recent::{Recent, SLOTS, slot_of_text};
+use crate::recent::{Recent, SLOTS, slot_of};
 use std::alloc::{AllocError, Global};
 use std::collections::BTreeSet;
 use vl_row::Text;
@@ -76,7 +76,7 @@ fn set_with<'a>(
     Ok(Some(set))
 }
 
-/// Puts a value to the others, unless it was put lately. After an error neither of both is to be used.
+/// Puts a value to the others, unless it was put lately. After an error neither of the two is used.
 fn put_value<'a>(
     set: &mut BTreeSet<&'a str>,
     recent: &mut Recent<'a>,
@@ -132,7 +132,7 @@ fn code_near(slots: &mut Vec<u8>, sorted: &[Text], value: &str) -> u8
     ensures code { result ≡ code_of sorted.now value.now }
     ensures slots { length slots.new.items ≡ 512 }
 {
-    let slot = slot_of_text(value);
+    let slot = slot_of(value);
     let guess = slots[slot];
     if is_at(sorted, guess as usize, value) {
         return guess;

@@ -9,9 +9,8 @@ ghost use Rattle.byte_format.specs.Gives.{Gives};
 ghost use Rattle.byte_format.specs.Spelling.{reading};
 ghost use Rattle.col_codec.specs.Answers.{AnswersAs, IsPlaceOf};
 ghost use Rattle.block_column.specs.Body.{body, column, column_spelling, column_writing};
-ghost use Rattle.block_column.specs.Kinds.{body_of, code_of_kind, is_held_once, kind_of};
+ghost use Rattle.block_column.specs.Kinds.{body_of, code_of_kind, distinct, is_held_once, kind_of};
 ghost use Rattle.block_column.specs.Lengths.{HasLengths, are_within};
-ghost use Rattle.block_column.specs.Members.{HaveSameTexts};
 ghost use Rattle.block_column.specs.Values.{value_text};
 
 use crate::cells::{Cells, kind_of, len_of, value_at};
@@ -21,7 +20,7 @@ use crate::lengths::{Lengths, lengths_of};
 use crate::members::members_of;
 use crate::put::put_cells;
 use crate::read::read;
-use crate::spelled::Spelled;
+use crate::row_texts::RowTexts;
 use crate::take::take_cells;
 use byte_format::Stop;
 use col_codec::ColumnFault;
@@ -81,12 +80,11 @@ impl ValueColumn {
         value_at(&self.cells, i)
     }
 
-    /// The distinct values, each once, if equal values are held once, and else none.
+    /// The distinct values, each once and in byte order, if equal values are held once, and else none.
     pub fn members<'a>(&'a self, alloc: Global) -> Result<Option<Vec<&'a str>>, AllocError>
-        requires { sum_by length self.now < 2 ^ 32 }
         ensures once { IfOk result (λ found. is_some found ≡ is_held_once (kind_of self.now)) }
-        ensures same { IfOk result (λ found. IfSome found (λ texts.
-            HaveSameTexts (map (λ t. t.now) texts.items) self.now)) }
+        ensures each { IfOk result (λ found. IfSome found (λ texts.
+            map (λ t. t.now) texts.items ≡ distinct self.now)) }
         ensures small { IfOk result (λ found. IfSome found (λ texts.
             sum_by (λ t. length t.now) texts.items < 2 ^ 32)) }
     {
@@ -173,10 +171,10 @@ impl FoundColumn {
     }
 
     /// The same values, with what is needed to lend their texts.
-    pub fn spelled(&self, alloc: Global) -> Result<Spelled<'_>, AllocError>
-        ensures { IfOk result (λ spelled. spelled ≡ self.now) }
+    pub fn row_texts(&self, alloc: Global) -> Result<RowTexts<'_>, AllocError>
+        ensures { IfOk result (λ texts. texts ≡ self.now) }
     {
-        Spelled::of(alloc, &self.cells)
+        RowTexts::try_of(alloc, &self.cells)
     }
 
     /// The same values, whose texts are at hand, in the first kind that fits, and how long they are, unless one of them

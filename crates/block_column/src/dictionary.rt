@@ -1,7 +1,7 @@
 //! Dictionaries that were read. They are mostly as they would be made, and then they are copied.
 
-ghost use Rattle.std.specs.Prelude.{◌≡◌, ◌<◌, ◌≤◌, IfOk, IfSome, IsTrue, false, length, map, nat_eq, nat_lt};
-ghost use Rattle.std.specs.Prelude.{slice_index_or, true, ℕ};
+ghost use Rattle.std.specs.Prelude.{◌≡◌, ◌↔◌, ◌<◌, ◌≤◌, IfOk, IfSome, IsTrue, length, map, nat_eq, nat_lt};
+ghost use Rattle.std.specs.Prelude.{true, ℕ};
 ghost use Rattle.std.specs.List.{list_all, list_any};
 ghost use Rattle.std.specs.List.Sorted.{IsStrictlySortedBy};
 ghost use Rattle.std.specs.declared.cmp.Ordering.TheVariants.{Less};
@@ -11,9 +11,8 @@ ghost use Rattle.log_model.specs.Field.{bytes_cmp};
 
 use crate::cells::Cells;
 use crate::codes::{MAX_VALUE_LEN, MAX_VALUES};
-use crate::kinds::{constant, integers};
+use crate::kinds::{are_integers, constant};
 use std::alloc::{AllocError, Global};
-use std::cmp::Ordering;
 use vl_row::Text;
 
 /// A copy of the dictionary of these texts and codes, if it is the first kind that fits the texts of the rows, and is
@@ -32,10 +31,7 @@ pub(crate) fn kept_dictionary(
     let None = constant(texts) else {
         return Ok(None);
     };
-    let None = integers(alloc, texts)? else {
-        return Ok(None);
-    };
-    if !are_in_order(held) || !are_all_used(alloc, codes, held.len())? {
+    if are_integers(texts) || !are_in_order(held) || !are_all_used(alloc, codes, held.len())? {
         return Ok(None);
     }
     let copies = copies_of(alloc, held)?;
@@ -86,12 +82,9 @@ fn are_rising(held: &[Text]) -> bool
 }
 
 fn is_below(text: &Text, other: &Text) -> bool
-    ensures { IsTrue result → bytes_cmp text.now other.now ≡ Less }
+    ensures { IsTrue result ↔ (bytes_cmp text.now other.now ≡ Less) }
 {
-    match text.as_str().cmp(other.as_str()) {
-        Ordering::Less => true,
-        _ => false,
-    }
+    text.as_str().cmp(other.as_str()).is_lt()
 }
 
 /// Whether each code below the count is there.
@@ -103,16 +96,12 @@ fn are_all_used(alloc: Global, codes: &[u8], count: usize) -> Result<bool, Alloc
     for code in codes {
         used[*code as usize] = true;
     }
-    Ok(are_true(used.as_slice()))
+    let all = are_true(used.as_slice());
+    Ok(all)
 }
 
 fn are_true(used: &[bool]) -> bool
-    ensures { IsTrue result → (i : ℕ) → i < length used.now → slice_index_or used.now i false ≡ true }
+    ensures { result ≡ list_all (λ is_used. is_used) used.now }
 {
-    for is_used in used {
-        if !*is_used {
-            return false;
-        }
-    }
-    true
+    used.iter().all(|is_used| *is_used)
 }

@@ -1,17 +1,20 @@
 //! Values that were read, in the first kind that fits. They are mostly held in it already, and then they are copied.
 
-ghost use Rattle.std.specs.Prelude.{◌≡◌, ◌<◌, ◌^◌, IfOk, IfSome, length, map, sum_by, true};
+ghost use Rattle.std.specs.Prelude.{◌≡◌, ◌<◌, ◌^◌, IfOk, IfSome, IsTrue, false, length, map, replicate, sum_by, true};
 ghost use Rattle.std.specs.Fmt.{signed_decimal};
 ghost use Rattle.std.specs.List.{list_all};
 ghost use Rattle.block_column.specs.Cells.{IsCells, IsFirst, texts_of};
+ghost use Rattle.block_column.specs.Kinds.{fits_dictionary, is_short};
 ghost use Rattle.col_codec.specs.Ints.{is_i64};
 
 use crate::cells::Cells;
+use crate::codes::MAX_VALUE_LEN;
 use crate::dictionary::kept_dictionary;
-use crate::kinds::{constant, first_kind, integers};
+use crate::kinds::{are_integers, constant, first_kind};
 use crate::many::are_many;
 use col_codec::{IntColumn, TextColumn};
 use std::alloc::{AllocError, Global};
+use vl_row::Text;
 
 /// The values, whose texts are at hand, in the first kind that fits.
 pub(crate) fn first_kind_of(
@@ -35,17 +38,30 @@ pub(crate) fn first_kind_of(
 fn kept_cells(alloc: Global, cells: &Cells, texts: &[&str]) -> Result<Option<Cells>, AllocError>
     requires codes { IsCells cells.now }
     requires texts { map (λ t. t.now) texts.now ≡ texts_of cells.now }
+    requires small { sum_by (λ t. length t.now) texts.now < 2 ^ 32 }
     ensures texts { IfOk result (λ found. IfSome found (λ made. texts_of made ≡ texts_of cells.now)) }
     ensures first { IfOk result (λ found. IfSome found (λ made. IsFirst made)) }
 {
     match cells {
+        Cells::Constant(text, rows) => kept_constant(alloc, text, *rows),
         Cells::Integers(ints) => kept_integers(alloc, ints, texts),
         Cells::Dictionary(held, codes) => {
             kept_dictionary(alloc, held.as_slice(), codes.as_slice(), texts)
         }
         Cells::Plain(column) => kept_plain(alloc, column, texts),
-        Cells::Constant(_, _) => Ok(None),
     }
+}
+
+fn kept_constant(alloc: Global, text: &Text, rows: usize) -> Result<Option<Cells>, AllocError>
+    requires { sum_by length (replicate rows text.now) < 2 ^ 32 }
+    ensures texts { IfOk result (λ found. IfSome found (λ made. texts_of made ≡ replicate rows text.now)) }
+    ensures first { IfOk result (λ found. IfSome found (λ made. IsFirst made)) }
+{
+    if rows == 0 || text.as_str().is_empty() {
+        return Ok(None);
+    }
+    let copy = text.try_copy(alloc)?;
+    Ok(Some(Cells::Constant(copy, rows)))
 }
 
 fn kept_integers(
@@ -76,11 +92,25 @@ fn kept_plain(
     let None = constant(texts) else {
         return Ok(None);
     };
-    let None = integers(alloc, texts)? else {
-        return Ok(None);
-    };
-    if !are_many(alloc, texts)? {
+    if are_integers(texts) || !are_too_many(alloc, texts)? {
         return Ok(None);
     }
     Ok(Some(Cells::Plain(column.try_copy(alloc)?)))
+}
+
+/// Whether it is quickly seen that no dictionary holds the texts: they are too many, or one is too long.
+fn are_too_many(alloc: Global, texts: &[&str]) -> Result<bool, AllocError>
+    ensures { IfOk result (λ seen. IsTrue seen → fits_dictionary (map (λ t. t.now) texts.now) ≡ false) }
+{
+    if !are_short(texts) {
+        return Ok(true);
+    }
+    let many = are_many(alloc, texts)?;
+    Ok(many)
+}
+
+fn are_short(texts: &[&str]) -> bool
+    ensures { result ≡ list_all (λ t. is_short t.now) texts.now }
+{
+    texts.iter().all(|text| text.len() <= MAX_VALUE_LEN)
 }

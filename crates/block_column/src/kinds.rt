@@ -5,7 +5,8 @@ ghost use Rattle.std.specs.Prelude.{◌&&◌, bytes_eq, not};
 ghost use Rattle.std.specs.List.{list_all};
 ghost use Rattle.log_model.specs.Field.{is_empty};
 ghost use Rattle.block_column.specs.Cells.{IsFirst, texts_of};
-ghost use Rattle.block_column.specs.Kinds.{are_integers, first_of, fits_dictionary, integers_in, is_constant, distinct};
+ghost use Rattle.block_column.specs.Kinds.{are_integers, first_of, fits_dictionary, integers_in, is_constant, is_number};
+ghost use Rattle.block_column.specs.Kinds.{distinct};
 
 use crate::cells::Cells;
 use crate::codes::{codes_of, distinct_of};
@@ -61,7 +62,7 @@ fn are_all(values: &[&str], first: &str) -> bool
 }
 
 /// The integers whose decimal texts all values are.
-pub(crate) fn integers(alloc: Global, values: &[&str]) -> Result<Option<Vec<i64>>, AllocError>
+fn integers(alloc: Global, values: &[&str]) -> Result<Option<Vec<i64>>, AllocError>
     ensures { IfOk result (λ found. MatchOption found (are_integers (map (λ t. t.now) values.now) ≡ false)
         (λ ints. (are_integers (map (λ t. t.now) values.now) ≡ true)
         × (ints.items ≡ integers_in (map (λ t. t.now) values.now)))) }
@@ -74,4 +75,17 @@ pub(crate) fn integers(alloc: Global, values: &[&str]) -> Result<Option<Vec<i64>
         ints.push(int)?;
     }
     Ok(Some(ints))
+}
+
+/// Whether all values are decimal texts of integers.
+pub(crate) fn are_integers(values: &[&str]) -> bool
+    ensures { result ≡ list_all (λ t. is_number t.now) values.now }
+{
+    values.iter().all(|value| is_number(value))
+}
+
+fn is_number(value: &str) -> bool
+    ensures { result ≡ is_number value.now }
+{
+    number(value).is_some()
 }

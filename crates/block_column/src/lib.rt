@@ -14,11 +14,11 @@ mod members;
 mod put;
 mod read;
 mod recent;
-mod spelled;
+mod row_texts;
 mod take;
 
 pub use column::{FoundColumn, Value, ValueColumn};
 pub use lengths::Lengths;
 pub use recent::Recent;
-pub use spelled::Spelled;
+pub use row_texts::RowTexts;
 pub use take::take_kind;

@@ -5,7 +5,7 @@ ghost use Rattle.block_column.specs.Kinds.{distinct};
 ghost use Rattle.block_column.specs.Tags.{has_slot, slot_of};
 
 use crate::codes::MAX_VALUES;
-use crate::recent::{SLOTS, slot_of_text};
+use crate::recent::{SLOTS, slot_of};
 use std::alloc::{AllocError, Global};
 
 /// It is asked of the first so many values alone.
@@ -34,7 +34,7 @@ fn takes_slot(taken: &mut Vec<bool>, text: &str) -> bool
     ensures taken { taken.new.items ≡ slice_set taken.old.items (slot_of text.now) true }
     ensures below { slot_of text.now < 512 }
 {
-    let slot = slot_of_text(text);
+    let slot = slot_of(text);
     let free = !taken[slot];
     taken[slot] = true;
     free

@@ -2,8 +2,7 @@
 
 ghost use Rattle.std.specs.Prelude.{◌≡◌, ◌<◌, ◌^◌, ◌∷◌, [], IfOk, IfSome, is_some, length, map, sum_by};
 ghost use Rattle.block_column.specs.Cells.{IsEach, IsNarrow, kind_in, texts_of};
-ghost use Rattle.block_column.specs.Kinds.{is_held_once};
-ghost use Rattle.block_column.specs.Members.{HaveSameTexts};
+ghost use Rattle.block_column.specs.Kinds.{distinct, is_held_once};
 
 use crate::cells::Cells;
 use std::alloc::{AllocError, Global};
@@ -14,8 +13,8 @@ pub(crate) fn members_of(alloc: Global, cells: &Cells) -> Result<Option<Vec<&str
     requires narrow { IsNarrow cells.now }
     requires each { IsEach cells.now }
     ensures once { IfOk result (λ found. is_some found ≡ is_held_once (kind_in cells.now)) }
-    ensures same { IfOk result (λ found. IfSome found (λ texts.
-        HaveSameTexts (map (λ t. t.now) texts.items) (texts_of cells.now))) }
+    ensures each { IfOk result (λ found. IfSome found (λ texts.
+        map (λ t. t.now) texts.items ≡ distinct (texts_of cells.now))) }
     ensures small { IfOk result (λ found. IfSome found (λ texts. sum_by (λ t. length t.now) texts.items < 2 ^ 32)) }
 {
     match cells {

@@ -33,8 +33,8 @@ fn to_column(alloc: Global, found: &FoundColumn) -> Result<Option<ValueColumn>, 
     ensures within { IfOk result (λ made. IfSome made (λ values. are_within (2 ^ 64 - 1) found.now ≡ true)) }
     ensures none { IfOk result (λ made. IfNone made (are_within (2 ^ 64 - 1) found.now ≡ false)) }
 {
-    let spelled = found.spelled(alloc)?;
-    let texts = spelled.texts(alloc)?;
+    let lent = found.row_texts(alloc)?;
+    let texts = lent.texts(alloc)?;
     match found.to_column(alloc, texts.as_slice(), usize::MAX)? {
         Some((values, _)) => Ok(Some(values)),
         None => Ok(None),

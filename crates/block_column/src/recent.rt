@@ -1,7 +1,7 @@
 //! Texts that were met lately.
 
 ghost use Rattle.std.specs.Prelude.{◌≡◌, ◌+◌, ◌<◌, ◌≤◌, [], Bool, IfOk, List, bytes_eq, false, length, not, true, ℕ};
-ghost use Rattle.std.specs.Prelude.{slice_index_or, slice_set};
+ghost use Rattle.std.specs.Prelude.{replicate, slice_index_or, slice_set};
 ghost use Rattle.std.specs.List.{list_all, list_any};
 ghost use Rattle.block_column.specs.Tags.{AreBytes, IsTagged, eight_at, four_at, slot_at, slot_of, tag_of, tag_of_few};
 
@@ -43,7 +43,8 @@ impl<'a> Model for Recent<'a> {
 impl<'a> Recent<'a> {
     /// This text alone, in each slot.
     pub fn new(alloc: Global, text: &'a str) -> Result<Recent<'a>, AllocError>
-        ensures { (p : List ℕ → Bool) → p text.now ≡ true → IfOk result (λ recent. list_all p recent ≡ true) }
+        ensures slots { IfOk result (λ recent. recent ≡ replicate 512 text.now) }
+        ensures each { (p : List ℕ → Bool) → p text.now ≡ true → IfOk result (λ recent. list_all p recent ≡ true) }
     {
         let tag = tag_of(text.as_bytes());
         let slots = vec![in alloc; Entry { tag, text }; SLOTS]?;
@@ -63,7 +64,7 @@ impl<'a> Recent<'a> {
     {
         let tag = tag_of(text.as_bytes());
         let entry = Entry { tag, text };
-        let slot = slot_of(tag, text.len());
+        let slot = slot_at(tag, text.len());
         if have_same_text(self.slots[slot], entry) {
             return false;
         }
@@ -91,15 +92,15 @@ fn are_same(held: &[u8], text: &[u8]) -> bool
 }
 
 /// The slot of a text.
-pub(crate) fn slot_of_text(text: &str) -> usize
+pub(crate) fn slot_of(text: &str) -> usize
     ensures slot { result ≡ slot_of text.now }
     ensures below { result < 512 }
 {
-    slot_of(tag_of(text.as_bytes()), text.len())
+    slot_at(tag_of(text.as_bytes()), text.len())
 }
 
 /// The slot of the texts with this tag and of this length.
-fn slot_of(tag: u64, len: usize) -> usize
+fn slot_at(tag: u64, len: usize) -> usize
     ensures slot { result ≡ slot_at tag len }
     ensures below { result < 512 }
 {

@@ -67,8 +67,8 @@ fn push_column(
     found: &FoundColumn,
     most: usize,
 ) -> Result<(), AllocError> {
-    let spelled = found.spelled(alloc)?;
-    let texts = spelled.texts(alloc)?;
+    let lent = found.row_texts(alloc)?;
+    let texts = lent.texts(alloc)?;
     match found.to_column(alloc, texts.as_slice(), most)? {
         Some((column, lengths)) => {
             let bytes = column.to_bytes(alloc)?;

@@ -177,8 +177,8 @@ fn filled_column(
     ensures lengths { IfOk result (λ found. IfSome found (λ x. HasLengths x.2 column.now.1)) }
     ensures filled { IfOk result (λ found. IfSome found (λ x. IsFilled column.now)) }
 {
-    let spelled = column.values.spelled(alloc)?;
-    let texts = spelled.texts(alloc)?;
+    let lent = column.values.row_texts(alloc)?;
+    let texts = lent.texts(alloc)?;
     let Some((values, lengths)) = column.values.to_column(alloc, texts.as_slice(), most)? else {
         return Ok(None);
     };

@@ -13,28 +13,14 @@ use Rattle.std.proofs.lemmas.Map.Keys.{IsDistinct-cons, IsDistinct-head, IsDisti
 use Rattle.std.proofs.lemmas.Slice.Eq.{bytes_eq-Decides}
 use Rattle.block_column.specs.Kinds.{is_listed}
 use Rattle.block_column.specs.Members.{HaveSameTexts}
+use Rattle.block_column.proofs.Apart.{neither}
 use Rattle.block_column.proofs.Distinct.{itself, right_true}
+use Rattle.block_column.proofs.Same.{each-listed}
 use Rattle.byte_format.proofs.Cases.{both_true}
 use Rattle.token_bloom.specs.Bits.{fnv}
 use Rattle.word_filter.specs.Buckets.{AreApart, bucket_of, first_for, has_some, is_first, is_other, number_for}
 
 -- ---- tests
-
-neither : (a b : Bool) → (a || b) ≡ false → (a ≡ false) × (b ≡ false)
-neither true b e = absurd cc
-neither false b e = (refl, e)
-
--- what passes for all passes for one of them
-each-passes : (p : List ℕ → Bool) (text : List ℕ) (texts : List (List ℕ)) → list_all p texts ≡ true
-    → is_listed texts text ≡ true → p text ≡ true
-each-passes p text [] all one = absurd cc
-each-passes p text (t ∷ ts) all one =
-    by (bytes_eq text t) refl one (each-passes p text ts (both_true (p t) (list_all p ts) all).1)
-  where
-    by : (b : Bool) → bytes_eq text t ≡ b → (b || is_listed ts text) ≡ true
-        → (is_listed ts text ≡ true → p text ≡ true) → p text ≡ true
-    by true same h later = ap p ((bytes_eq-Decides text t).0 same) ∙ (both_true (p t) (list_all p ts) all).0
-    by false same h later = later h
 
 all-pass : (p q : List ℕ → Bool) → ((text : List ℕ) → p text ≡ true → q text ≡ true) → (texts : List (List ℕ))
     → list_all p texts ≡ true → list_all q texts ≡ true
@@ -210,7 +196,7 @@ first-put buckets firsts others word are free =
     new : (text : List ℕ) → is_listed firsts text ≡ true → is_listed (word ∷ []) text ≡ false
     new text there =
         let taken = (both_true (has_some buckets text) (bytes_eq (first_for buckets firsts text) text)
-        (each-passes (is_first buckets firsts) text firsts are.first there)).0 in
+        (each-listed (is_first buckets firsts) text firsts are.first there)).0 in
         elim (cases_Bool (bytes_eq text word)) [
           | inl same ↦ absurd (both_ways (has_some buckets word) free (ap (has_some buckets) (sym ((bytes_eq-Decides text word).0
               same)) ∙ taken))
@@ -308,9 +294,9 @@ firsts-apart buckets firsts others text are there =
     elim (cases_Bool (is_listed others text)) [
       | inl also ↦
           let one = (both_true (has_some buckets text) (bytes_eq (first_for buckets firsts text) text)
-          (each-passes (is_first buckets firsts) text firsts are.first there)).1 in
+          (each-listed (is_first buckets firsts) text firsts are.first there)).1 in
           let other = (both_true (has_some buckets text) (not (bytes_eq (first_for buckets firsts text) text))
-          (each-passes (is_other buckets firsts) text others are.other also)).1 in
+          (each-listed (is_other buckets firsts) text others are.other also)).1 in
           absurd (let no : false ≡ true = ap not (sym one) ∙ other in cc)
       | inr none ↦ none
     ]

@@ -1,9 +1,9 @@
 //! Words in buckets by their hashes. Of each bucket the first word is told apart from the others: however often a word
-//! is there, it is either the first of its bucket or one of the others, and these are few, unless they were chosen so
-//! that they meet in one.
+//! is there, it is either the first of its bucket or one of the others. These are few, unless they were chosen so that
+//! they meet in one.
 
-ghost use Rattle.std.specs.Prelude.{◌≡◌, ◌<◌, ◌≤◌, ◌+◌, ◌-◌, ◌^◌, ◌++◌, ◌∷◌, [], IfOk, List, OnOk, bytes_eq, false, length, map};
-ghost use Rattle.std.specs.Prelude.{true, ℕ};
+ghost use Rattle.std.specs.Prelude.{◌≡◌, ◌<◌, ◌≤◌, ◌+◌, ◌-◌, ◌^◌, ◌++◌, ◌∷◌, [], IfOk, List, OnOk, bytes_eq};
+ghost use Rattle.std.specs.Prelude.{false, length, map, true, ℕ};
 ghost use Rattle.std.specs.List.{All, IsDistinct};
 ghost use Rattle.block_column.specs.Kinds.{is_listed};
 ghost use Rattle.block_column.specs.Members.{HaveSameTexts};
@@ -16,14 +16,14 @@ use std::alloc::{AllocError, Global};
 const BUCKETS_PER_WORD: usize = 4;
 
 /// So many words can be numbered from 1 on in the 32 bits that a bucket has.
-pub(crate) const MOST_NUMBERED: usize = u32::MAX as usize - 1;
+pub(crate) const MOST_NUMBERED: usize = u32::MAX as usize;
 
 /// The first word of each bucket, and the words that belong into a bucket with another first word.
 pub(crate) fn firsts_and_others<'a>(
     alloc: Global,
     words: &[(u64, &'a str)],
 ) -> Result<(Vec<(u64, &'a str)>, Vec<(u64, &'a str)>), AllocError>
-    requires few { length words.now < 2 ^ 32 - 1 }
+    requires few { length words.now < 2 ^ 32 }
     requires hashes { All (λ w. w.0 ≡ fnv w.1.now) words.now }
     ensures same { IfOk result (λ x. HaveSameTexts
         (map (λ w. w.1.now) x.0.items ++ map (λ w. w.1.now) x.1.items) (map (λ w. w.1.now) words.now)) }

@@ -106,11 +106,14 @@ fn keep_each_once<'a>(alloc: Global, words: &mut Vec<(u64, &'a str)>) -> Result<
         keep_once(words);
         return Ok(());
     }
+    // After an error they are not used.
     let (firsts, others) = firsts_and_others(alloc, words.as_slice())?;
-    let (more, mut left) = firsts_and_others(alloc, others.as_slice())?;
-    keep_once(&mut left);
     *words = firsts;
+    let (more, mut left) = firsts_and_others(alloc, others.as_slice())?;
+    drop(others);
     words.extend_from_slice(more.as_slice())?;
+    drop(more);
+    keep_once(&mut left);
     words.extend_from_slice(left.as_slice())?;
     Ok(())
 }

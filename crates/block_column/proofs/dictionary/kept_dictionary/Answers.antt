@@ -1,6 +1,7 @@
 use Rattle.std.proofs.Common.{◌≡◌, ◌∙◌, ℕ, List, Bor, map, false, true, ap, sym, rules}
+use Rattle.std.proofs.lemmas.List.Folds.{list_all-map}
 use Rattle.block_column.specs.Cells.{text_at}
-use Rattle.block_column.specs.Kinds.{are_integers, distinct, is_constant}
+use Rattle.block_column.specs.Kinds.{are_integers, is_number, distinct, is_constant}
 use Rattle.block_column.proofs.KindLaws.{IsDictionary, first-dictionary}
 use Rattle.block_column.proofs.Listed.{codes-are, held-distinct, held-fits}
 use Rattle.block_column.proofs.Rising.{IsRising}
@@ -15,7 +16,7 @@ returns-clause-first c =
     let one : is_constant (map (text_at c.args.held.now) c.args.codes.now) ≡ false = ap is_constant (sym texts)
     ∙ rw c.in-None.is at c.constant.ensures.none in
     let none : are_integers (map (text_at c.args.held.now) c.args.codes.now) ≡ false = ap are_integers (sym texts)
-    ∙ rw c.in-None-2.is at c.in_ok-integers.ensures in
+    ∙ list_all-map is_number now_of c.args.texts.now ∙ sym c.are_integers.ensures ∙ c.if-are_integers.false in
     let good : c.are_in_order.result ≡ true = search rules in
     let all : c.in_ok-are_all_used.field-0 ≡ true = search rules in
     let rising : IsRising c.args.held.now = c.are_in_order.ensures.rising good in

@@ -5,18 +5,18 @@ use Rattle.std.proofs.lemmas.List.Sums.{sum_by-cons}
 use Rattle.block_column.specs.Cells.{text_at}
 use Rattle.block_column.specs.Kinds.{distinct, is_short}
 use Rattle.block_column.proofs.KindLaws.{sizes}
-use Rattle.block_column.proofs.Same.{same-held, same-one, short-size}
+use Rattle.block_column.proofs.Same.{one-distinct, short-size}
 use Rattle.block_column.proofs.members.members_of.Goals as goal
 
 abbrev now_of : Bor (List ℕ) → List ℕ
 now_of t = t.now
 
-pub returns-in_ok-alone-in-Constant-clause-same : goal.returns-in_ok-alone-in-Constant-clause-same
-returns-in_ok-alone-in-Constant-clause-same c =
+pub returns-in_ok-alone-in-Constant-clause-each : goal.returns-in_ok-alone-in-Constant-clause-each
+returns-in_ok-alone-in-Constant-clause-each c =
     let each : 0 < c.in-Constant.field-1 = (rw c.in-Constant.is at c.requires.each) in
     let texts : map now_of c.in_ok-alone-in-Constant.alone.items ≡ c.in-Constant.text ∷ [] = c.in_ok-alone-in-Constant.ensures
     ∙ ap (λ (t : List ℕ). t ∷ []) c.as_str.ensures.value in
-    rw (c.in-Constant.is, texts) (same-one c.in-Constant.text c.in-Constant.field-1 each)
+    rw (c.in-Constant.is, texts) (one-distinct c.in-Constant.text c.in-Constant.field-1 each)
 
 pub returns-in_ok-alone-in-Constant-clause-small : goal.returns-in_ok-alone-in-Constant-clause-small
 returns-in_ok-alone-in-Constant-clause-small c =
@@ -31,13 +31,13 @@ returns-in_ok-alone-in-Constant-clause-small c =
       narrow,
     )
 
-pub returns-in_ok-listed-in-Dictionary-clause-same : goal.returns-in_ok-listed-in-Dictionary-clause-same
-returns-in_ok-listed-in-Dictionary-clause-same c =
+pub returns-in_ok-listed-in-Dictionary-clause-each : goal.returns-in_ok-listed-in-Dictionary-clause-each
+returns-in_ok-listed-in-Dictionary-clause-each c =
     let each : c.in-Dictionary.texts.items ≡ distinct (map (text_at c.in-Dictionary.texts.items)
     c.in-Dictionary.field-1.items) = (rw c.in-Dictionary.is at c.requires.each) in
     let texts : map now_of c.in_ok-listed-in-Dictionary.listed.items ≡ c.in-Dictionary.texts.items = c.in_ok-listed-in-Dictionary.ensures
     ∙ c.as_slice.ensures.value in
-    rw (c.in-Dictionary.is, texts) (same-held c.in-Dictionary.texts.items c.in-Dictionary.field-1.items each)
+    rw (c.in-Dictionary.is, texts) each
 
 pub returns-in_ok-listed-in-Dictionary-clause-small : goal.returns-in_ok-listed-in-Dictionary-clause-small
 returns-in_ok-listed-in-Dictionary-clause-small c =

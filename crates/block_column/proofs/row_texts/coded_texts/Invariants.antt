@@ -1,6 +1,6 @@
 use Rattle.std.proofs.Common.{◌≡◌, map, take}
 use Rattle.block_column.specs.Cells.{text_at}
-use Rattle.block_column.proofs.spelled.coded_texts.Given as goal
+use Rattle.block_column.proofs.row_texts.coded_texts.Given as goal
 
 abbrev pub invariant-loop-i : goal.invariant-loop-i
 invariant-loop-i l = map (λ t. t.now) l.lent.items ≡ map (text_at l.texts) (take l.i l.codes)

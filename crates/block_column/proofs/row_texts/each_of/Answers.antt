@@ -1,7 +1,7 @@
 use Rattle.std.proofs.Common.{◌∙◌, ◌++◌, ◌∷◌, ◌<◌, ℕ, List, [], Bor, ap, length, map, sym, rules}
 use Rattle.std.proofs.lemmas.List.{map-append}
 use Rattle.block_column.proofs.Whole.{one-more}
-use Rattle.block_column.proofs.spelled.each_of.Goals as goal
+use Rattle.block_column.proofs.row_texts.each_of.Goals as goal
 
 abbrev now_of : Bor (List ℕ) → List ℕ
 now_of t = t.now

@@ -2,7 +2,7 @@ use Rattle.std.proofs.Common.{◌∙◌, ◌++◌, ◌∷◌, ◌<◌, ℕ, List
 use Rattle.std.proofs.lemmas.List.{length-map, map-append, take-map}
 use Rattle.block_column.specs.Cells.{text_at}
 use Rattle.block_column.proofs.Whole.{one-more}
-use Rattle.block_column.proofs.spelled.coded_texts.Goals as goal
+use Rattle.block_column.proofs.row_texts.coded_texts.Goals as goal
 
 abbrev now_of : Bor (List ℕ) → List ℕ
 now_of t = t.now

@@ -3,7 +3,7 @@ use Rattle.std.specs.Fmt.{signed_decimal}
 use Rattle.std.proofs.lemmas.Int.{to_z-of_z}
 use Rattle.std.proofs.lemmas.List.{map-append}
 use Rattle.block_column.proofs.Whole.{one-integer-more}
-use Rattle.block_column.proofs.spelled.decimal_texts.Goals as goal
+use Rattle.block_column.proofs.row_texts.decimal_texts.Goals as goal
 
 pub loop-i-preserved : goal.loop-i-preserved
 loop-i-preserved c =

@@ -1,6 +1,6 @@
 use Rattle.std.proofs.Common.{◌≡◌, ◌∙◌, ◌∷◌, ℕ, zero, suc, List, Bor, ap, map, refl}
 use Rattle.std.specs.Prelude.{replicate}
-use Rattle.block_column.proofs.spelled.repeated.Goals as goal
+use Rattle.block_column.proofs.row_texts.repeated.Goals as goal
 
 abbrev now_of : Bor (List ℕ) → List ℕ
 now_of t = t.now

@@ -17,12 +17,12 @@ use vl_row::Text;
 ///
 /// A contract sees it as the list of the values, each as the bytes of its text.
 #[derive(Drop)]
-pub struct Spelled<'a> {
+pub struct RowTexts<'a> {
     cells: &'a Cells,
     decimals: Vec<Text>,
 }
 
-impl<'a> Model for Spelled<'a> {
+impl<'a> Model for RowTexts<'a> {
     ghost use Rattle.std.specs.Prelude.{◌≡◌, List, ℕ};
     ghost use Rattle.block_column.specs.Cells.{IsCells, decimals_in, texts_of};
 
@@ -33,25 +33,25 @@ impl<'a> Model for Spelled<'a> {
     ghost invariant = { λ s. IsCells s.cells.now × (s.decimals.items ≡ decimals_in s.cells.now) };
 }
 
-impl<'a> Spelled<'a> {
-    pub(crate) fn of(alloc: Global, cells: &'a Cells) -> Result<Spelled<'a>, AllocError>
+impl<'a> RowTexts<'a> {
+    pub(crate) fn try_of(alloc: Global, cells: &'a Cells) -> Result<RowTexts<'a>, AllocError>
         requires { IsCells cells.now }
-        ensures { IfOk result (λ spelled. spelled ≡ texts_of cells.now) }
+        ensures { IfOk result (λ texts. texts ≡ texts_of cells.now) }
     {
         let decimals = decimals_of(alloc, cells)?;
-        Ok(Spelled { cells, decimals })
+        Ok(RowTexts { cells, decimals })
     }
 
     /// The text of each row.
     pub fn texts(&self, alloc: Global) -> Result<Vec<&str>, AllocError>
         ensures { IfOk result (λ texts. map (λ t. t.now) texts.items ≡ self.now) }
     {
-        row_texts(alloc, self.cells, self.decimals.as_slice())
+        texts_of(alloc, self.cells, self.decimals.as_slice())
     }
 }
 
 /// The text of each row.
-fn row_texts<'a>(
+fn texts_of<'a>(
     alloc: Global,
     cells: &'a Cells,
     decimals: &'a [Text],
