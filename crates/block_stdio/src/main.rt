@@ -1,6 +1,6 @@
 //! Makes blocks of the rows of JSON lines from standard input, writes each as bytes, and reads these again. The words
 //! say how many rows a block has at most (1,000 without them), and how often all this is done (once). It says how many
-//! rows and bytes there are in how many blocks, and, where a second word is there, how many nanoseconds a row the making
+//! rows, bytes and blocks there are. Where a second word is there, it says also how many nanoseconds a row the making
 //! and the reading took, the least of all rounds. It is for measuring.
 #![tactic(auto)]
 
