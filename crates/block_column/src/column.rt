@@ -1,22 +1,18 @@
 //! Columns.
 
 ghost use Rattle.std.specs.Prelude.{◌≡◌, ◌<◌, ◌^◌, ◌++◌, IfErr, IfOk, List, Ok, OnOk, Some, length, map, slice_get};
-ghost use Rattle.std.specs.Prelude.{IfNone, IfSome, false, is_some, sum_by, true, ℕ};
-ghost use Rattle.std.specs.List.{list_all};
-ghost use Rattle.std.specs.Str.{is_utf8};
+ghost use Rattle.std.specs.Prelude.{IfSome, is_some, sum_by, ℕ};
 ghost use Rattle.byte_format.specs.Format.{front};
 ghost use Rattle.byte_format.specs.Gives.{Gives};
 ghost use Rattle.byte_format.specs.Spelling.{reading};
 ghost use Rattle.col_codec.specs.Answers.{AnswersAs, IsPlaceOf};
 ghost use Rattle.block_column.specs.Body.{body, column, column_spelling, column_writing};
+ghost use Rattle.block_column.specs.Cells.{IsFirst, texts_of};
 ghost use Rattle.block_column.specs.Kinds.{body_of, code_of_kind, distinct, is_held_once, kind_of};
-ghost use Rattle.block_column.specs.Lengths.{HasLengths, are_within};
 ghost use Rattle.block_column.specs.Values.{value_text};
 
 use crate::cells::{Cells, kind_of, len_of, value_at};
-use crate::kept::first_kind_of;
 use crate::kinds::first_kind;
-use crate::lengths::{Lengths, lengths_of};
 use crate::members::members_of;
 use crate::put::put_cells;
 use crate::read::read;
@@ -56,6 +52,13 @@ impl Model for ValueColumn {
 }
 
 impl ValueColumn {
+    pub(crate) fn of(cells: Cells) -> ValueColumn
+        requires { IsFirst cells }
+        ensures { result ≡ texts_of cells }
+    {
+        ValueColumn { cells }
+    }
+
     /// A column of these values.
     pub fn try_of(alloc: Global, values: &[&str]) -> Result<ValueColumn, AllocError>
         requires { sum_by (λ t. length t.now) values.now < 2 ^ 32 }
@@ -175,28 +178,6 @@ impl FoundColumn {
         ensures { IfOk result (λ texts. texts ≡ self.now) }
     {
         RowTexts::try_of(alloc, &self.cells)
-    }
-
-    /// The same values, whose texts are at hand, in the first kind that fits, and how long they are, unless one of them
-    /// has more bytes than `most`, or all together 2^32 or more. All are in UTF-8.
-    pub fn to_column(
-        &self,
-        alloc: Global,
-        texts: &[&str],
-        most: usize,
-    ) -> Result<Option<(ValueColumn, Lengths)>, AllocError>
-        requires { map (λ t. t.now) texts.now ≡ self.now }
-        ensures column { IfOk result (λ found. IfSome found (λ x. x.0 ≡ self.now)) }
-        ensures lengths { IfOk result (λ found. IfSome found (λ x. HasLengths x.1 self.now)) }
-        ensures texts { IfOk result (λ found. IfSome found (λ x. list_all is_utf8 self.now ≡ true)) }
-        ensures within { IfOk result (λ found. IfSome found (λ x. are_within most self.now ≡ true)) }
-        ensures none { IfOk result (λ found. IfNone found (are_within most self.now ≡ false)) }
-    {
-        let Some(lengths) = lengths_of(texts, most) else {
-            return Ok(None);
-        };
-        let cells = first_kind_of(alloc, &self.cells, texts)?;
-        Ok(Some((ValueColumn { cells }, lengths)))
     }
 
     /// How many rows there are.

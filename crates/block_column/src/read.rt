@@ -34,8 +34,7 @@ fn to_column(alloc: Global, found: &FoundColumn) -> Result<Option<ValueColumn>, 
     ensures none { IfOk result (λ made. IfNone made (are_within (2 ^ 64 - 1) found.now ≡ false)) }
 {
     let lent = found.row_texts(alloc)?;
-    let texts = lent.texts(alloc)?;
-    match found.to_column(alloc, texts.as_slice(), usize::MAX)? {
+    match lent.to_column(alloc, usize::MAX)? {
         Some((values, _)) => Ok(Some(values)),
         None => Ok(None),
     }

@@ -68,8 +68,7 @@ fn push_column(
     most: usize,
 ) -> Result<(), AllocError> {
     let lent = found.row_texts(alloc)?;
-    let texts = lent.texts(alloc)?;
-    match found.to_column(alloc, texts.as_slice(), most)? {
+    match lent.to_column(alloc, most)? {
         Some((column, lengths)) => {
             let bytes = column.to_bytes(alloc)?;
             answer.push(' ')?;

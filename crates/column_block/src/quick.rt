@@ -178,13 +178,13 @@ fn filled_column(
     ensures filled { IfOk result (λ found. IfSome found (λ x. IsFilled column.now)) }
 {
     let lent = column.values.row_texts(alloc)?;
-    let texts = lent.texts(alloc)?;
-    let Some((values, lengths)) = column.values.to_column(alloc, texts.as_slice(), most)? else {
+    let Some((values, lengths)) = lent.to_column(alloc, most)? else {
         return Ok(None);
     };
     if !lengths.some {
         return Ok(None);
     }
+    let texts = lent.texts(alloc)?;
     let bloom = filter_of_column(alloc, &values, texts.as_slice())?;
     let name = column.name.try_copy(alloc)?;
     Ok(Some((ColumnHead::new(name, bloom), values, lengths)))
