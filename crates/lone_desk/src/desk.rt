@@ -1,7 +1,7 @@
 //! The desk and its calls.
 ghost use Rattle.std.specs.Prelude.{◌≡◌, ◌≤ℤ◌, [], IfErr, IfOk, List, OnErr, OnOk, Some, length, pos, unsigned_abs};
 ghost use Rattle.ingest_row.specs.Intake.{Outcome};
-ghost use Rattle.query_run.specs.Asked.{IsReadableQuery};
+ghost use Rattle.vl_session.specs.Asked.{IsReadableQuery};
 ghost use Rattle.vl_session.specs.Answer.{FailsQuery, HasRecords, IsOfEvaluation, IsQueryAnswer};
 ghost use Rattle.vl_session.specs.Insert.{CanBeBatch};
 ghost use Rattle.vl_session.specs.Seen.{HasRoom};
@@ -28,7 +28,7 @@ pub struct LoneDesk<'d, R> {
 }
 
 impl<'d, R> Model for LoneDesk<'d, R> {
-    ghost use Rattle.turn_lock.specs.Passes.{IsPassOf};
+    ghost use Rattle.log_desk.specs.Passes.{IsPassOf};
     ghost use Rattle.log_desk.specs.Seen.{Seen, caller_of, seen_of};
     ghost use Rattle.lone_desk.specs.Alone.{IsAlone};
 

@@ -6,7 +6,7 @@ use Rattle.std.proofs.Common.{inl, inr, refl, sym, ap, ◌∙◌, subst, arith}
 use Rattle.std.proofs.lemmas.Bool.{ltb-true, ltb-false, and_parts}
 use Rattle.std.proofs.lemmas.Int.{ints}
 use Rattle.std.proofs.lemmas.List.{length-drop}
-use Rattle.log_model.specs.MomentText.{IsMomentInRange}
+use Rattle.vl_row.specs.MomentText.{IsMomentInRange}
 use Rattle.time_text.specs.Reading.{◌>>=◌, digits_len, number_at, AreAlike}
 use Rattle.time_text.specs.DurationReading.{letter_unit, with_rest, unit_at, times, part_at, AnswersSum}
 use Rattle.time_text.specs.Bound.{AreInRange}

@@ -7,10 +7,10 @@ use Rattle.lq_ast.specs.Patterns.{CanBeRead, Pattern, all_patterns, patterns_of,
 use Rattle.lq_filter.specs.Refusal.{IsRefusal}
 use Rattle.lq_filter.specs.declared.fault.PrepareFault.{PrepareFault}
 use Rattle.lq_filter.specs.declared.fault.PrepareFault.TheVariants as refusals
-use Rattle.lq_grammar.specs.Query.{IsQueryText}
-use Rattle.lq_grammar.specs.declared.fault.QueryFault.{QueryFault}
-use Rattle.lq_grammar.specs.declared.fault.QueryFault.TheVariants.{Lex, Syntax, TooDeep, BadNumber, BadTime, BadDuration}
-use Rattle.lq_grammar.specs.declared.fault.QueryFault.TheVariants.{Memory}
+use Rattle.lq_parse.specs.Query.{IsQueryText}
+use Rattle.lq_parse.specs.QueryFault.{QueryFault}
+use Rattle.lq_parse.specs.QueryFault.TheVariants.{Lex, Syntax, TooDeep, BadNumber, BadTime, BadDuration}
+use Rattle.lq_parse.specs.QueryFault.TheVariants.{Memory}
 use Rattle.query_run.specs.Asked.{IsNoReadableQuery, refused_by, refused_pattern}
 use Rattle.query_run.specs.declared.query.QueryRefusal.TheVariants as outcomes
 

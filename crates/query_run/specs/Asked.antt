@@ -8,9 +8,9 @@ use Rattle.lq_filter.specs.Refusal.{IsFirstUnreadable}
 use Rattle.lq_filter.specs.Tree.{condition_of}
 use Rattle.lq_filter.specs.declared.fault.PrepareFault.{PrepareFault}
 use Rattle.lq_filter.specs.declared.fault.PrepareFault.TheVariants as preparing
-use Rattle.lq_grammar.specs.Query.{IsQueryText, QueryOf}
-use Rattle.lq_grammar.specs.declared.fault.QueryFault.{QueryFault}
-use Rattle.lq_grammar.specs.declared.fault.QueryFault.TheVariants as faults
+use Rattle.lq_parse.specs.Query.{IsQueryText, QueryOf}
+use Rattle.lq_parse.specs.QueryFault.{QueryFault}
+use Rattle.lq_parse.specs.QueryFault.TheVariants as faults
 use Rattle.query_run.specs.declared.query.QueryRefusal.{QueryRefusal}
 use Rattle.query_run.specs.declared.query.QueryRefusal.TheVariants.{Unspelled, Pattern, Memory}
 use Rattle.query_run.specs.declared.search.Search.{Search}

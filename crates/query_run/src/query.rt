@@ -2,7 +2,7 @@
 ghost use Rattle.std.specs.Prelude.{◌≡◌, ◌≢◌, Err, IfErr, IfOk, IsErr};
 ghost use Rattle.std.specs.List.{AllByRecursion};
 ghost use Rattle.lq_ast.specs.Patterns.{CanBeRead, all_patterns};
-ghost use Rattle.lq_grammar.specs.Query.{IsQueryText};
+ghost use Rattle.lq_parse.specs.Query.{IsQueryText};
 ghost use Rattle.query_run.specs.Asked.{HasReadablePipes, IsNoReadableQuery, IsReadableQuery, Refuses, asked_by};
 ghost use Rattle.query_run.specs.declared.query.QueryRefusal.TheVariants.{Memory, Unspelled};
 

@@ -8,7 +8,7 @@ use Rattle.ingest_row.specs.Ingest.{Options}
 use Rattle.ingest_row.specs.Intake.{Outcome, rows_read}
 use Rattle.vl_session.specs.Insert.{HasInsertOutcome, insert_effect}
 use Rattle.vl_session.specs.Insertion.{accepted}
-use Rattle.log_desk.specs.Seen.{Caller, Gains, Seen}
+use Rattle.lone_desk.specs.Seen.{Caller, Gains, Seen}
 use Rattle.vl_session.specs.Seen.{Has}
 use Rattle.vl_session.specs.declared.insert.Insertion.{Insertion}
 use Rattle.lone_desk.proofs.Laws.{batches-gained}

@@ -6,10 +6,10 @@ use Rattle.vl_io.specs.Lines.{is_feed}
 use Rattle.std.specs.Prelude.{count_by}
 use Rattle.vl_io.proofs.Laws.{Appends-trans, Rose-earlier}
 use Rattle.log_model.specs.History.{rows_of}
-use Rattle.lq_ast.specs.Question.{Question}
-use Rattle.lq_ast.specs.Evaluation.{evaluate}
+use Rattle.query_run.specs.Question.{Question}
+use Rattle.query_run.specs.Evaluation.{evaluate}
 use Rattle.query_run.specs.Asked.{IsReadableQuery}
-use Rattle.log_desk.specs.Seen.{Seen}
+use Rattle.lone_desk.specs.Seen.{Seen}
 use Rattle.vl_pipe.specs.Groups.{Arrival, refusals_of}
 use Rattle.vl_pipe.specs.Program as model
 use Rattle.vl_pipe.specs.Program.{AreFew, IsAnswer, IsTakenIn, overflow_text, overflowing, said_of_query, stop_text}

@@ -5,7 +5,7 @@ use Rattle.log_model.specs.Line.{lines_of}
 use Rattle.log_model.proofs.Lines.{lines_le}
 use Rattle.ingest_row.specs.Intake.{Outcome, passed_over, read, refused, refused_from}
 use Rattle.ingest_row.specs.declared.body.LineFault.{LineFault}
-use Rattle.log_desk.specs.Seen.{Seen}
+use Rattle.lone_desk.specs.Seen.{Seen}
 use Rattle.vl_pipe.specs.Groups.{Arrival, HasOutcome, names_after, refusal_text, refusals_from}
 use Rattle.vl_pipe.specs.Load.{RefusesGroup, StopsGroup}
 use Rattle.vl_pipe.specs.declared.interrupt.Interrupt.{Interrupt}

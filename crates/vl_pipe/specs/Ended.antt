@@ -2,7 +2,7 @@
 use Rattle.std.specs.Prelude.{ℕ, ◌+◌, ◌≤◌, List, [], ◌∷◌, ◌++◌, length}
 use Rattle.vl_io.specs.Change.{Change, Gave, IsCut, IsSpent, IsTold, IsUntold, Took}
 use Rattle.vl_io.specs.Lines.{piece_len}
-use Rattle.lq_ast.specs.Question.{Question}
+use Rattle.query_run.specs.Question.{Question}
 use Rattle.ingest_row.specs.Intake.{Outcome}
 use Rattle.vl_pipe.specs.Groups.{Arrival, BeginsWith, CanBeHeld, outcomes_in, refusals_from, refusals_of}
 use Rattle.vl_pipe.specs.Program.{IsAnswer, Overflow, Overflows, Stop, StopsBehind}

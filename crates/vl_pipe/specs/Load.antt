@@ -5,7 +5,7 @@ use Rattle.log_model.specs.Core.{held_limit}
 use Rattle.log_model.specs.History.{batches_in}
 use Rattle.log_model.specs.Row.{Batch, Row, batch_limit, batch_weight}
 use Rattle.ingest_row.specs.Intake.{Outcome, rows_read}
-use Rattle.log_desk.specs.Seen.{Seen}
+use Rattle.lone_desk.specs.Seen.{Seen}
 use Rattle.vl_session.specs.Seen.{batches_of_rows}
 use Rattle.vl_pipe.specs.Groups.{Arrival, BeginsWith, CanBeHeld, HaveOutcomes, batches_of, refusals_from, refusals_of}
 use Rattle.vl_pipe.specs.Program as model

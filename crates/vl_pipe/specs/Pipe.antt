@@ -3,9 +3,9 @@ use Rattle.std.specs.Prelude.{◌≡◌, ◌⊎◌, ℕ, List, []}
 use Rattle.vl_io.specs.Change.{Change, Gave, IsSpent, IsTold, IsUntold, Took}
 use Rattle.log_model.specs.History.{History}
 use Rattle.log_model.specs.Print.{lines_text}
-use Rattle.lq_ast.specs.Question.{Question}
-use Rattle.lq_ast.specs.Records.{Record}
-use Rattle.lq_grammar.specs.Query.{IsQueryText}
+use Rattle.query_run.specs.Question.{Question}
+use Rattle.query_run.specs.Records.{Record}
+use Rattle.query_run.specs.Query.{IsQueryText}
 use Rattle.query_run.specs.Asked.{IsNoReadableQuery, IsReadableQuery, Refuses}
 use Rattle.query_run.specs.declared.query.QueryRefusal.{QueryRefusal}
 use Rattle.query_run.specs.declared.query.QueryRefusal.TheVariants.{Memory}

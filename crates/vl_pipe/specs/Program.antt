@@ -8,11 +8,11 @@ use Rattle.log_model.specs.History.{History, batches_in, rows_of}
 use Rattle.log_model.specs.Field.{Field}
 use Rattle.log_model.specs.Print.{lines_text}
 use Rattle.log_model.specs.Row.{batch_limit, batch_weight}
-use Rattle.lq_ast.specs.Evaluation as evaluation
-use Rattle.lq_ast.specs.Evaluation.{evaluate, records}
-use Rattle.lq_ast.specs.Question.{Question}
-use Rattle.lq_grammar.specs.Faults.{fault_text}
-use Rattle.lq_grammar.specs.declared.fault.QueryFault.{QueryFault}
+use Rattle.query_run.specs.Evaluation as evaluation
+use Rattle.query_run.specs.Evaluation.{evaluate, records}
+use Rattle.query_run.specs.Question.{Question}
+use Rattle.query_run.specs.Faults.{fault_text}
+use Rattle.query_run.specs.QueryFault.{QueryFault}
 use Rattle.ingest_row.specs.Intake.{Outcome, rows_read}
 use Rattle.query_run.specs.Asked.{HasUnreadablePattern, IsUnspelled}
 use Rattle.vl_status.specs.Said.{no_memory_text}

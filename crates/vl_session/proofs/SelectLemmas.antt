@@ -6,13 +6,13 @@ use Rattle.log_model.specs.History.{History, rows_of}
 use Rattle.http_reply.specs.Reply.{reply_bytes}
 use Rattle.http_route.specs.Route.{Wanted, delivery_of, wanted_of}
 use Rattle.http_route.specs.declared.refusal.Refusal.{Refusal}
-use Rattle.lq_ast.specs.Evaluation as evaluation
-use Rattle.lq_ast.specs.Evaluation.{evaluate}
-use Rattle.lq_ast.specs.Patterns.{CanBeRead, Pattern, all_patterns}
-use Rattle.lq_ast.specs.Question.{Question}
-use Rattle.lq_ast.specs.Records.{Record}
-use Rattle.lq_grammar.specs.Query.{IsQueryText, QueryOf}
-use Rattle.lq_grammar.specs.declared.fault.QueryFault.{QueryFault}
+use Rattle.query_run.specs.Evaluation as evaluation
+use Rattle.query_run.specs.Evaluation.{evaluate}
+use Rattle.query_run.specs.Patterns.{CanBeRead, Pattern, all_patterns}
+use Rattle.query_run.specs.Question.{Question}
+use Rattle.query_run.specs.Records.{Record}
+use Rattle.query_run.specs.Query.{IsQueryText, QueryOf}
+use Rattle.query_run.specs.QueryFault.{QueryFault}
 use Rattle.query_run.specs.Asked.{HasUnreadablePattern, IsReadableQuery, IsUnspelled}
 use Rattle.log_desk.specs.Seen.{Caller}
 use Rattle.vl_session.specs.Answer.{FailsQuery, HasRecords, IsOfEvaluation}

@@ -2,9 +2,9 @@
 use Rattle.std.specs.Prelude.{◌≡◌, ◌≢◌, ℕ, List, length, Option, None, Some}
 use Rattle.log_model.specs.History.{History}
 use Rattle.log_model.specs.Print.{lines_text}
-use Rattle.lq_ast.specs.Evaluation as evaluation
-use Rattle.lq_ast.specs.Records.{Record}
-use Rattle.lq_grammar.specs.declared.fault.QueryFault.TheVariants as spelling
+use Rattle.query_run.specs.Evaluation as evaluation
+use Rattle.query_run.specs.Records.{Record}
+use Rattle.query_run.specs.QueryFault.TheVariants as spelling
 use Rattle.query_run.specs.declared.evaluation.RunFault.{RunFault}
 use Rattle.query_run.specs.declared.evaluation.RunFault.TheVariants as running
 use Rattle.query_run.specs.declared.query.QueryRefusal.{QueryRefusal}

@@ -6,14 +6,14 @@ use Rattle.log_model.specs.Print.{lines_text}
 use Rattle.http_reply.specs.declared.status.Kind.TheVariants as kinds
 use Rattle.http_reply.specs.declared.status.Status.{Status}
 use Rattle.http_reply.specs.declared.status.Status.TheVariants as statuses
-use Rattle.lq_ast.specs.Evaluation as evaluation
-use Rattle.lq_ast.specs.Evaluation.{evaluate}
-use Rattle.lq_ast.specs.Patterns.{CanBeRead, all_patterns}
-use Rattle.lq_ast.specs.Question.{Question}
-use Rattle.lq_ast.specs.Records.{Record}
-use Rattle.lq_grammar.specs.Faults.{fault_text}
-use Rattle.lq_grammar.specs.Query.{IsQueryText}
-use Rattle.lq_grammar.specs.declared.fault.QueryFault.{QueryFault}
+use Rattle.query_run.specs.Evaluation as evaluation
+use Rattle.query_run.specs.Evaluation.{evaluate}
+use Rattle.query_run.specs.Patterns.{CanBeRead, all_patterns}
+use Rattle.query_run.specs.Question.{Question}
+use Rattle.query_run.specs.Records.{Record}
+use Rattle.query_run.specs.Faults.{fault_text}
+use Rattle.query_run.specs.Query.{IsQueryText}
+use Rattle.query_run.specs.QueryFault.{QueryFault}
 use Rattle.query_run.specs.Asked.{HasUnreadablePattern, IsUnspelled}
 use Rattle.vl_session.specs.Seen.{Effect, looks, nothing}
 

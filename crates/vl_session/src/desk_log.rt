@@ -1,6 +1,6 @@
 //! The desk as the log of one of its callers.
 ghost use Rattle.std.specs.Prelude.{◌≡◌, ◌≤ℤ◌, IfOk, IsOkAnd, OnErr, pos, string_bytes, unsigned_abs};
-ghost use Rattle.turn_lock.specs.Passes.{IsPassOf};
+ghost use Rattle.log_desk.specs.Passes.{IsPassOf};
 ghost use Rattle.log_desk.specs.Seen.{Follows, caller_of, seen_of};
 ghost use Rattle.http_in.specs.Reading.{asked_by};
 ghost use Rattle.http_route.specs.Route.{wanted_of};
@@ -30,7 +30,7 @@ pub(crate) struct DeskLog<'s, R> {
 }
 
 impl<R: Wait> Log for DeskLog<'_, R> {
-    ghost use Rattle.turn_lock.specs.Passes.{IsPassOf};
+    ghost use Rattle.log_desk.specs.Passes.{IsPassOf};
     ghost use Rattle.log_desk.specs.Seen.{caller_of, seen_of};
 
     ghost seen = { λ log. seen_of log.pass.now };

@@ -1,7 +1,7 @@
 //! Lines of JSON taken in by the desk.
 ghost use Rattle.std.specs.Prelude.{◌≡◌, ◌≤ℤ◌, IfErr, IfOk, List, Some, length, pos, unsigned_abs};
 ghost use Rattle.ingest_row.specs.Intake.{Outcome};
-ghost use Rattle.turn_lock.specs.Passes.{IsPassOf};
+ghost use Rattle.log_desk.specs.Passes.{IsPassOf};
 ghost use Rattle.vl_session.specs.Incoming.{Commits, IsIncoming, IsUncommitted, IsNoBatch};
 ghost use Rattle.log_desk.specs.Seen.{caller_of, seen_of};
 ghost use Rattle.vl_session.specs.Insert.{CanBeBatch};

@@ -2,7 +2,7 @@
 ghost use Rattle.std.specs.Prelude.{◌≡◌, ℕ, ◌+◌, ◌++◌, List, [], ◌∷◌, flat_map, length};
 ghost use Rattle.log_model.specs.History.{History, batches_in};
 ghost use Rattle.log_model.specs.Row.{Batch};
-ghost use Rattle.lq_ast.specs.Records.{Record};
+ghost use Rattle.query_run.specs.Records.{Record};
 ghost use Rattle.ingest_row.specs.Ingest.{Options};
 ghost use Rattle.ingest_row.specs.Intake.{Outcome};
 ghost use Rattle.query_run.specs.Asked.{IsReadableQuery};

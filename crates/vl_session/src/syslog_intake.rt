@@ -2,7 +2,7 @@
 ghost use Rattle.std.specs.Prelude.{◌≡◌, ℕ, ◌+◌, ◌*◌, ◌^◌, ◌<◌, ◌≤◌, ◌≤ℤ◌, IfErr, IfOk, IfSome, List, OnOk, Option};
 ghost use Rattle.std.specs.Prelude.{length, pos, unsigned_abs, vec_len};
 ghost use Rattle.log_model.specs.Row.{Batch as Rows, IsRow, Row as Event, batch_weight};
-ghost use Rattle.turn_lock.specs.Passes.{IsPassOf};
+ghost use Rattle.log_desk.specs.Passes.{IsPassOf};
 ghost use Rattle.log_desk.specs.Seen.{caller_of, seen_of};
 ghost use Rattle.vl_session.specs.Seen.{Has, batches_of_rows};
 ghost use Rattle.vl_session.specs.SyslogSession.{IsMessageOutcome, TakesAll, batch_rows, end_effect, moment_of};

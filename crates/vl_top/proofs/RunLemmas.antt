@@ -1,9 +1,9 @@
 -- What a run comes to, by its command and its status.
 use Rattle.std.proofs.Common.{◌≡◌, ◌⊎◌, inl, inr, ℕ, List, [], Option, refl, sym, subst}
 use Rattle.vl_io.specs.Change.{HasFailed, IsTold}
-use Rattle.query_run.specs.Asked.{Refuses}
-use Rattle.query_run.specs.declared.query.QueryRefusal.{QueryRefusal}
-use Rattle.query_run.specs.declared.query.QueryRefusal.TheVariants.{Unspelled, Pattern, Memory}
+use Rattle.vl_pipe.specs.Asked.{Refuses}
+use Rattle.vl_pipe.specs.QueryRefusal.{QueryRefusal}
+use Rattle.vl_pipe.specs.QueryRefusal.TheVariants.{Unspelled, Pattern, Memory}
 use Rattle.command_line.specs.Asked.{IsCommand}
 use Rattle.command_line.specs.declared.command.Command.{Command}
 use Rattle.command_line.specs.declared.command.Command.TheVariants.{Pipe, Trial, Serve}

@@ -3,9 +3,9 @@ use Rattle.std.specs.Prelude.{◌≡◌, ◌⊎◌, ℕ, ◌++◌, ◌∷◌, Li
 use Rattle.std.specs.List.{AllByRecursion}
 use Rattle.vl_io.specs.Change.{Change, HasFailed, IsTold, IsUntold}
 use Rattle.vl_io.specs.Moments.{FirstTold}
-use Rattle.lq_ast.specs.Question.{Question}
-use Rattle.lq_grammar.specs.Query.{IsQueryText}
-use Rattle.query_run.specs.Asked.{IsNoReadableQuery, IsReadableQuery}
+use Rattle.vl_pipe.specs.Question.{Question}
+use Rattle.vl_pipe.specs.Query.{IsQueryText}
+use Rattle.vl_pipe.specs.Asked.{IsNoReadableQuery, IsReadableQuery}
 use Rattle.command_line.specs.Asked.{IsCommand}
 use Rattle.command_line.specs.Faults.{fault_text}
 use Rattle.command_line.specs.declared.command.Command.{Command}

@@ -1,8 +1,8 @@
 -- The workers of doors.
 use Rattle.std.specs.Prelude.{◌≡◌, ℕ, Bool, ⊤, List, map, count_by, MatchOption, is_some}
 use Rattle.std.specs.List.{AllZip}
-use Rattle.turn_lock.specs.Passes.{IsPassOf, LockId, PassState}
-use Rattle.log_core.specs.declared.entries.EntryRows.{EntryRows}
+use Rattle.log_desk.specs.Passes.{IsPassOf, LockId, PassState}
+use Rattle.log_desk.specs.EntryRows.{EntryRows}
 use Rattle.vl_top.specs.Doors.{DoorChange, IsServed}
 use Rattle.vl_top.specs.declared.worker.Worker.{Worker}
 

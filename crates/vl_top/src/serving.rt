@@ -1,7 +1,7 @@
 //! Serving doors side by side.
 ghost use Rattle.std.specs.Prelude.{◌≡◌, ◌<◌, ◌≤◌, All, [], count_by, false, length, map, vec_capacity, vec_len};
 ghost use Rattle.std.specs.List.{AllByRecursion, AllZip};
-ghost use Rattle.turn_lock.specs.Passes.{IsPassOf};
+ghost use Rattle.log_desk.specs.Passes.{IsPassOf};
 ghost use Rattle.log_desk.specs.Seen.{seen_of};
 ghost use Rattle.vl_top.specs.Doors.{AreServed, GoesOn, IsOver, door_change, door_changes, is_failed, has_visits};
 ghost use Rattle.vl_top.specs.Workers.{HasWorked, HaveEnded, IsOfDesk};

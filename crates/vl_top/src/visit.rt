@@ -1,6 +1,6 @@
 //! One visit.
 ghost use Rattle.std.specs.Prelude.{◌≡◌};
-ghost use Rattle.turn_lock.specs.Passes.{IsPassOf};
+ghost use Rattle.log_desk.specs.Passes.{IsPassOf};
 ghost use Rattle.log_desk.specs.Seen.{caller_of, seen_of};
 ghost use Rattle.vl_top.specs.Doors.{GoesOn};
 
