@@ -1,4 +1,4 @@
--- What is said of durations and bounds holds, and nothing else does.
+-- The meaning of durations and bounds is right, and the only one.
 use Rattle.std.proofs.Common.{◌≡◌, ℕ, zero, suc, ◌+◌, ◌^◌, ◌<◌, ◌≤◌, Bool, true, false, cond, ◌&&◌}
 use Rattle.std.proofs.Common.{nat_le, ltb}
 use Rattle.std.proofs.Common.{List, [], ◌∷◌, length, drop, slice_index, ℤ, pos, Option, Some, None, Result, Ok, Err}

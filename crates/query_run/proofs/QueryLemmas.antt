@@ -45,7 +45,7 @@ other_fault : (Q : Type 0) (c : Question) (fault : QueryFault) → IsOther fault
 other_fault Q c fault other finds =
     subst IsOk (sym (finds (λ same. subst (IsFault IsOther) same other))) tt
 
--- A text that spells a query has no fault but want of memory.
+-- A text that spells a query has no fault but out of memory.
 pub only_memory : (Q : Type 0) (c : Question) (fault : QueryFault) → FindsQuery Q c fault
     → refused_by fault ≡ outcomes.Memory
 only_memory Q c (Lex fault) finds = absurd (other_fault Q c (Lex fault) tt finds)

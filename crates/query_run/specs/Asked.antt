@@ -37,7 +37,7 @@ abbrev pub HasUnreadablePattern : List ℕ → ℕ → Type 0
 HasUnreadablePattern text nth =
     (query : Question) × IsQueryText text query × IsFirstUnreadable (all_patterns query) nth
 
--- why the text is refused; want of memory is free
+-- why the text is refused; `Memory` may always be returned
 abbrev pub Refuses : List ℕ → QueryRefusal → Type 0
 Refuses text (Unspelled fault) = IsUnspelled text fault
 Refuses text (Pattern nth) = HasUnreadablePattern text nth

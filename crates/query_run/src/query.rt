@@ -14,7 +14,7 @@ use std::alloc::Global;
 /// Why a query is not asked.
 #[derive(Clone, Copy, Debug, PartialEq, Eq)]
 pub enum QueryRefusal {
-    /// The text spells no query, for this fault, which is never want of memory.
+    /// The text spells no query, for this fault, which is never out of memory.
     Unspelled(QueryFault),
     /// The regular expression with this number, counted from 0 in the order of the text, is the first that cannot be
     /// read.
@@ -49,7 +49,7 @@ impl From<PrepareFault> for QueryRefusal {
     }
 }
 
-/// Reads the text and prepares its query, all of its patterns too. Want of memory is free.
+/// Reads the text and prepares its query, all of its patterns too. `Memory` may always be returned.
 pub fn read_query(alloc: Global, text: &str) -> Result<Search, QueryRefusal>
     ensures read { IfOk result (λ search. IsQueryText text.now (asked_by search)) }
     ensures pipes { IfOk result HasReadablePipes }

@@ -17,7 +17,7 @@ use Rattle.query_run.specs.QueryFault.{QueryFault}
 use Rattle.query_run.specs.Asked.{HasUnreadablePattern, IsUnspelled}
 use Rattle.vl_session.specs.Seen.{Effect, looks, nothing}
 
--- what a query comes to
+-- the result of a query
 pub data QueryOutcome : Type 0 where
   -- its text spells none
   unspelled : QueryFault → QueryOutcome
@@ -27,7 +27,7 @@ pub data QueryOutcome : Type 0 where
   found : List Record → QueryOutcome
   -- 2^32 rows hold, or more
   many_rows : QueryOutcome
-  -- the total of the function with this name is no 64-bit integer
+  -- the total of the function with this name is not a 64-bit integer
   overflows : List ℕ → QueryOutcome
 
 -- The text spells a query whose patterns can all be read, and this is its evaluation at that moment.

@@ -58,7 +58,7 @@ impl<R: Wait> Log for DeskLog<'_, R> {
     }
 }
 
-/// The reply to a request. Where memory runs out there is none, and nothing was added.
+/// Returns the reply to a request. Where memory runs out there is none, and nothing was added.
 fn reply_to<R: Wait>(
     access: &Access<'_, R>,
     pass: &mut Pass,
@@ -126,7 +126,7 @@ fn take_in<R: Wait>(
     }
 }
 
-/// The reply to a query.
+/// Returns the reply to a query.
 fn query_reply<R: Wait>(
     access: &Access<'_, R>,
     pass: &mut Pass,
@@ -154,7 +154,7 @@ fn query_reply<R: Wait>(
     }
 }
 
-/// A text as a reply.
+/// Returns a text as a reply.
 fn whole(text: Result<String, AllocError>) -> Result<Reply, AllocError>
     ensures { IfOk result (λ reply. IsOkAnd text (λ text. bytes_of reply ≡ string_bytes text)) }
 {

@@ -1,4 +1,4 @@
--- What a run comes to, by its command and its status.
+-- The result of a run, by its command and its status.
 use Rattle.std.proofs.Common.{◌≡◌, ◌⊎◌, inl, inr, ℕ, List, [], Option, refl, sym, subst}
 use Rattle.vl_io.specs.Change.{HasFailed, IsTold}
 use Rattle.vl_pipe.specs.Asked.{Refuses}
@@ -191,7 +191,7 @@ module _ (run : Run) where
     server = λ _ _. inr refl;
   }
 
-  -- the words are no command
+  -- the words are not a command
   pub usage_runs : IsNoCommand run.words → IsTold run.does.errors [] usage_text → run.status ≡ status_number Usage
       → IsRun run
   usage_runs none told number = record {

@@ -15,7 +15,7 @@ use std::thread::Threads;
 use std::{mem, thread};
 use vl_io::{Clock, Doors};
 
-/// What serving came to.
+/// The outcome of serving all listeners.
 #[derive(Clone, Copy, Debug, PartialEq, Eq)]
 pub struct ServeEnd {
     /// How many doors ended because they failed.
@@ -49,7 +49,7 @@ where
     ensures doors { length doors.new.items ≡ length doors.old.items }
     ensures served { AreServed (door_changes D.left D.faults doors.old.items doors.new.items) result.door_faults }
 
-    // It returns only where each door failed, or tells no visit that is left.
+    // It returns only where each door failed, or, where it tells, has no visit left.
     ensures over { AllByRecursion IsOver (door_changes D.left D.faults doors.old.items doors.new.items) }
 
     // Doors that failed are counted, and all are that have visits left.

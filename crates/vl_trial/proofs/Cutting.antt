@@ -115,7 +115,7 @@ drop_left state first n count =
     ∙ row_later state first n k
     ∙ sym (row_at (state_at state n) (first + n) count k d (omega (arith, length-drop n all))))
 
--- What is left is cut so: a piece of rows, and what is left behind it.
+-- The rows that are left are cut into a piece and the rest.
 first_piece : (state first count n : ℕ) → 0 < count → n ≡ min count 1000
     → batches_from state first count ≡ rows_from state first n ∷ batches_from (state_at state n) (first + n) (count - n)
 first_piece state first count n some is =
@@ -130,7 +130,7 @@ first_piece state first count n some is =
     cut_first all (omega (arith, length-rows_from state first count))
     ∙ (λ i. front i ∷ in_thousands (behind i))
 
--- the same where so many rows are all
+-- the same where this many rows are all
 pub next_piece : (state next rows n : ℕ) → next < rows → n ≡ min (rows - next) 1000
     → batches_from state next (rows - next)
     ≡ rows_from state next n ∷ batches_from (state_at state n) (next + n) (rows - (next + n))

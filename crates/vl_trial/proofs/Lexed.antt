@@ -20,7 +20,7 @@ use Rattle.lq_lex.proofs.TokenLaws.{token_sound}
 abbrev pub before_rest : List ℕ → List ℕ → List ℕ
 before_rest text rest = take (length text - length rest) text
 
--- the token behind a gap, before which so many bytes stand
+-- the token after a gap, before which this many bytes stand
 abbrev pub token_behind : ℕ → List ℕ → Kind → List ℕ → Token
 token_behind before gap kind body = record {
   kind = kind;
@@ -29,7 +29,7 @@ token_behind before gap kind body = record {
   glued = is_empty gap && not (before == 0);
 }
 
--- the tokens behind so many bytes, if there are any
+-- the tokens after this many bytes, if there are any
 abbrev Lexer : Type 0
 Lexer = ℕ → List ℕ → Option (List Token)
 
@@ -46,7 +46,7 @@ by_rest others before text [] = Some []
 by_rest others before text (c ∷ cs) =
     by_token others before (before_rest text (c ∷ cs)) (c ∷ cs) (token_at 0 (c ∷ cs))
 
--- The tokens of a text before which so many bytes stand, if it has fewer than the first number.
+-- The tokens of a text before which this many bytes stand, if it has fewer than the first number.
 abbrev pub tokens_in : ℕ → ℕ → List ℕ → Option (List Token)
 tokens_in zero before text = None
 tokens_in (suc n) before text = by_rest (tokens_in n) before text (skip text)
@@ -58,7 +58,7 @@ front_is text front rest parts =
     let count : length text - length rest ≡ length front = omega (arith, ap length parts, length-append front rest) in
     ap (λ (n : ℕ). take n text) count ∙ ap (take (length front)) parts ∙ take-append_seam front rest
 
--- the token behind white space
+-- the token after white space
 next_is : (before : ℕ) (text here rest : List ℕ) (kind : Kind) → here ≡ skip text → token_at 0 here ≡ Ok (kind, rest)
     → IsNext before text (token_behind before (before_rest text here) kind (before_rest here rest)) rest
 next_is before text here rest kind skipped is =

@@ -30,7 +30,7 @@ HasSmall most field r = IfSome (number_of (field_value r field)) (IsSmall most)
 later_most : (most n : ℕ) → suc n * most ≡ most + n * most
 later_most most n = omega arith
 
--- the total, which is no more than so many times the most
+-- the total, which is at most this many times the most
 record IsTotal (most : ℕ) (start : ℕ) (numbers : List ℤ) (sum : ℤ) : Type 0 where
   pub more : ℕ
   pub is : sum ≡ pos (start + more)

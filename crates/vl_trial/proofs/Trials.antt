@@ -15,7 +15,7 @@ use Rattle.vl_trial.specs.Questions.{all_counted, errors_by_app, slow_counted, t
 use Rattle.vl_trial.specs.Safety.{AlwaysEvaluates, CountsAndSums, IsCountOrSum, IsUpTo}
 use Rattle.vl_trial.proofs.Safe.{has_records}
 
--- Setting the computed fields leaves `ms` alone.
+-- Setting the computed fields leaves `ms` as it is.
 others_set : (number draw : ℕ) (stream id time : List ℕ)
     → let with_stream = set_field (fields_of number draw) (codes "_stream") stream in
     let with_id = set_field with_stream (codes "_stream_id") id in

@@ -86,7 +86,7 @@ fn push_row(text: &mut String, row: &Row) -> Result<(), AllocError> {
     text.push('\n')
 }
 
-/// The first rows of a seed.
+/// Returns the first rows of a seed.
 fn first_rows(alloc: Global, seed: u64, rows: u64) -> Result<String, AllocError> {
     let mut text = String::new(alloc);
     if rows <= 1_000 {
