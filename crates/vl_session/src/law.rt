@@ -20,7 +20,7 @@ ghost use Rattle.vl_session.specs.Turns.{accepted_in, desk_turns_of};
 ghost use Rattle.vl_session.specs.declared.answer.AnswerFault.{AnswerFault};
 
 use ingest_row::intake_law;
-use lq_grammar::query_law;
+use query_run::query_law;
 
 /// A query that has records has no other outcome. So a select that asks it is answered with them, or that memory ran
 /// out.

@@ -9,7 +9,7 @@ ghost use Rattle.vl_session.specs.Sent.{bytes_of};
 use crate::answer::AnswerFault;
 use crate::log::Reply;
 use http_reply::{Delivery, Kind, Status, reply, reply_head};
-use lq_grammar::QueryFault;
+use query_run::QueryFault;
 use std::alloc::{AllocError, Global};
 use vl_row::Text;
 
