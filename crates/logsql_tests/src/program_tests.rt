@@ -1,5 +1,4 @@
 //! The program over objects in memory.
-ghost use Rattle.std.specs.Prelude.{};
 ghost use Rattle.vl_io.specs.Moments.{IsMoment};
 
 use std::alloc::{AllocError, AllocGlobal, Global};

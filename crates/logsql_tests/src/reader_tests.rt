@@ -57,14 +57,14 @@ impl Reader {
         let is_cut = self.part == Part::Query;
         self.part = Part::Head;
         if is_cut {
-            return text(alloc, "no ---- after this query\n\n");
+            return copied(alloc, "no ---- after this query\n\n");
         }
-        text(alloc, "\n")
+        copied(alloc, "\n")
     }
 
     fn read_head(&mut self, alloc: Global, line: &str) -> Result<String, AllocError> {
         if let Some(query) = line.strip_prefix("query ") {
-            self.query = text(alloc, query)?;
+            self.query = copied(alloc, query)?;
             self.part = Part::Query;
         } else if line == "rows" {
             self.setting.rows = String::new(alloc);
@@ -79,7 +79,7 @@ impl Reader {
 
     fn read_option(&mut self, alloc: Global, line: &str) -> Result<String, AllocError> {
         if let Some(names) = line.strip_prefix("stream_fields ") {
-            self.setting.stream_fields = text(alloc, names)?;
+            self.setting.stream_fields = copied(alloc, names)?;
             return shown(alloc, line);
         }
         let moment = line.strip_prefix("now ").unwrap_or("");
@@ -122,7 +122,7 @@ fn shown(alloc: Global, line: &str) -> Result<String, AllocError> {
     format!(in alloc; "{line}\n")
 }
 
-/// A text of its own.
-fn text(alloc: Global, text: &str) -> Result<String, AllocError> {
+/// The text, copied.
+fn copied(alloc: Global, text: &str) -> Result<String, AllocError> {
     format!(in alloc; "{text}")
 }
