@@ -41,10 +41,11 @@ pub fn ask<R: AllocGlobal + Threads + Wait + Sync>(
 ) -> Result<String, AllocError> {
     let names = setting.stream_fields.as_str();
     let rows = setting.rows.as_str();
-    if setting.now < 0 {
-        return Ok(String::new(rt.alloc()));
+    let now = setting.now;
+    if now < 0 {
+        return format!(in rt.alloc(); "no clock reads {now}\n");
     }
-    let clock = clock_at(rt.alloc(), setting.now)?;
+    let clock = clock_at(rt.alloc(), now)?;
     if names.is_empty() {
         return run_words(rt, &["pipe", "--", query], rows, clock);
     }
