@@ -64,11 +64,11 @@ work=$(mktemp -d) || exit 1
 trap 'rm -rf "$work"' EXIT
 for file; do
   [ -r "$file" ] || { number=0; wrong "there is no such file"; continue; }
-  part=head rows='' stream_fields='' clock='' title='' number=0
+  part='head' rows='' stream_fields='' clock='' title='' number=0
   while IFS= read -r line || [ -n "$line" ]; do
     number=$((number + 1))
     if [ -z "$line" ]; then
-      end_case; part=head
+      end_case; part='head'
     elif [ "$part" = wanted ]; then
       wanted+=$line$'\n'
     elif [ "$part" = query ]; then
