@@ -1,6 +1,6 @@
 #!/usr/bin/env bash
-# Asks the built program the cases of tests/logsql/ that do not set the clock: each fifth of them; those of the files that
-# are named; or, with the word all, all of them. tests/logsql/README.md describes the files.
+# Asks the built program the cases of tests/logsql/ that do not set the clock: each fifth of them, or those of the files
+# that are named, or, with the word all, all of them. tests/logsql/README.md describes the files.
 # Its last line is 'N passed, M failed'.
 set -u
 export LC_ALL=C.UTF-8
@@ -63,7 +63,7 @@ read_head() {
 work=$(mktemp -d) || exit 1
 trap 'rm -rf "$work"' EXIT
 for file; do
-  [ -r "$file" ] || { number=0; wrong "there is no such file"; continue; }
+  [ -r "$file" ] || { number=0; wrong "the file cannot be read"; continue; }
   part='head' rows='' stream_fields='' clock='' title='' number=0
   while IFS= read -r line || [ -n "$line" ]; do
     number=$((number + 1))
