@@ -1,7 +1,7 @@
 use Rattle.std.proofs.Common.{◌≡◌, ◌++◌, nat_lt, drop, string_bytes}
 use Rattle.log_model.specs.Stream.{label_text}
 use Rattle.stream_label.proofs.Joined.{rest_text}
-use Rattle.stream_label.proofs.text_of.Given as goal
+use Rattle.stream_label.proofs.format_labels.Given as goal
 
 abbrev pub invariant-loop-place : goal.invariant-loop-place
 invariant-loop-place l =
