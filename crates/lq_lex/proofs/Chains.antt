@@ -2,7 +2,7 @@
 use Rattle.std.proofs.Common.{◌≡◌, ℕ, ◌+◌, ◌<◌, ◌≤◌, Bool, not, ◌&&◌, eqb, List, [], ◌∷◌, ◌++◌, length, chars, Option, Some, None, Result, Ok, Err, refl, sym, ap, ◌∙◌, ◌⊎◌, inl, inr, subst, arith}
 use Rattle.std.specs.Str.{encode_utf8_all}
 use Rattle.std.proofs.lemmas.List.{append_cancel_right}
-use Rattle.log_model.specs.Field.{is_empty}
+use Rattle.vl_row.specs.Field.{is_empty}
 use Rattle.lq_lex.specs.declared.token.Kind.{Kind}
 use Rattle.lq_lex.specs.declared.fault.LexFault.{LexFault}
 use Rattle.lq_lex.specs.declared.fault.LexFault.TheVariants.{TooLong, OpenQuote, BadEscape, BadChar, Memory}

@@ -4,7 +4,7 @@ use Rattle.std.specs.Char.{is_whitespace}
 use Rattle.std.specs.List.{list_any}
 use Rattle.std.proofs.lemmas.Bool.{or_cases, and_parts, eqb-true, ltb-true}
 use Rattle.std.specs.Prelude.{codes}
-use Rattle.log_model.specs.Words.{is_word_char}
+use Rattle.vl_row.specs.Words.{is_word_char}
 use Rattle.lq_lex.specs.Lexing.{begins_bare, is_quote, is_mark}
 use Rattle.ucd_category.proofs.Computing.{ucd_category}
 

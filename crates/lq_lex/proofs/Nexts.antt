@@ -7,7 +7,7 @@ use Rattle.std.proofs.lemmas.Bool.{eqb-true, ltb-true}
 use Rattle.std.proofs.Common.{eq-eqb}
 use Rattle.std.proofs.lemmas.List.{append_cancel_right, append-nil}
 use Rattle.std.proofs.lemmas.Str.{encodes-append, encodes-chars}
-use Rattle.log_model.specs.Field.{is_empty}
+use Rattle.vl_row.specs.Field.{is_empty}
 use Rattle.lq_lex.specs.declared.token.Kind.{Kind}
 use Rattle.lq_lex.specs.declared.fault.LexFault.{LexFault}
 use Rattle.lq_lex.specs.Token.{Token}

@@ -4,8 +4,8 @@ use Rattle.std.specs.Prelude.{flat_map, codes, chars, IsTrue, Result, Ok, Err, i
 use Rattle.std.specs.List.{list_all, list_any}
 use Rattle.std.specs.Char.{is_whitespace}
 use Rattle.std.specs.Str.{encode_utf8_all}
-use Rattle.log_model.specs.Field.{is_empty}
-use Rattle.log_model.specs.Words.{is_word_char}
+use Rattle.vl_row.specs.Field.{is_empty}
+use Rattle.vl_row.specs.Words.{is_word_char}
 use Rattle.lq_lex.specs.declared.token.Kind.{Kind}
 use Rattle.lq_lex.specs.declared.token.Kind.TheVariants.{Bare, Quoted, Mark}
 use Rattle.lq_lex.specs.declared.fault.LexFault.{LexFault}
