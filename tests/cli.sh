@@ -187,5 +187,8 @@ judge "4,096 batches" $status 0
 status=$?; wants "" $'full 4096\n'
 judge "4,097 batches" $status 8
 
+# each fifth of the cases of tests/logsql/
+if PROGRAM=$program "$top/tests/logsql.sh"; then passed=$((passed + 1)); else failed=$((failed + 1)); fi
+
 echo "$passed passed, $failed failed"
 [ "$failed" = 0 ]

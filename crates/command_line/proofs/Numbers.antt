@@ -28,7 +28,7 @@ same_number least most m n text spelled small h =
 integer_text : (text : List ℕ) (n : ℕ) → n < 2 ^ 63 → text ≡ decimal n → IsIntegerText text (pos n)
 integer_text text n small spelled = record { spelled = spelled; fits = omega (arith, ints) }
 
--- what is no integer is no number
+-- what is not an integer is not a number
 pub no_natural : (text : List ℕ) → ((z : ℤ) → IsIntegerText text z → ⊥)
     → (n : ℕ) → n < 2 ^ 63 → text ≡ decimal n → ⊥
 no_natural text none n small spelled = none (pos n) (integer_text text n small spelled)
@@ -37,7 +37,7 @@ no_natural text none n small spelled = none (pos n) (integer_text text n small s
 same_integer : (text : List ℕ) (y z : ℤ) → IsIntegerText text y → IsIntegerText text z → y ≡ z
 same_integer text y z a b = same_Some y z (sym (number_of-is text y a) ∙ number_of-is text z b)
 
--- an integer that is below zero is no number
+-- an integer that is below zero is not a number
 pub below_zero : {E : Type 0} (text : List ℕ) (z : ℤ) (r : Result ℕ E) → IsIntegerText text z
     → OkIff r (FitsUnsignedBits 64 (to_z w64 (of_z w64 z))) (nat_abs (to_z w64 (of_z w64 z)))
     → IfNone (result_ok r) ((n : ℕ) → n < 2 ^ 63 → text ≡ decimal n → ⊥)

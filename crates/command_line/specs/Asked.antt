@@ -42,7 +42,7 @@ HasValues values (Serve http syslog workers) =
     × (first_of (codes "syslog") values ≡ syslog)
     × AreWorkers (most_workers syslog) (first_of (codes "workers") values) workers
 
--- The words meet the program's definition and name this command, and it holds what the values behind its name say.
+-- The words meet the program's definition and name this command, and it holds what the values after its name say.
 pub record IsCommand (words : List Text) (command : Command) : Type 0 where
   pub values : List Row
   pub taken : fault_of program words ≡ []

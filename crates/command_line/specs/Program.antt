@@ -33,7 +33,7 @@ serve = command (codes "serve")
     (needed_option (codes "http") ∷ option (codes "syslog") ∷ option (codes "workers") ∷ [])
 
 -- The program without its commands. One of them is wanted. The words do not begin with the program's name, and there
--- is no help and no version.
+-- is no help flag and no version flag.
 abbrev pub bare : App
 bare = record {
   top = record (new_shape (codes "duvonka")) {

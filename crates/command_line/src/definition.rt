@@ -8,7 +8,7 @@ ghost use Rattle.command_line.specs.Program.{bare, needed_option, option, pipe, 
 use clap::{Arg, Command};
 use std::alloc::{AllocError, Global};
 
-/// The program with its commands.
+/// Returns the program with its commands.
 #[tactic(auto, unfolding(crate::specs::Program::program))]
 pub(crate) fn program<'a>(alloc: Global) -> Result<Command<'a>, AllocError>
     ensures { IfOk result (λ whole. app_of whole ≡ program) }
@@ -19,7 +19,7 @@ pub(crate) fn program<'a>(alloc: Global) -> Result<Command<'a>, AllocError>
         .subcommand(serve(alloc)?)
 }
 
-/// The program without its commands.
+/// Returns the program without its commands.
 fn bare_program<'a>(alloc: Global) -> Command<'a>
     ensures { app_of result ≡ bare }
 {
@@ -75,7 +75,7 @@ fn needed_option<'a>(alloc: Global, name: &'a str) -> Arg<'a>
     option(alloc, name).required(true)
 }
 
-/// A word at its place.
+/// Returns a word at its place.
 fn word<'a>(alloc: Global, name: &'a str) -> Arg<'a>
     ensures rule { rule_of result ≡ word name.entry.now }
     ensures local { result.global ≡ false }

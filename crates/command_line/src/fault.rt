@@ -1,4 +1,4 @@
-//! Why words are no command.
+//! Why words are not a command.
 ghost use Rattle.std.specs.Prelude.{◌≡◌};
 ghost use Rattle.clap.specs.Values.{kind_of};
 ghost use Rattle.command_line.specs.Faults.{fault_for};
@@ -9,10 +9,10 @@ use std::alloc::AllocError;
 use std::error::Error;
 use std::fmt;
 
-/// Why no command was read. The text of `Usage` also names `load` and `query`, which are no commands yet.
+/// Why no command was read. The text of `Usage` also names `load` and `query`, which are not commands yet.
 #[derive(Clone, Copy, Debug, PartialEq, Eq)]
 pub enum UsageFault {
-    /// The words are no command.
+    /// The words are not a command.
     Usage,
     /// Memory ran out.
     Memory,

@@ -9,8 +9,8 @@
 //! leading zero.
 //!
 //! An option is named in full, once, by `--NAME VALUE` or `--NAME=VALUE`, on either side of the other words of its
-//! command. What stands behind `--` is no option, so a query that begins with `-` stands there. A value may be empty,
-//! as in `--stream-fields=`, and `-` alone is a value. There is no help and no version.
+//! command. What stands after `--` is not an option, so a query that begins with `-` stands there. A value may be
+//! empty, as in `--stream-fields=`, and `-` by itself is a value. There is no help and no version.
 //!
 //! `clap` takes the words apart, by the definition in `specs/Program.antt`. The numbers are read here, since those of
 //! clap may also have a sign or zeros ahead.

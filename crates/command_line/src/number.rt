@@ -2,7 +2,7 @@
 ghost use Rattle.std.specs.Prelude.{◌≡◌, ℕ, ◌^◌, ◌<◌, IfNone, IfSome, Some, decimal};
 ghost use Rattle.command_line.specs.Asked.{IsNumber};
 
-/// The number from `least` to `most` that the text is, if it is one.
+/// Returns the number from `least` to `most` that the text is, if it is one.
 pub(crate) fn number_between(least: u64, most: u64, text: &str) -> Option<u64>
     requires { most < 2 ^ 63 }
     ensures some { IfSome result (IsNumber least most (Some text.now)) }
@@ -14,7 +14,7 @@ pub(crate) fn number_between(least: u64, most: u64, text: &str) -> Option<u64>
     }
 }
 
-/// The number below 2^63 whose decimal text this is, if it is one: digits without a sign or a zero ahead.
+/// Returns the number below 2^63 whose decimal text this is, if it is one: digits without a sign or a zero ahead.
 fn natural(text: &str) -> Option<u64>
     ensures some { IfSome result (λ number. (text.now ≡ decimal number) × (number < 2 ^ 63)) }
     ensures none { IfNone result ((number : ℕ) → number < 2 ^ 63 → text.now ≡ decimal number → ⊥) }

@@ -26,7 +26,7 @@ const MOST_SEED: u64 = i64::MAX as u64;
 /// The most rows that a trial makes.
 const MOST_ROWS: u64 = 1_000_000;
 
-/// The command that the words behind the program's name are.
+/// Returns the command that the words after the program's name are.
 ///
 /// `Usage` where they are none, and `Memory` where memory runs out.
 pub fn read_words(alloc: Global, words: &[&str]) -> Result<Command, UsageFault>
@@ -48,7 +48,7 @@ pub fn command_law()
     ensures { (words : List (List ℕ)) (a b : Command) → IsCommand words a → IsCommand words b → a ≡ b }
 {}
 
-/// What clap finds among the words.
+/// Returns what clap finds among the words.
 #[tactic(auto, using(crate::proofs::Matched::program_is_simple, crate::proofs::Matched::program_is_free))]
 fn matches_of<'a>(alloc: Global, words: &'a [&'a str]) -> Result<ArgMatches<'a>, UsageFault>
     ensures taken { OnOk result (fault_of program (map (λ word. word.now) words.entry.now) ≡ []) }
@@ -61,7 +61,7 @@ fn matches_of<'a>(alloc: Global, words: &'a [&'a str]) -> Result<ArgMatches<'a>,
     Ok(matches)
 }
 
-/// The name of the command, and what clap found behind it.
+/// Returns the name of the command, and what clap found after it.
 fn subcommand<'m, 'a>(matches: &'m ArgMatches<'a>) -> Option<(&'a str, &'m ArgMatches<'a>)>
     ensures { option_map (λ found. (found.0.now, rows_of (found_of found.1.now))) result
         ≡ subcommand_rows_of matches.now }
@@ -69,7 +69,7 @@ fn subcommand<'m, 'a>(matches: &'m ArgMatches<'a>) -> Option<(&'a str, &'m ArgMa
     matches.subcommand()
 }
 
-/// The command of this name.
+/// Returns the command of this name.
 fn command_of(alloc: Global, name: &str, values: &ArgMatches<'_>) -> Result<Command, UsageFault>
     ensures read { IfOk result (λ command. (name.now ≡ name_of command)
         × HasValues (rows_of (found_of values.now)) command) }
@@ -126,7 +126,7 @@ fn serve(alloc: Global, values: &ArgMatches<'_>) -> Result<Command, UsageFault>
     })
 }
 
-/// How many workers each address may have, by the address for syslog.
+/// Returns how many workers each address may have, by the address for syslog.
 fn most_workers(syslog: Option<&str>) -> u32
     ensures value { result ≡ most_workers (option_map (λ address. address.now) syslog.entry) }
     ensures small { result ≤ 64 }
@@ -134,7 +134,7 @@ fn most_workers(syslog: Option<&str>) -> u32
     if syslog.is_some() { 32 } else { 64 }
 }
 
-/// How many workers the words say, from 1 to `most`.
+/// Returns how many workers the words say, from 1 to `most`.
 fn workers(values: &ArgMatches<'_>, most: u32) -> Option<u32>
     ensures some { IfSome result (AreWorkers most (first_of (codes "workers") (rows_of (found_of values.now)))) }
     ensures none { IfNone result ((workers : ℕ)
@@ -149,7 +149,7 @@ fn workers(values: &ArgMatches<'_>, most: u32) -> Option<u32>
     }
 }
 
-/// The number from 0 to `most` that the value of an argument is.
+/// Returns the number from 0 to `most` that the value of an argument is.
 fn number(values: &ArgMatches<'_>, name: &str, most: u64) -> Option<u64>
     requires { most < 2 ^ 63 }
     ensures some { IfSome result (IsNumber 0 most (first_of name.now (rows_of (found_of values.now)))) }
@@ -159,7 +159,7 @@ fn number(values: &ArgMatches<'_>, name: &str, most: u64) -> Option<u64>
     number_between(0, most, value(values, name)?)
 }
 
-/// The value of an argument.
+/// Returns the value of an argument.
 #[tactic(auto, using(crate::proofs::Values::values_by_rows))]
 fn value<'a>(values: &ArgMatches<'a>, name: &str) -> Option<&'a str>
     ensures { option_map (λ text. text.now) result ≡ first_of name.now (rows_of (found_of values.now)) }
@@ -167,7 +167,7 @@ fn value<'a>(values: &ArgMatches<'a>, name: &str) -> Option<&'a str>
     values.get_str(name)
 }
 
-/// A copy of a text, where there is one.
+/// Returns a copy of a text, where there is one.
 fn copied(alloc: Global, text: Option<&str>) -> Result<Option<Text>, AllocError>
     ensures { IfOk result (λ copy. copy ≡ option_map (λ text. text.now) text.entry) }
 {

@@ -14,7 +14,7 @@ AreFewWorkers (Pipe fields query) = Unit {0}
 AreFewWorkers (Trial seed rows) = Unit {0}
 AreFewWorkers (Serve http syslog workers) = workers ≤ most_workers syslog
 
--- They are so many doors, all for visits of this kind.
+-- They are this many doors, all for visits of this kind.
 pub record AreDoors {R : Type 0} (kind : VisitKind) (count : ℕ) (doors : List (TcpDoors R)) : Type 0 where
   pub many : length doors ≡ count
   pub kinds : All (λ d. kind_of d ≡ kind) doors
@@ -29,6 +29,6 @@ AreDoorsOf {R} (Serve http (Some address) workers) doors =
     (web senders : List (TcpDoors R)) × AreDoors Http workers web × AreDoors Syslog workers senders
     × (doors ≡ web ++ senders)
 
--- They are these, and so many more for syslog.
+-- They are these, and this many more for syslog.
 abbrev pub GainDoors : {R : Type 0} → ℕ → List (TcpDoors R) → List (TcpDoors R) → Type 0
 GainDoors {R} count old new = (senders : List (TcpDoors R)) × AreDoors Syslog count senders × (new ≡ old ++ senders)

@@ -36,7 +36,7 @@ fn main(rt: HostRuntime) -> ExitCode {
     ExitCode::from(status)
 }
 
-/// The words behind the program's name. One that is not UTF-8 makes them no command.
+/// Returns the words after the program's name. One that is not UTF-8 makes them no command.
 fn words_of(rt: &HostRuntime) -> Result<Vec<String>, UsageFault> {
     match env::args(rt) {
         Ok(words) => words
@@ -48,7 +48,7 @@ fn words_of(rt: &HostRuntime) -> Result<Vec<String>, UsageFault> {
     }
 }
 
-/// The doors that the words ask for, and none where they ask for none.
+/// Returns the doors that the words ask for, and none where they ask for none.
 fn doors_for(rt: HostRuntime, words: &[&str]) -> Result<Vec<TcpDoors<HostRuntime>>, AllocError>
     ensures { IfOk result (λ doors. vec_len doors ≤ 64) }
 {
@@ -59,7 +59,7 @@ fn doors_for(rt: HostRuntime, words: &[&str]) -> Result<Vec<TcpDoors<HostRuntime
     }
 }
 
-/// The doors of a command: as many at each address as there are workers, and none for another command.
+/// Returns the doors of a command: as many at each address as there are workers, and none for another command.
 fn doors_of(rt: HostRuntime, command: &Command) -> Result<Vec<TcpDoors<HostRuntime>>, AllocError>
     requires { AreFewWorkers command.now }
     ensures doors { IfOk result (λ doors. AreDoorsOf command.now doors.items) }
@@ -80,7 +80,7 @@ fn doors_of(rt: HostRuntime, command: &Command) -> Result<Vec<TcpDoors<HostRunti
     }
 }
 
-/// These doors, and so many at another address.
+/// Returns these doors, and this many at another address.
 fn with_syslog(
     rt: HostRuntime,
     mut doors: Vec<TcpDoors<HostRuntime>>,

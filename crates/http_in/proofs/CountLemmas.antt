@@ -36,7 +36,7 @@ pub begun_append : (begun : Bool) (a b : List ℕ) → begun_after begun (a ++ b
 begun_append begun [] b = refl
 begun_append begun (x ∷ a) b = begun_append (begins_line begun x) a b
 
--- behind a text of which so many lines end and where a line has begun or has not
+-- after a text of which this many lines end and where a line has begun or has not
 lines_then : (begun after : Bool) (a b : List ℕ) → begun_after begun a ≡ after
     → lines_from begun (a ++ b) ≡ lines_from begun a + lines_from after b
 lines_then begun after a b is =
@@ -133,7 +133,7 @@ uri_quiet b is = grind (arith, nat_tests)
 value_quiet : (b : ℕ) → is_value_byte b ≡ true → IsQuiet b
 value_quiet b is = grind (arith, nat_tests)
 
--- a line has begun behind a token
+-- a line has begun after a token
 begins_both : (begun : Bool) (b : ℕ) → IsQuiet b → (b == carriage_return) ≡ false → begins_line begun b ≡ true
 begins_both true b x y = quiet_begun b x
 begins_both false b x y = ap (λ t. not t && not (b == carriage_return)) x ∙ ap not y

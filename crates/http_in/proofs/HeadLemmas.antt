@@ -41,7 +41,7 @@ take_append (suc n) (x ∷ xs) ys =
     ap (λ l. x ∷ l) (take_append n xs ys)
     ∙ ap (λ k. x ∷ (take n xs ++ take k ys)) (let e : n - length xs ≡ suc n - length (x ∷ xs) = omega arith in e)
 
--- there are no more fields than spans
+-- there are at most as many fields as spans
 pub few_fields : (buf : List ℕ) (headers : List HeaderSpan) (r : RequestSpans) (h : RequestHead)
     → IsRequestAt buf headers r h → length headers ≤ field_limit → length h.fields ≤ field_limit
 few_fields buf headers r h at room =

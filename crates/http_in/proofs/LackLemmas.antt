@@ -73,7 +73,7 @@ pub lacks_head_taken : (n : ℕ) (bytes : List ℕ) → LacksHead bytes → Lack
 lacks_head_taken n bytes none =
     lacks_head_front (take n bytes) (drop n bytes) (subst LacksHead (sym (take-append-drop n bytes)) none)
 
--- no head in so many bytes, and none that ends behind them
+-- no head in this many bytes, and none that ends after them
 pub lacks_head_from : (bytes : List ℕ) (from : ℕ) → LacksHead (take from bytes)
     → ((at : ℕ) → from ≤ at → EndsHead bytes at → ⊥) → LacksHead bytes
 lacks_head_from bytes from none ends = λ head after b. by_test head after b (nat_le (length (print_request head))
@@ -184,7 +184,7 @@ contains_behind front after = (
       line_feed,
 )
 
--- a text that ends in a line feed is whole in so many bytes, or its line feed stands behind them
+-- a text that ends in a line feed is whole in this many bytes, or its line feed stands after them
 feed_where : (n : ℕ) (bytes front after : List ℕ) → bytes ≡ (front ++ line_feed ∷ []) ++ after
     → ((later : List ℕ) × (take n bytes ≡ (front ++ line_feed ∷ []) ++ later)) ⊎ Contains (drop n bytes) line_feed
 feed_where n bytes front after e = by_test (nat_le (length text) n) refl

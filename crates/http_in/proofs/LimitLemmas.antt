@@ -41,7 +41,7 @@ front_long bytes n lines is few large =
       limit = λ _. inr (large, ap (λ k. take k bytes) at);
     }
 
--- so many bytes are those up to the limit
+-- this many bytes are those up to the limit
 up_to_limit : (bytes : List ℕ) (n : ℕ) → n ≡ min (length bytes) head_limit → take head_limit bytes ≡ take n bytes
 up_to_limit bytes n is = by_test (nat_le head_limit (length bytes)) refl
   where

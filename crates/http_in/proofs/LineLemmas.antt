@@ -22,7 +22,7 @@ pub bad_line : (n : ℕ) (bytes : List ℕ) → n ≤ head_limit → NeverHasChu
 bad_line n bytes few never =
     inl (take n bytes, drop n bytes, sym (take-append-drop n bytes), front_short n bytes few, never)
 
--- what stands behind a piece at the front of a front
+-- what stands after a piece at the front of a front
 behind : (len : ℕ) (front later piece : List ℕ) → front ≡ piece ++ drop len front → len ≤ length front
     → front ++ later ≡ piece ++ drop len (front ++ later)
 behind len front later piece e fits =
@@ -93,7 +93,7 @@ trailer_at front headers len count short room within of =
       fits = within.len_fits;
     }
 
--- ---- why there is no whole line
+-- ---- why the whole line is missing
 
 pub line_bad : (start at : ℕ) (bytes : List ℕ) (ended : Type 0) (fault : RequestFault)
     → (fault ≡ faults.BadChunk at) × HasBadLine bytes → StopsAtLine start at bytes ended fault
@@ -122,7 +122,7 @@ line_stops (Err x) start at slice bytes ended fault same stops (inl e) =
 line_stops (Err x) start at slice bytes ended fault same stops (inr e) =
     subst (λ l. StopsAtLine start at l ended x) same (line_bad start at slice ended x e)
 
--- ---- why there is no whole trailer section
+-- ---- why the whole trailer section is missing
 
 pub trailer_bad : (start at : ℕ) (bytes : List ℕ) (ended : Type 0) (fault : RequestFault)
     → HasTrailerFault at bytes fault → StopsAtTrailer start at bytes ended fault

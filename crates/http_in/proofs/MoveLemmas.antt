@@ -21,7 +21,7 @@ use Rattle.http_in.specs.declared.stage.Stage.TheVariants as stages
 use Rattle.http_in.proofs.BodyLemmas.{leads_data, leads_end, leads_last, leads_line, leads_rest, leads_to_end}
 use Rattle.http_in.proofs.BodyLemmas.{leads_trailer, leads_whole}
 
--- what was used up comes behind what led here
+-- what was used up comes after what led here
 pub moves_used : (old new : Progress) (piece used : List ℕ) → new.start ≡ old.start
     → old.ahead ++ piece ≡ used ++ new.ahead → new.place ≡ place (old.place + length used)
     → ((framing : Framing) (raw : List ℕ) → Leads framing raw old.stage old.body
@@ -56,7 +56,7 @@ moves_more a b c p q m n = record {
       );
 }
 
--- one step behind others
+-- one step after others
 pub moves_step : {S : Type 0} (left : S → Option (List ℕ)) (s t u : S) (a b c : Progress)
     → MovesIf left (LacksBody a) s t a b → MovesIf left (Lacks b.stage b.ahead) t u b c
     → MovesIf left (LacksBody a) s u a c
@@ -78,7 +78,7 @@ pub moves_none : {S : Type 0} (left : S → Option (List ℕ)) (short : Type 0) 
 moves_none left short src body ahead =
     ([], Consumes-nil (left src), moves_wait body ahead ahead [] (sym (append-nil ahead)), inl (refl, refl))
 
--- data in the window alone, and then from the source
+-- data in the window only, and then from the source
 pub takes_here : (ahead bytes ahead_new bytes_new : List ℕ) (count : ℕ) → ahead_new ≡ drop count ahead
     → bytes_new ≡ bytes ++ take count ahead → Takes ahead bytes ahead_new bytes_new []
 takes_here ahead bytes ahead_new bytes_new count a b = record {

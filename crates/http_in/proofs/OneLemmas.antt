@@ -78,7 +78,7 @@ last_same t u part other rest rest' a b e =
     e ∙ ap (λ l. l ++ rest') (b.text_is ∙ append-nil (print_chunk_line b.line)) in
     (chunk_line_unique (t ++ rest) a.line b.line rest rest' (a.is_line.form, one) (b.is_line.form, two)).1
 
--- a stage behind whole chunks: where it is, and that what it has and what it wants has room
+-- a stage after whole chunks: where it is, and that what it has and what it wants has room
 pub record IsAt (base before at : ℕ) (stage : Stage) (text part body : List ℕ) : Type 0 where
   pub tail : Tail stage text part
   pub size : length body ≡ before + length part
@@ -217,7 +217,7 @@ tail_chunk before at stages.Trailer t part body rest right d o tail size is room
     (ap (λ l. l ++ rest) (sym (tail.text_is ∙ append-nil (print_chunk_line tail.line))) ∙ e)
 tail_chunk before at stages.Done t part body rest right d o tail size is room e x = never_done at body rest o x
 
--- ---- behind chunks
+-- ---- after chunks
 
 room_len : (stage : Stage) (body : List ℕ) → HasRoom stage body → length body ≤ body_limit
 room_len (stages.Rest n) body room = omega (arith, room)
@@ -233,7 +233,7 @@ raw_of chunks = flat_map print_chunk chunks
 data_in : List Chunk → List ℕ
 data_in chunks = flat_map (λ (chunk : Chunk). chunk.bytes) chunks
 
--- a stage behind chunks that follow so much
+-- a stage after chunks that follow this much
 pub record IsFar (base before at : ℕ) (chunks : List Chunk) (stage : Stage) (text part body : List ℕ) : Type 0 where
   pub each : AllByRecursion IsChunk chunks
   pub tail : Tail stage text part
@@ -246,7 +246,7 @@ near : (base before at : ℕ) (stage : Stage) (text part body : List ℕ) → Is
 near base before at stage text part body f =
     record { tail = f.tail; size = omega (arith, f.size); room = f.room; at_is = f.at_is ∙ ap place (omega arith) }
 
--- behind the first chunk
+-- after the first chunk
 further : (base before at : ℕ) (c : Chunk) (cs : List Chunk) (stage : Stage) (text part body : List ℕ) (n m : ℕ)
     → n ≡ length (print_chunk c) → m ≡ length c.bytes → IsFar base before at (c ∷ cs) stage text part body
     → IsFar (base + n) (before + m) at cs stage text part body
@@ -387,7 +387,7 @@ bodies_one start bytes a b o p x y = by_framing b.framing refl
 
 -- ---- heads
 
--- what goes on behind a front that never becomes a head becomes one at most where it ends inside a target
+-- what goes on after a front that never becomes a head becomes one at most where it ends inside a target
 head_behind : (bytes front piece : List ℕ) → (f : HasBadHead bytes) → front ≡ f.front ++ piece
     → MayBecomeRequest front → EndsInTarget front
 head_behind bytes front piece f e (inr may) = may
@@ -407,7 +407,7 @@ bad_large_head bytes f (inr x) =
 bad_not_head : (bytes after : List ℕ) (head : RequestHead) → BeginsHead bytes head after → HasBadHead bytes → ⊥
 bad_not_head bytes after head b f = f.never f.later head after (subst (λ l. ReadsRequest l head after) f.whole b.reads)
 
--- ---- why there is no request
+-- ---- why the request is missing
 
 -- what is wrong with the head of a request, or with its body
 pub Why : ℕ → List ℕ → RequestFault → Type 0
@@ -442,7 +442,7 @@ head_of_why start bytes fault (inl f) = record { head = f.2.head; after = f.2.af
 head_of_why start bytes fault (inr f) =
     record { head = f.come.head; after = f.come.after; begins = f.come.begins }
 
--- a head at fault is no head
+-- a head at fault is not a head
 never_head : (start : ℕ) (bytes : List ℕ) (fault : RequestFault)
     → ((fault ≡ faults.BadHead (place start)) × HasBadHead bytes) ⊎ ((fault ≡ faults.HeadLarge) × HasLargeHead bytes)
     → HasHead bytes → ⊥

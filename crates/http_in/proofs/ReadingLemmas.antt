@@ -23,7 +23,7 @@ use Rattle.http_in.proofs.HeadLemmas.{head_some}
 
 -- ---- what is held
 
--- more bytes behind those that are ahead, while no head was taken in
+-- more bytes after those that are ahead, while no head was read
 pub holds_added : (start : ℕ) (bytes piece : List ℕ) (old new : Held) → old.head ≡ None → new.head ≡ None
     → new.progress.start ≡ old.progress.start → new.progress.ahead ≡ old.progress.ahead ++ piece
     → Holds start bytes old → Holds start (bytes ++ piece) new
@@ -202,7 +202,7 @@ held_done start bytes at old new asked some none s a done h len short body is ho
 
 -- ---- heads
 
--- why there is no head is why there is no request
+-- why the head is missing is why the request is missing
 pub head_explained : (start : ℕ) (bytes : List ℕ) (at : ℕ) (ended : Type 0) (fault : RequestFault) → at ≡ place start
     → ExplainsHead at bytes ended fault → Explains start bytes ended fault
 head_explained start bytes at ended faults.SourceFault s x = inl x

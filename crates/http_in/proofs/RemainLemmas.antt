@@ -1,4 +1,4 @@
--- Of a whole body a part came: what remains of it behind that part. So a body is one, and it is neither out of form
+-- Of a whole body a part came: what remains of it after that part. So a body is one, and it is neither out of form
 -- nor does it wait for more.
 use Rattle.std.proofs.Common.{◌≡◌, ℕ, ◌+◌, ◌-◌, ◌≤◌, Bool, true, false, List, [], ◌∷◌, ◌++◌, take, drop, length, ◌<◌}
 use Rattle.std.proofs.Common.{refl, ap, sym, subst, ◌∙◌, inl, inr, arith, append_assoc, append-nil, length-append}
@@ -62,7 +62,7 @@ same_front a b x y e same =
 
 -- ---- chunks, one after another
 
--- chunks, the last line, a trailer section, and what is behind
+-- chunks, the last line, a trailer section, and what is after
 pub record IsChunked (bytes : List ℕ) (chunks : List Chunk) (body behind : List ℕ) : Type 0 where
   pub each : AllByRecursion IsChunk chunks
   pub body_is : body ≡ flat_map (λ (chunk : Chunk). chunk.bytes) chunks
@@ -136,14 +136,14 @@ one_chunk c d left right is chunk e =
       ap (drop 2) (begun.0.later_is ∙ ap (λ l. l ++ (crlf_bytes ++ right)) none),
     )
 
--- what is chunked behind other chunks
+-- what is chunked after other chunks
 pub record IsBehind (rest behind body part : List ℕ) : Type 0 where
   pub chunks : List Chunk
   pub tail : List ℕ
   pub chunked : IsChunked rest chunks tail behind
   pub body_is : body ≡ part ++ tail
 
--- the chunks behind the first
+-- the chunks after the first
 later_chunks : (bytes body behind : List ℕ) (d : Chunk) (ds : List Chunk) → (is : IsChunked bytes (d ∷ ds) body behind)
     → IsChunked (flat_map print_chunk ds ++ (print_chunk_line is.line ++ (print_section is.fields is.last ++ behind)))
     ds (flat_map (λ (chunk : Chunk). chunk.bytes) ds) behind
@@ -194,14 +194,14 @@ behind_chunks (c ∷ cs) (d ∷ ds) bytes body behind rest all e is =
 
 -- ---- what remains
 
--- of a chunk's data so much is missing
+-- of a chunk's data this much is missing
 pub record IsRest (part rest body behind : List ℕ) (left : ℕ) : Type 0 where
   pub missing : List ℕ
   pub after : List ℕ
   pub size : length missing ≡ left
   pub rest_is : rest ≡ missing ++ (crlf_bytes ++ after)
 
--- Of the body `part` came, `rest` follows, and `behind` stands behind all of the body.
+-- Of the body `part` came, `rest` follows, and `after` stands after all of the body.
 abbrev pub Remains : Stage → List ℕ → List ℕ → List ℕ → List ℕ → Type 0
 Remains (stages.Rest left) part rest body behind = IsSplit part rest body behind × (length body ≡ length part + left)
 Remains stages.Line part rest body behind = IsBehind rest behind body part
@@ -247,7 +247,7 @@ remains_chunk raw part rest raw_whole body behind after left i e whole w =
         (first_chunk (line ++ (i.bytes ++ rest)) start.tail behind d ds is) in
         record { missing = begun.0.piece; after = right; size = begun.1; rest_is = begun.0.later_is }
 
--- behind the last line
+-- after the last line
 remains_trailer : (raw part rest raw_whole body behind after : List ℕ) → AreAllChunks raw part
     → after ≡ raw ++ rest → IsChunkedBody raw_whole body → after ≡ raw_whole ++ behind
     → Remains stages.Trailer part rest body behind
@@ -399,7 +399,7 @@ not_too_much part rest body b few f =
     (f.is_line.form, f.whole) in
     absurd (omega (arith, b.room, few, f.over, ap chunk_size same.0))
 
--- what goes over so many lines is no front of a text that has no more of them
+-- what goes over this many lines is not a front of a text that has no more of them
 pub over_text : (text after bytes front : List ℕ) (n lines : ℕ) → bytes ≡ text ++ after
     → GoesOver (take n bytes) front lines → lines_in text ≤ lines → (piece : List ℕ) × (front ≡ text ++ piece)
 over_text text after bytes front n lines e o few = by_test (nat_le (length text) (length front)) refl

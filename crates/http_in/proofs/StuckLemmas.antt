@@ -70,7 +70,7 @@ line_one at body body' rest None (Some g) w (inr y) =
     absurd (w.1 y.1.line y.1.behind (y.1.is_line.form, y.1.whole))
 line_one at body body' rest None None w v = refl
 
--- ---- behind a chunk's data
+-- ---- after a chunk's data
 
 pub end_goes_on : (at : ℕ) (body rest more : List ℕ) (o : Option RequestFault) → Stuck at stages.End body rest o
     → rest ≡ crlf_bytes ++ more → ⊥
@@ -108,7 +108,7 @@ few_over bytes front n lines few o =
 
 -- ---- at a trailer section
 
--- what goes on behind a front that never becomes a section does not become one
+-- what goes on after a front that never becomes a section does not become one
 section_behind : (rest front piece : List ℕ) → (f : HasBadSection rest) → front ≡ f.front ++ piece
     → MayBecomeSection front → ⊥
 section_behind rest front piece f e may =
@@ -142,9 +142,9 @@ section_one at body body' rest None (Some g) w (inl y) = absurd (bad_section_end
 section_one at body body' rest None (Some g) w (inr y) = absurd (large_section_ends rest y.1 w)
 section_one at body body' rest None None w v = refl
 
--- ---- what a stage has behind whole chunks
+-- ---- what a stage has after whole chunks
 
--- a line, and data of which so much is missing
+-- a line, and data of which this much is missing
 pub record InTail (text part : List ℕ) (left : ℕ) : Type 0 where
   pub line : ChunkLine
   pub is_line : IsLine line
@@ -285,7 +285,7 @@ last_has_line text part behind body rest before t size room = record {
   room = omega (arith, t.size, size, room);
 }
 
--- where the tail is no line's front
+-- where the tail is not a line's front
 pub tail_has_line : (stage : Stage) (text part body rest : List ℕ) (before : ℕ) → stage ≢ stages.Line
     → Tail stage text part
     → length body ≡ before + length part → HasRoom stage body → HasLine (text ++ rest) before

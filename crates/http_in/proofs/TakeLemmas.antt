@@ -3,7 +3,7 @@ use Rattle.std.proofs.Common.{◌≡◌, ℕ, ◌+◌, ◌≤◌, List, ◌++◌
 use Rattle.std.proofs.Math.Seq.{take-append-add, take-append_seam}
 use Rattle.std.proofs.lemmas.List.{take-append-drop, take-append-le, length-take, take_all}
 
--- where a buffer is `front`, then what was read, then more, and is cut behind the bytes that came
+-- where a buffer is `front`, then what was read, then more, and is cut after the bytes that came
 pub read_behind : (have count len : ℕ) (front piece more rest : List ℕ) → have ≡ length front → count ≤ length piece
     → have + count ≤ len
     → take (have + count) (take len (front ++ (piece ++ more) ++ rest)) ≡ front ++ take count piece

@@ -30,7 +30,7 @@ use Rattle.http_in.proofs.ReadingLemmas.{holds_moved}
 use Rattle.http_in.proofs.RemainLemmas.{no_lack}
 use Rattle.http_in.proofs.UniqueLemmas.{remains_at}
 
--- ---- a head is taken in
+-- ---- a head is read
 
 front_of : (n : ℕ) (bytes text rest : List ℕ) → bytes ≡ text ++ rest → n ≡ length text → take n bytes ≡ text
 front_of n bytes text rest e is = ap (take n) e ∙ ap (λ k. take k (text ++ rest)) is ∙ take_at text rest
@@ -72,7 +72,7 @@ room_first (framings.Sized n) stage body is none =
     subst (λ s. HasRoom s body) (sym is.0) (omega (arith, is.1, ap length none))
 room_first framings.Chunked stage body is none = subst (λ s. HasRoom s body) (sym is) (omega (arith, ap length none))
 
--- ---- before a head is taken in
+-- ---- before a head is read
 
 pub head_added : (start : ℕ) (bytes piece : List ℕ) (begun : Begun) (body : Body) (old new : List ℕ) → begun.head ≡ None
     → new ≡ old ++ piece → Holds start bytes (held_by begun body old) → Holds start (bytes ++ piece)
@@ -117,7 +117,7 @@ head_none a b begun body old new ended none p nothing over = (
   },
 )
 
--- a head came, was taken in, and then what follows
+-- a head came, was read, and then what follows
 pub head_then : (a b c : Option (List ℕ)) (begun0 begun1 : Begun) (body0 body1 : Body) (old mid new : List ℕ)
     (P : ℕ → List ℕ → Type 0) → begun0.head ≡ None → AddsPiece a b old mid
     → ((start : ℕ) (bytes : List ℕ) → Holds start bytes (held_by begun0 body0 mid) → Holds start bytes
@@ -221,7 +221,7 @@ ready_head left s t begun body old new none h m = by_asks m.3
         absurd (lacks h.begins.head h.begins.after
         (subst (λ l. BeginsHead l h.begins.head h.begins.after) same h.begins.begins))
 
--- the same request is held once its head was taken in
+-- the same request is held once its head was read
 pub ready_begun : (begun0 begun1 : Begun) (body0 body1 : Body) (old mid new : List ℕ) → mid ≡ old
     → ((start : ℕ) (bytes : List ℕ) → Holds start bytes (held_by begun0 body0 mid) → Holds start bytes
     (held_by begun1 body1 new))

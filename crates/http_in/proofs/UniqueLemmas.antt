@@ -62,7 +62,7 @@ no_unframed bytes rest asked fault x f =
 
 -- ---- bodies
 
--- what remains of the request's body behind a part of it
+-- what remains of the request's body after a part of it
 pub remains_at : (bytes rest : List ℕ) (asked : Asked) → Begins bytes asked rest → (head : RequestHead) (after : List ℕ)
     (framing : Framing) (raw : List ℕ) (stage : Stage) (body ahead : List ℕ) → BeginsHead bytes head after
     → framing_of (fields_of head) ≡ Ok framing → Leads framing raw stage body → after ≡ raw ++ ahead
@@ -112,7 +112,7 @@ not_inside bytes rest asked x (inl f) = f.1.none x.head x.after x.begins.reads
 not_inside bytes rest asked x (inr f) =
     no_wait f.come.stage f.come.body f.come.rest asked.body rest (remains_in bytes rest asked x f.come) f.waits
 
--- so no reading ends there, but for want of memory
+-- so no reading ends there, but for out of memory
 pub not_explained : (start : ℕ) (bytes rest : List ℕ) (asked : Asked) (ended : Type 0) (fault : RequestFault)
     → Begins bytes asked rest → fault ≢ faults.Memory → Explains start bytes ended fault → ⊥
 not_explained start bytes rest asked ended faults.SourceFault x other f = not_inside bytes rest asked x f
@@ -140,7 +140,7 @@ Begins-used bytes rest asked x =
       omega (arith, length-append text x.raw, head_some x.head x.begins.reads.0),
     )
 
--- no bytes are no request
+-- the empty input is not a request
 pub not_empty : (rest : List ℕ) (asked : Asked) → Begins [] asked rest → ⊥
 not_empty rest asked x =
     let u = Begins-used [] rest asked x in

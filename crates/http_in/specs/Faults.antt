@@ -20,8 +20,8 @@ use Rattle.http_in.specs.declared.stage.Stage.TheVariants as stages
 
 -- ---- heads
 
--- A front of the bytes is no head and never becomes one. It has so few bytes as a head may have, and of header lines,
--- whose line feeds count, so few: with the start line one more.
+-- A front of the bytes is not a head and never becomes one. It has so few bytes as a head may have, and of header
+-- lines, whose line feeds count, so few: with the start line one more.
 pub record HasBadHead (bytes : List ℕ) : Type 0 where
   pub front : List ℕ
   pub later : List ℕ
@@ -36,7 +36,7 @@ pub record IsHeadFront (bytes : List ℕ) : Type 0 where
   pub may : MayBecomeRequest bytes
   pub few : lines_in bytes ≤ field_limit + 1
 
--- nothing is against a front of the bytes, and behind it ends a header line too many
+-- nothing is against a front of the bytes, and after it ends a header line too many
 pub record HasHeadLine (bytes : List ℕ) : Type 0 where
   pub front : List ℕ
   pub is_front : IsHeadFront front
@@ -56,7 +56,7 @@ pub record HasUnframed (bytes : List ℕ) (fault : FieldFault) : Type 0 where
 
 -- ---- bodies
 
--- a front of the bytes, within the limit, is no chunk line and never becomes one; or that many bytes have none
+-- a front of the bytes, within the limit, is not a chunk line and never becomes one; or that many bytes have none
 abbrev pub HasBadLine : List ℕ → Type 0
 HasBadLine bytes =
     ((front : List ℕ) × (later : List ℕ) × (bytes ≡ front ++ later) × (length front ≤ head_limit)
@@ -92,7 +92,7 @@ pub record IsSectionFront (bytes : List ℕ) : Type 0 where
   pub may : MayBecomeSection bytes
   pub few : lines_in bytes ≤ field_limit
 
--- nothing is against a front of the bytes, and behind it ends a line too many
+-- nothing is against a front of the bytes, and after it ends a line too many
 pub record HasSectionLine (bytes : List ℕ) : Type 0 where
   pub front : List ℕ
   pub is_front : IsSectionFront front
@@ -135,7 +135,7 @@ Waits stages.End rest = IsInEnd rest
 Waits stages.Trailer rest = IsInSection rest
 Waits stages.Done rest = ⊥
 
--- Behind a head whose fields are in order a part of the body came.
+-- After a head whose fields are in order a part of the body came.
 pub record HasCome (bytes : List ℕ) : Type 0 where
   pub head : RequestHead
   pub after : List ℕ
@@ -182,6 +182,6 @@ pub record IsInBody (bytes : List ℕ) : Type 0 where
   pub come : HasCome bytes
   pub waits : Waits come.stage come.rest
 
--- The bytes are no whole request yet, and may still become one.
+-- The bytes are not a whole request yet, and may still become one.
 abbrev pub IsInside : List ℕ → Type 0
 IsInside bytes = IsInHead bytes ⊎ IsInBody bytes

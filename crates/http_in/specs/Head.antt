@@ -48,7 +48,7 @@ HasHeadFault place bytes (faults.BadChunk at) = ⊥
 HasHeadFault place bytes faults.Coding = HasUnframed bytes fields.Coding
 HasHeadFault place bytes faults.Memory = ⊥
 
--- why there is no head, where `ended` says that no more bytes come
+-- why the head is missing, where `ended` says that no more bytes come
 abbrev pub ExplainsHead : ℕ → List ℕ → Type 0 → RequestFault → Type 0
 ExplainsHead place bytes ended faults.SourceFault = IsInHead bytes
 ExplainsHead place bytes ended (faults.BadHead at) = (at ≡ place) × HasBadHead bytes

@@ -77,7 +77,7 @@ pub record EndsHead (bytes : List ℕ) (at : ℕ) : Type 0 where
   pub empty : begun_after false (take at bytes) ≡ false
   pub lines : 0 < lines_in (take at bytes)
 
--- So many of the bytes were searched, and this is so behind them.
+-- This many of the bytes were searched, and this is so after them.
 pub record IsPlace (search : Search) (bytes : List ℕ) : Type 0 where
   pub fits : search.searched ≤ length bytes
   pub begun : search.begun ≡ begun_after false (take search.searched bytes)

@@ -9,6 +9,6 @@ head_limit = 16384
 abbrev pub field_limit : ℕ
 field_limit = 100
 
--- so many bytes from the start of the connection, as far as a place goes
+-- this many bytes from the start of the connection, as far as a place goes
 abbrev pub place : ℕ → ℕ
 place n = min n (2 ^ 64 - 1)

@@ -1,11 +1,11 @@
--- Lines that are not empty, in a head or a section. An empty one has no byte, or a carriage return alone.
+-- Lines that are not empty, in a head or a section. An empty one has no bytes, or only a carriage return.
 use Rattle.std.specs.Prelude.{◌≡◌, ◌⊎◌, ℕ, ◌+◌, ◌<◌, ◌≤◌, Bool, true, false, not, ◌&&◌, ◌||◌, ◌==◌, List, [], ◌∷◌, ◌++◌}
 use Rattle.std.specs.Prelude.{get_or, length, take}
 use Rattle.std.specs.Prelude.{if◌then◌else◌}
 use Rattle.http_in.specs.Limits.{head_limit}
 use Rattle.httparse.specs.Ascii.{carriage_return, line_feed}
 
--- behind this byte a line has begun, where `begun` says so of the bytes before it
+-- after this byte a line has begun, where `begun` says so of the bytes before it
 abbrev pub begins_line : Bool → ℕ → Bool
 begins_line begun b = not (b == line_feed) && (begun || not (b == carriage_return))
 

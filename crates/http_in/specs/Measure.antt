@@ -13,6 +13,6 @@ weight stages.End = 3
 weight stages.Trailer = 1
 weight stages.Done = 0
 
--- so many steps there are at most
+-- this many steps there are at most
 abbrev pub steps_left : Stage → List ℕ → ℕ
 steps_left stage body = 4 * (body_limit - length body) + weight stage

@@ -37,11 +37,11 @@ progress_of body ahead = record {
 abbrev pub LeadsTo : Framing → ℕ → List ℕ → Progress → Type 0
 LeadsTo framing base raw p = Leads framing raw p.stage p.body × (p.place ≡ place (base + length raw))
 
--- so many bytes are left of the data that is being read
+-- this many bytes are left of the data that is being read
 abbrev pub IsData : Stage → ℕ → Type 0
 IsData stage left = (stage ≡ stages.Rest left) ⊎ (stage ≡ stages.Data left)
 
--- the stage in data of which so many bytes are left, where it was in that data before
+-- the stage in data of which this many bytes are left, where it was in that data before
 abbrev pub stage_with : Stage → ℕ → Stage
 stage_with (stages.Rest before) left = if left == 0 then stages.Done else stages.Rest left
 stage_with stages.Line left = stages.Line
@@ -79,7 +79,7 @@ pub record IsLineAt (bytes : List ℕ) (at : Line) : Type 0 where
   pub fits : at.len ≤ length bytes
   pub size : at.size ≡ chunk_size line
 
--- why there is no chunk line
+-- why the chunk line is missing
 abbrev pub StopsAtLine : ℕ → ℕ → List ℕ → Type 0 → RequestFault → Type 0
 StopsAtLine start place bytes ended faults.SourceFault = IsInLine bytes
 StopsAtLine start place bytes ended (faults.BadHead at) = ⊥
@@ -91,7 +91,7 @@ StopsAtLine start place bytes ended (faults.BadChunk at) = (at ≡ place) × Has
 StopsAtLine start place bytes ended faults.Coding = ⊥
 StopsAtLine start place bytes ended faults.Memory = ⊤
 
--- why there is no line end
+-- why the line end is missing
 abbrev pub StopsAtEnd : ℕ → ℕ → List ℕ → Type 0 → RequestFault → Type 0
 StopsAtEnd start place bytes ended faults.SourceFault = IsInEnd bytes
 StopsAtEnd start place bytes ended (faults.BadHead at) = ⊥
@@ -117,7 +117,7 @@ abbrev pub HasTrailerFault : ℕ → List ℕ → RequestFault → Type 0
 HasTrailerFault place bytes fault =
     ((fault ≡ faults.BadChunk place) × HasBadSection bytes) ⊎ ((fault ≡ faults.HeadLarge) × HasLargeSection bytes)
 
--- why there is no trailer section
+-- why the trailer section is missing
 abbrev pub StopsAtTrailer : ℕ → ℕ → List ℕ → Type 0 → RequestFault → Type 0
 StopsAtTrailer start place bytes ended faults.SourceFault = IsInSection bytes
 StopsAtTrailer start place bytes ended (faults.BadHead at) = ⊥
@@ -135,7 +135,7 @@ pub record Takes (ahead_old bytes_old ahead_new bytes_new piece : List ℕ) : Ty
   pub left : ahead_old ++ piece ≡ taken ++ ahead_new
   pub came : bytes_new ≡ bytes_old ++ taken
 
--- too little came, or there is no memory
+-- too little came, or memory ran out
 abbrev pub IsShort : ℕ → List ℕ → Type 0 → RequestFault → Type 0
 IsShort start ahead ended faults.SourceFault = ahead ≡ []
 IsShort start ahead ended (faults.BadHead at) = ⊥

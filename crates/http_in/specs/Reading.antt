@@ -72,7 +72,7 @@ asked_by request = record {
   last = request.last;
 }
 
--- why there is no further request in the bytes, where `ended` says that no more come
+-- why the next request cannot be read in the bytes, where `ended` says that no more come
 abbrev pub Explains : ℕ → List ℕ → Type 0 → RequestFault → Type 0
 Explains start bytes ended faults.SourceFault = IsInside bytes
 Explains start bytes ended (faults.BadHead at) = HasFault start bytes (faults.BadHead at)
@@ -100,7 +100,7 @@ abbrev pub fault_after : Result (Option Request) RequestFault → Option Request
 fault_after (Ok found) = None
 fault_after (Err fault) = lasting fault
 
--- The bytes begin with a request, and the reader stands behind it.
+-- The bytes begin with a request, and the reader stands after it.
 pub record FindsRequest (start : ℕ) (bytes : List ℕ) (new : Held) (asked : Asked) : Type 0 where
   pub used : List ℕ
   pub rest : List ℕ

@@ -20,7 +20,7 @@ use crate::window::Window;
 use http_said::BODY_LIMIT;
 use vl_io::Source;
 
-/// How many bytes a read is offered room for at least, where so many are missing. Its room is twice what the read
+/// How many bytes a read is offered room for at least, where this many are missing. Its room is twice what the read
 /// before gave, so that little is cleared for a source that gives little.
 const LEAST_ROOM: usize = 4_096;
 
@@ -82,7 +82,7 @@ fn step<S: Source>(window: &mut Window, body: &mut Body, src: &mut S) -> Result<
     }
 }
 
-/// The step through data of which so many bytes are left: of a body whose length was declared, or of a chunk.
+/// The step through data of which this many bytes are left: of a body whose length was declared, or of a chunk.
 fn data_step<S: Source>(
     window: &mut Window,
     body: &mut Body,
@@ -114,7 +114,7 @@ fn data_step<S: Source>(
     }
 }
 
-/// The stage in data of which so many bytes are left, where it was in that data before.
+/// Returns the stage in data of which this many bytes are left, where it was in that data before.
 fn stage_with(stage: Stage, left: usize) -> Stage
     ensures { result ≡ stage_with stage left }
 {
@@ -130,7 +130,7 @@ fn stage_with(stage: Stage, left: usize) -> Stage
     }
 }
 
-/// Takes so many bytes of data: first what the window has of them, then straight from the source.
+/// Takes this many bytes of data: first what the window has of them, then straight from the source.
 fn take_data<S: Source>(
     window: &mut Window,
     bytes: &mut Vec<u8>,
@@ -161,7 +161,7 @@ fn take_data<S: Source>(
     read_to(bytes, start, target, src)
 }
 
-/// Reads on until there are so many bytes, straight to their end.
+/// Reads on until there are this many bytes, straight to their end.
 fn read_to<S: Source>(
     bytes: &mut Vec<u8>,
     start: u64,
@@ -223,7 +223,7 @@ fn line_step<S: Source>(
     Ok(())
 }
 
-/// The step over the line end behind a chunk's data.
+/// The step over the line end after a chunk's data.
 fn end_step<S: Source>(
     window: &mut Window,
     body: &mut Body,
@@ -250,7 +250,7 @@ fn end_step<S: Source>(
     }
 }
 
-/// Reads on until the line end behind a chunk's data is whole, and uses it up.
+/// Reads on until the line end after a chunk's data is whole, and uses it up.
 fn line_end<S: Source>(
     window: &mut Window,
     start: u64,
@@ -281,7 +281,7 @@ fn line_end<S: Source>(
     }
 }
 
-/// Whether the bytes begin with a line end. Without one there are too few.
+/// Returns whether the bytes begin with a line end. Without one there are too few.
 fn line_end_in(bytes: &[u8], place: u64) -> Result<bool, RequestFault>
     ensures whole { result ≡ Ok true → bytes.now ≡ crlf_bytes ++ drop 2 bytes.now }
     ensures open { result ≡ Ok false → IsInEnd bytes.now }

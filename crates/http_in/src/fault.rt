@@ -1,15 +1,15 @@
-//! Why there is no further request.
+//! Why the next request cannot be read.
 
 use http_said::FieldFault;
 use std::alloc::AllocError;
 use vl_io::Failed;
 
-/// Why there is no further request. Places count bytes from the start of the connection.
+/// Why the next request cannot be read. Places count bytes from the start of the connection.
 #[derive(Clone, Copy, Debug, PartialEq, Eq, Drop)]
 pub enum RequestFault {
     /// The source failed.
     SourceFault,
-    /// The bytes from this place on are no head of a request, however they go on.
+    /// The bytes from this place on are not a head of a request, however they go on.
     BadHead { at: u64 },
     /// The input ended inside the request that begins at this place.
     Cut { at: u64 },

@@ -38,7 +38,7 @@ pub(crate) struct Head {
     pub(crate) last: bool,
 }
 
-/// Why bytes are no head.
+/// Why bytes are not a head.
 #[derive(Clone, Copy)]
 pub(crate) enum HeadFault {
     /// They are out of form.
@@ -78,7 +78,7 @@ pub(crate) fn whole_head<S: Source>(
     }
 }
 
-/// The head at the front of the bytes, if it is whole and it is time to parse.
+/// Returns the head at the front of the bytes, if it is whole and it is time to parse.
 fn head_if_due(bytes: &[u8], search: &mut Search, start: u64) -> Result<Option<Head>, RequestFault>
     requires place { IsPlace search.old bytes.now }
     requires none { LacksHead (take search.old.searched bytes.now) }
@@ -94,7 +94,7 @@ fn head_if_due(bytes: &[u8], search: &mut Search, start: u64) -> Result<Option<H
     head_in(bytes, start)
 }
 
-/// The head at the front of all bytes that come.
+/// Returns the head at the front of all bytes that come.
 fn head_at_end(bytes: &[u8], start: u64) -> Result<Option<Head>, RequestFault>
     ensures found { IfOk result (λ found. IfSome found (IsHeadAt bytes.now)) }
     ensures none { result ≡ Ok None → bytes.now ≡ [] }
@@ -111,7 +111,7 @@ fn head_at_end(bytes: &[u8], start: u64) -> Result<Option<Head>, RequestFault>
     }
 }
 
-/// The head at the front of the bytes, and without one this fault of the outside.
+/// Returns the head at the front of the bytes, and without one this fault of the outside.
 fn head_or(bytes: &[u8], start: u64, fault: RequestFault) -> Result<Option<Head>, RequestFault>
     requires { IsOutside fault }
     ensures found { IfOk result (λ found. IsSomeAnd found (IsHeadAt bytes.now)) }
@@ -125,7 +125,7 @@ fn head_or(bytes: &[u8], start: u64, fault: RequestFault) -> Result<Option<Head>
     }
 }
 
-/// The head at the front of the bytes, if it is whole.
+/// Returns the head at the front of the bytes, if it is whole.
 fn head_in(bytes: &[u8], start: u64) -> Result<Option<Head>, RequestFault>
     ensures found { IfOk result (λ found. IfSome found (IsHeadAt bytes.now)) }
     ensures open { result ≡ Ok None → (length bytes.now < head_limit) × IsHeadFront bytes.now }
@@ -141,7 +141,7 @@ fn head_in(bytes: &[u8], start: u64) -> Result<Option<Head>, RequestFault>
     }
 }
 
-/// The same, with a look at the lines, so that a line too many is found before what is behind it.
+/// Returns the same, with a look at the lines, so that a line too many is found before what is after it.
 fn head_within(bytes: &[u8], start: u64) -> Result<Option<Head>, RequestFault>
     ensures found { IfOk result (λ found. IfSome found (IsHeadAt bytes.now)) }
     ensures open { result ≡ Ok None → (length bytes.now < head_limit) × IsHeadFront bytes.now }
@@ -158,7 +158,7 @@ fn head_within(bytes: &[u8], start: u64) -> Result<Option<Head>, RequestFault>
     }
 }
 
-/// The head at the front of no more bytes than it may have.
+/// Returns the head at the front of no more bytes than it may have.
 fn parse_head(front: &[u8]) -> Result<Option<Head>, HeadFault>
     requires { length front.now ≤ head_limit }
     ensures found { IfOk result (λ found. IfSome found (IsHeadAt front.now)) }
@@ -177,7 +177,7 @@ fn parse_head(front: &[u8]) -> Result<Option<Head>, HeadFault>
     }
 }
 
-/// What the fields of a head say.
+/// Returns what the fields of a head say.
 fn framed_head(
     front: &[u8],
     headers: &[HeaderSpan],

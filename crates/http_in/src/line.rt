@@ -51,7 +51,7 @@ pub(crate) fn whole_line<S: Source>(
     }
 }
 
-/// The chunk line at the front of the bytes, if it is whole and a line end may have come.
+/// Returns the chunk line at the front of the bytes, if it is whole and a line end may have come.
 fn line_if_due(bytes: &[u8], searched: usize, place: u64) -> Result<Option<Line>, RequestFault>
     requires searched { searched ≤ length bytes.now }
     requires none { LacksLine (take searched bytes.now) }
@@ -65,7 +65,7 @@ fn line_if_due(bytes: &[u8], searched: usize, place: u64) -> Result<Option<Line>
     line_in(bytes, place)
 }
 
-/// Whether there is a line feed behind so many bytes, or there are as many bytes as a line may have.
+/// Returns whether there is a line feed after this many bytes, or there are as many bytes as a line may have.
 pub(crate) fn has_line_end(bytes: &[u8], searched: usize) -> bool
     requires { searched ≤ length bytes.now }
     ensures { IsTrue result ↔ (head_limit ≤ length bytes.now) ⊎ Contains (drop searched bytes.now) line_feed }
@@ -73,7 +73,7 @@ pub(crate) fn has_line_end(bytes: &[u8], searched: usize) -> bool
     bytes.len() >= HEAD_LIMIT || bytes[searched..].contains(&b'\n')
 }
 
-/// The chunk line at the front of the bytes, and without one this fault.
+/// Returns the chunk line at the front of the bytes, and without one this fault.
 fn line_or(bytes: &[u8], place: u64, fault: RequestFault) -> Result<Line, RequestFault>
     ensures found { IfOk result (IsLineAt bytes.now) }
     ensures fault { IfErr result (λ e. ((e ≡ fault) × IsInLine bytes.now)
@@ -86,7 +86,7 @@ fn line_or(bytes: &[u8], place: u64, fault: RequestFault) -> Result<Line, Reques
     }
 }
 
-/// The chunk line at the front of the bytes, if it is whole.
+/// Returns the chunk line at the front of the bytes, if it is whole.
 fn line_in(bytes: &[u8], place: u64) -> Result<Option<Line>, RequestFault>
     ensures found { IfOk result (λ found. IfSome found (IsLineAt bytes.now)) }
     ensures open { result ≡ Ok None → IsInLine bytes.now }

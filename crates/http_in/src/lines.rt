@@ -1,4 +1,4 @@
-//! Lines that are not empty, of which a head and a trailer section may have so many.
+//! Lines that are not empty, of which a head and a trailer section may have this many.
 ghost use Rattle.std.specs.Prelude.{◌≡◌, ◌+◌, ◌≤◌, IfSome, None};
 ghost use Rattle.http_in.specs.Limits.{field_limit};
 ghost use Rattle.http_in.specs.Lines.{EndsLine, IsFrontOf, begins_line, ends_line, lines_in};
@@ -13,7 +13,7 @@ pub(crate) struct Front<'a> {
     pub(crate) full: bool,
 }
 
-/// The bytes up to the limit of a head, and before the line feed that ends one line more than these.
+/// Returns the bytes up to the limit of a head, and before the line feed that ends one line more than these.
 pub(crate) fn front_of(bytes: &[u8], lines: usize) -> Front<'_>
     requires { lines ≤ field_limit + 1 }
     ensures { IsFrontOf bytes.now lines result.bytes.now result.full }
@@ -35,7 +35,7 @@ pub(crate) fn front_of(bytes: &[u8], lines: usize) -> Front<'_>
     }
 }
 
-/// Where the line feed is that ends one line more than these, if there is one.
+/// Returns where the line feed is that ends one line more than these, if there is one.
 fn end_of_line(bytes: &[u8], lines: usize) -> Option<usize>
     requires { lines ≤ field_limit + 1 }
     ensures none { result ≡ None → lines_in bytes.now ≤ lines }
@@ -53,14 +53,14 @@ fn end_of_line(bytes: &[u8], lines: usize) -> Option<usize>
     None
 }
 
-/// How many lines the byte ends, where `begun` says whether the line before it has bytes.
+/// Returns how many lines the byte ends, where `begun` says whether the line before it has bytes.
 pub(crate) fn ends_line(begun: bool, b: u8) -> usize
     ensures { result ≡ ends_line begun b }
 {
     if b == b'\n' && begun { 1 } else { 0 }
 }
 
-/// Whether the line that goes on behind the byte has bytes.
+/// Returns whether the line that goes on after the byte has bytes.
 pub(crate) fn begins_line(begun: bool, b: u8) -> bool
     ensures { result ≡ begins_line begun b }
 {

@@ -39,7 +39,7 @@ impl Model for Reader {
 }
 
 impl Reader {
-    /// A reader at the start of a connection. This allocates nothing.
+    /// Returns a reader at the start of a connection. This allocates nothing.
     pub fn new(alloc: Global) -> Reader
         ensures holds { Holds 0 [] result.held }
         ensures between { IsBetween result.held }
@@ -68,7 +68,7 @@ impl Reader {
         }
     }
 
-    /// The next request. `None` says that the input ended before a byte of a further request.
+    /// Returns the next request. `None` says that the input ended before a byte of a further request.
     ///
     /// A fault of the bytes is answered again at each further call. After `SourceFault` and `Memory` the bytes that
     /// were taken are kept, and the next call goes on from there.
@@ -112,7 +112,7 @@ impl Reader {
     }
 }
 
-/// The fault, if it lasts.
+/// Returns the fault, if it lasts.
 fn lasting(fault: RequestFault) -> Option<RequestFault>
     ensures { result ≡ lasting fault }
 {

@@ -8,7 +8,7 @@ pub struct Request {
     pub method: Text,
     /// The target up to its first question mark.
     pub path: Text,
-    /// The arguments behind that question mark, and then those of a form that was posted to a path that selects.
+    /// The arguments after that question mark, and then those of a form that was posted to a path that selects.
     pub args: Items<Field>,
     pub body: Items<u8>,
     /// Whether it asks that the connection ends.

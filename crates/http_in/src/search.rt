@@ -11,7 +11,7 @@ use crate::lines::{begins_line, ends_line};
 #[derive(Clone, Copy)]
 pub(crate) struct Search {
     pub(crate) searched: usize,
-    /// Whether the line that goes on behind the searched bytes has bytes.
+    /// Whether the line that goes on after the searched bytes has bytes.
     pub(crate) begun: bool,
     /// Whether a line that has bytes ended in them.
     pub(crate) ended: bool,
@@ -19,7 +19,7 @@ pub(crate) struct Search {
     pub(crate) parsed: usize,
 }
 
-/// The search of bytes that were not looked at.
+/// Returns the search of bytes that were not looked at.
 pub(crate) fn new_search() -> Search
     ensures place { IsPlace result [] }
     ensures none { result.searched ≡ 0 }
@@ -32,8 +32,8 @@ pub(crate) fn new_search() -> Search
     }
 }
 
-/// Whether it is time to parse the bytes: where a head may have ended in them, where they have doubled, and where a
-/// head may have no more.
+/// Returns whether it is time to parse the bytes: where a head may have ended in them, where they have doubled, and
+/// where a head may have no more.
 pub(crate) fn is_due(search: &mut Search, bytes: &[u8]) -> bool
     requires place { IsPlace search.old bytes.now }
     requires none { LacksHead (take search.old.searched bytes.now) }
@@ -68,7 +68,7 @@ fn ends_head(search: &mut Search, bytes: &[u8]) -> bool
     found
 }
 
-/// Whether the byte ends a line without bytes, where `begun` says whether the line before it has bytes.
+/// Returns whether the byte ends a line without bytes, where `begun` says whether the line before it has bytes.
 fn ends_empty_line(begun: bool, b: u8) -> bool
     ensures { result ≡ ((b == line_feed) && not begun) }
 {

@@ -3,13 +3,13 @@
 /// What comes next of a body (RFC 9112, sections 6.2 and 7.1).
 #[derive(Clone, Copy, Debug, PartialEq, Eq, Drop)]
 pub enum Stage {
-    /// So many bytes of a body whose length was declared.
+    /// This many bytes of a body whose length was declared.
     Rest(usize),
     /// A chunk line.
     Line,
-    /// So many bytes of a chunk's data.
+    /// This many bytes of a chunk's data.
     Data(usize),
-    /// The line end behind a chunk's data.
+    /// The line end after a chunk's data.
     End,
     /// The trailer section.
     Trailer,

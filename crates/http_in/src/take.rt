@@ -52,7 +52,7 @@ fn take_piece<S: Source>(
     Ok(count > 0)
 }
 
-/// Reads at most so many bytes, once, straight to the end of the list, and says whether there may be more.
+/// Reads at most this many bytes, once, straight to the end of the list, and says whether there may be more.
 pub(crate) fn read_more<S: Source>(
     src: &mut S,
     bytes: &mut Vec<u8>,

@@ -50,7 +50,7 @@ pub(crate) fn whole_trailer<S: Source>(
     }
 }
 
-/// The length of the trailer section at the front of the bytes, if it is whole and a line end may have come.
+/// Returns the length of the trailer section at the front of the bytes, if it is whole and a line end may have come.
 fn trailer_if_due(bytes: &[u8], searched: usize, place: u64) -> Result<Option<usize>, RequestFault>
     requires searched { searched ≤ length bytes.now }
     requires none { LacksSection (take searched bytes.now) }
@@ -64,7 +64,7 @@ fn trailer_if_due(bytes: &[u8], searched: usize, place: u64) -> Result<Option<us
     trailer_in(bytes, place)
 }
 
-/// The length of the trailer section at the front of the bytes, and without one this fault.
+/// Returns the length of the trailer section at the front of the bytes, and without one this fault.
 fn trailer_or(bytes: &[u8], place: u64, fault: RequestFault) -> Result<usize, RequestFault>
     ensures found { IfOk result (IsTrailerAt bytes.now) }
     ensures fault { IfErr result (λ e. ((e ≡ fault) × IsInSection bytes.now) ⊎ HasTrailerFault place bytes.now e) }
@@ -76,7 +76,7 @@ fn trailer_or(bytes: &[u8], place: u64, fault: RequestFault) -> Result<usize, Re
     }
 }
 
-/// The length of the trailer section at the front of the bytes, if it is whole.
+/// Returns the length of the trailer section at the front of the bytes, if it is whole.
 fn trailer_in(bytes: &[u8], place: u64) -> Result<Option<usize>, RequestFault>
     ensures found { IfOk result (λ found. IfSome found (IsTrailerAt bytes.now)) }
     ensures open { result ≡ Ok None → IsInSection bytes.now }
@@ -88,8 +88,8 @@ fn trailer_in(bytes: &[u8], place: u64) -> Result<Option<usize>, RequestFault>
     }
 }
 
-/// The length of the trailer section at the front of no more bytes than it may have. `None` says no more than that it
-/// is not there.
+/// Returns the length of the trailer section at the front of no more bytes than it may have. `None` says no more than
+/// that it is not there.
 fn whole_at_front(front: &[u8]) -> Option<usize>
     requires { length front.now ≤ head_limit }
     ensures { IfSome result (IsTrailerAt front.now) }
@@ -102,7 +102,7 @@ fn whole_at_front(front: &[u8]) -> Option<usize>
     }
 }
 
-/// The same, with a look at the lines, so that a line too many is found before what is behind it.
+/// Returns the same, with a look at the lines, so that a line too many is found before what is after it.
 fn trailer_within(bytes: &[u8], place: u64) -> Result<Option<usize>, RequestFault>
     ensures found { IfOk result (λ found. IfSome found (IsTrailerAt bytes.now)) }
     ensures open { result ≡ Ok None → IsInSection bytes.now }

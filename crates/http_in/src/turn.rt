@@ -28,7 +28,7 @@ pub(crate) struct Begun {
     pub(crate) bytes: Vec<u8>,
 }
 
-/// The next request, where so much of it came before.
+/// Returns the next request, where this much of it came before.
 pub(crate) fn read_request<S: Source>(
     alloc: Global,
     window: &mut Window,
@@ -51,7 +51,7 @@ pub(crate) fn read_request<S: Source>(
     }
 }
 
-/// The next request, of which no head was taken in.
+/// Returns the next request, of which no head was read.
 fn new_request<S: Source>(
     alloc: Global,
     window: &mut Window,
@@ -105,7 +105,7 @@ fn begin(
     Ok(())
 }
 
-/// What comes first of a body.
+/// Returns what comes first of a body.
 fn first_stage(framing: Framing) -> Stage
     requires { IsWithinLimit framing }
     ensures { IsFirst framing result }
@@ -116,7 +116,7 @@ fn first_stage(framing: Framing) -> Stage
     }
 }
 
-/// Reads the rest of a request whose head was taken in.
+/// Reads the rest of a request whose head was read.
 fn rest_of_request<S: Source>(
     alloc: Global,
     window: &mut Window,
@@ -164,7 +164,7 @@ fn end_request(alloc: Global, begun: &mut Begun, body: &mut Body) -> Result<Requ
     Ok(request)
 }
 
-/// The request with this head and this body, which goes over to it.
+/// Returns the request with this head and this body, which goes over to it.
 fn request_of(
     alloc: Global,
     bytes: &[u8],
@@ -193,7 +193,7 @@ fn request_of(
     })
 }
 
-/// The arguments of the target, and behind them those of the body where that is a form.
+/// Returns the arguments of the target, and after them those of the body where that is a form.
 fn arguments_in(
     alloc: Global,
     query: &str,
@@ -210,7 +210,7 @@ fn arguments_in(
     Ok(args)
 }
 
-/// The target up to its first question mark, and what stands behind it.
+/// Returns the target up to its first question mark, and what stands after it.
 fn split_target(target: &str) -> (&str, &str)
     ensures path { result.0.now ≡ path_of target.now }
     ensures query { result.1.now ≡ query_of target.now }

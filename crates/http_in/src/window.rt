@@ -48,7 +48,7 @@ impl Window {
         &self.bytes[self.from..]
     }
 
-    /// Uses so many bytes up.
+    /// Uses this many bytes up.
     pub(crate) fn use_up(&mut self, count: usize)
         requires { count ≤ length self.old }
         ensures { self.new ≡ drop count self.old }
@@ -75,7 +75,7 @@ impl Window {
     }
 }
 
-/// Drops so many bytes at the front.
+/// Drops this many bytes at the front.
 fn drop_front(bytes: &mut Vec<u8>, count: usize)
     requires { count ≤ length bytes.old.items }
     ensures { bytes.new.items ≡ drop count bytes.old.items }

@@ -79,7 +79,7 @@ fn push_failing(
     Ok(())
 }
 
-/// Whether so many of the bytes have the fault that all have.
+/// Returns whether this many of the bytes have the fault that all have.
 fn is_known(alloc: Global, bytes: &[u8], count: u64, wanted: &Reading) -> Result<bool, AllocError> {
     if !wanted.out_of_form {
         return Ok(false);
@@ -125,7 +125,7 @@ fn push_difference(
     write!(answer, "; {how} {}", reading.text)
 }
 
-/// So many pieces of one byte.
+/// Returns this many pieces of one byte.
 fn ones(alloc: Global, count: usize) -> Result<Vec<usize>, AllocError>
     ensures { IfOk result (λ ones. All (λ piece. 0 < piece) ones.items) }
 {

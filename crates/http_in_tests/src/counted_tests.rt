@@ -14,7 +14,7 @@ impl Counted {
         Counted { source, reads: 0 }
     }
 
-    /// How many reads were asked for.
+    /// Returns how many reads were asked for.
     pub fn reads(&self) -> u64 {
         self.reads
     }

@@ -11,7 +11,7 @@ use vl_io::MemSource;
 /// More calls than any case needs.
 const CALLS: u32 = 2_000;
 
-/// How a source gives its bytes: read k gives so many, and the reads with these numbers fail.
+/// How a source gives its bytes: read k gives this many, and the reads with these numbers fail.
 #[derive(Clone, Copy)]
 pub struct Cutting<'a> {
     pub pieces: &'a [usize],
@@ -24,7 +24,7 @@ pub const WHOLE: Cutting<'static> = Cutting {
     failing: &[],
 };
 
-/// What a connection comes to.
+/// The result of a connection.
 #[derive(Drop)]
 pub struct Reading {
     pub text: String,

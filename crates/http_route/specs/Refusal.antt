@@ -1,4 +1,4 @@
--- What is said to requests that are refused, and to bytes that are no requests.
+-- Replies to refused requests, and to bytes that are not requests.
 use Rattle.std.specs.Prelude.{ℕ, List, ◌++◌, Option, None, Some, codes, true, false}
 use Rattle.http_in.specs.declared.fault.RequestFault.{RequestFault}
 use Rattle.http_in.specs.declared.fault.RequestFault.TheVariants as faults
@@ -37,7 +37,7 @@ refusal_bytes refusal delivery = reply_bytes (refusal_status refusal) (refusal_t
 
 -- ---- reading faults
 
--- The connection ends behind the reply to a fault, and its request, which is not whole, may have any method.
+-- The connection ends after the reply to a fault, and its request, which is not whole, may have any method.
 abbrev pub last_delivery : Delivery
 last_delivery = record { bare = false; closes = true }
 

@@ -17,7 +17,7 @@ const NOT_SERVED: [Argument; 4] = [
     Argument::Offset,
 ];
 
-/// The text of the query.
+/// Returns the text of the query.
 pub(crate) fn query_text(args: &[Field]) -> Result<&str, Refusal>
     ensures ok { IfOk result (λ text. query_asked args.now ≡ Ok text.now) }
     ensures err { IfErr result (λ refusal. query_asked args.now ≡ Err refusal) }
@@ -29,7 +29,7 @@ pub(crate) fn query_text(args: &[Field]) -> Result<&str, Refusal>
     }
 }
 
-/// The first of these that is among the arguments.
+/// Returns the first of these that is among the arguments.
 fn first_there(args: &[Field], wanted: &[Argument]) -> Option<Argument>
     ensures { result ≡ find (λ name. is_some (argument args.now (argument_name name))) wanted.now }
 {

@@ -1,11 +1,11 @@
-//! What is said to bytes that are no request.
+//! Replies to bytes that are not a request.
 ghost use Rattle.std.specs.Prelude.{◌≡◌, option_map};
 ghost use Rattle.http_route.specs.Refusal.{fault_page};
 
 use http_in::RequestFault;
 
-/// The reply to a reading fault, behind which the connection ends. There is none where the input ended or failed, or
-/// memory ran out. It takes no memory itself.
+/// Returns the reply to a reading fault, after which the connection ends. There is none where the input ended or
+/// failed, or memory ran out. It takes no memory itself.
 pub fn fault_reply(fault: RequestFault) -> Option<&'static str>
     ensures { option_map (λ text. text.now) result ≡ fault_page fault }
 {

@@ -19,7 +19,7 @@ pub(crate) enum Route {
 }
 
 impl Route {
-    /// The route of a path, by a method.
+    /// Returns the route of a path, by a method.
     pub(crate) fn find(path: &str, method: &str) -> Result<Route, Refusal>
         ensures { result ≡ route_of path.now method.now }
     {
@@ -30,7 +30,7 @@ impl Route {
         }
     }
 
-    /// The route of a path.
+    /// Returns the route of a path.
     fn at(path: &str) -> Option<Route>
         ensures { result ≡ route_at path.now }
     {
@@ -54,7 +54,7 @@ impl Route {
     }
 }
 
-/// Whether this is one of the methods.
+/// Returns whether this is one of the methods.
 fn has_method(methods: Methods, method: &str) -> bool
     ensures { result ≡ has_method methods method.now }
 {

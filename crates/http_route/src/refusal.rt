@@ -1,4 +1,4 @@
-//! Why a request is refused, and what is said to it.
+//! Why a request is refused, and its reply.
 ghost use Rattle.std.specs.Prelude.{◌≡◌, IfOk, string_bytes};
 ghost use Rattle.http_reply.specs.Reply.{reply_bytes};
 ghost use Rattle.http_route.specs.Refusal.{argument_name, refusal_bytes, refusal_status, refusal_text};
@@ -9,7 +9,7 @@ use std::alloc::{AllocError, Global};
 /// Why a request is refused before the log is asked.
 #[derive(Clone, Copy, Debug, PartialEq, Eq, Drop)]
 pub enum Refusal {
-    /// There is no such path.
+    /// No such path.
     NoPath,
     /// The path has these methods, and not the one that came.
     NoMethod(Methods),
@@ -44,7 +44,7 @@ impl Argument {
 }
 
 impl Refusal {
-    /// The reply.
+    /// Returns the reply.
     pub fn reply(self, alloc: Global, delivery: Delivery) -> Result<String, AllocError>
         ensures { IfOk result (λ text. string_bytes text ≡ refusal_bytes self delivery) }
     {
@@ -61,7 +61,7 @@ impl Refusal {
     }
 }
 
-/// The reply that names an argument.
+/// Returns the reply that names an argument.
 fn argument_reply(
     alloc: Global,
     argument: Argument,

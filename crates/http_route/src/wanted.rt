@@ -15,13 +15,13 @@ use vl_row::Field;
 /// What a request asks for.
 #[derive(Drop)]
 pub enum Wanted<'a> {
-    /// The lines of the body are to be taken in.
+    /// The lines of the body are to be read.
     Insert(Options),
     /// This query is to be answered.
     Query(&'a str),
     /// How much there is.
     Status,
-    /// Whether there is anybody.
+    /// A health check.
     Health,
 }
 
@@ -34,7 +34,7 @@ pub enum WantFault {
 }
 
 impl<'a> Wanted<'a> {
-    /// What a request asks for. Its path, its method and its arguments are looked at in this order.
+    /// Returns what a request asks for. Its path, its method and its arguments are looked at in this order.
     pub fn of(alloc: Global, request: &'a Request) -> Result<Wanted<'a>, WantFault>
         ensures ok { IfOk result (λ wanted. wanted_of (asked_by request.now) ≡ Ok (wanted_by wanted)) }
         ensures err { IfErr result (λ fault. (refusal : _) → fault ≡ WantFault.Refused refusal
@@ -47,7 +47,7 @@ impl<'a> Wanted<'a> {
     }
 }
 
-/// What these arguments ask for.
+/// Returns what these arguments ask for.
 fn on_route(alloc: Global, route: Route, args: &[Field]) -> Result<Wanted<'_>, WantFault>
     ensures ok { IfOk result (λ wanted. wanted_on route args.now ≡ Ok (wanted_by wanted)) }
     ensures err { IfErr result (λ fault. (refusal : _) → fault ≡ WantFault.Refused refusal
@@ -67,7 +67,7 @@ fn on_route(alloc: Global, route: Route, args: &[Field]) -> Result<Wanted<'_>, W
     }
 }
 
-/// What the arguments of an insert ask for beside the lines.
+/// Returns what the arguments of an insert ask for beside the lines.
 fn options(alloc: Global, args: &[Field]) -> Result<Options, WantFault>
     ensures ok { IfOk result (λ options. insert_of args.now ≡ Ok (insert options)) }
     ensures err { IfErr result (λ fault. (refusal : _) → fault ≡ WantFault.Refused refusal
@@ -82,7 +82,7 @@ fn options(alloc: Global, args: &[Field]) -> Result<Options, WantFault>
     }
 }
 
-/// How the reply to a request is delivered, where the connection ends behind it or does not.
+/// How the reply to a request is delivered, where the connection ends after it or does not.
 pub fn delivery_to(request: &Request, closes: bool) -> Delivery
     ensures { result ≡ delivery_of (asked_by request.now) closes }
 {

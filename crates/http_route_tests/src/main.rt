@@ -1,7 +1,7 @@
-//! Reads a case on each line: what it shows, and behind ` | ` the bytes of a request. Writes what it asks for, or the
+//! Reads a case on each line: what it shows, and after ` | ` the bytes of a request. Writes what it asks for, or the
 //! reply to its refusal, as it is where the connection goes on, or the reply to its fault.
 //!
-//! A byte that is no visible ASCII stands as `\0a;`, and so many of one as `\61x65536;`.
+//! A byte that is not visible ASCII is written as `\0a;`, and n of the same as `\61x65536;`.
 //!
 //! The answers in `stdout` are not the program's own: they come from a second reading of the same rules in Python.
 #![tactic(auto)]

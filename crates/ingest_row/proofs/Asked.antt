@@ -14,7 +14,7 @@ lacks : (c : ℕ) (bytes : List ℕ) → position_or_len (λ b. b == c) bytes �
 lacks c [] h = refl
 lacks c (byte ∷ bytes) h = let rest = lacks c bytes in grind (arith, common_steps)
 
--- a piece with no `=` is no field
+-- a piece with no `=` is not a field
 pub extra_none : (piece : List ℕ) → position_or_len (λ b. b == 61) piece ≡ length piece → extra_of piece ≡ None
 unfolding extra_of
 extra_none piece none_found = let h = lacks 61 piece none_found in grind (arith, common_steps)
@@ -34,7 +34,7 @@ pub extras_named : (pieces : List (List ℕ)) (fields : List Field) → extras_o
 unfolding extras_of
 extras_named pieces fields is = let h = all_named pieces in grind (arith, common_steps)
 
--- where one piece is no field, nothing is asked for
+-- where one piece is not a field, nothing is asked for
 pub extras_none : (pieces : List (Bor (List ℕ))) (i : ℕ) (other : Bor (List ℕ))
     → i < length pieces → extra_of (get_or pieces i other).now ≡ None
     → extras_of (map (λ piece. piece.now) pieces) ≡ None

@@ -80,7 +80,7 @@ opens_object text members is =
       is.parts ∙ ap (λ (t : List ℕ). t ++ is.behind) p.3 ∙ append_assoc p.0 (123 ∷ p.1) is.behind,
     )
 
--- of an object that is not too deep no front has only deep ones behind it
+-- of an object that is not too deep no front has only deep ones after it
 not_too_deep : (line : List ℕ) (fields : List Field) → IsObjectLine line fields → IsTooDeep line → ⊥
 not_too_deep line fields is deep =
     let is_deep = deep.deep deep.rest is.members

@@ -56,7 +56,7 @@ only_row o now fields time made (Err kind) says row_is = tt
 some_not_none : {A : Type 0} (fault : A) (found : Option A) → found ≡ Some fault → found ≢ None
 some_not_none fault found is none = cc
 
--- each fault but want of memory is one of the row
+-- each fault but out of memory is one of the row
 pub faulty : (kind : LineKind) (time : ℤ) (made : List Field) → kind ≢ Memory → IsRowFault kind time made
     → row_fault time made ≢ None
 faulty NameLong time made other is = some_not_none _ _ is

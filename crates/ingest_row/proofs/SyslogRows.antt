@@ -46,7 +46,7 @@ no_syslog_row now at message time fields (Err (BadRow k)) only at_is fault = λ 
     ∙ ap (λ (t : ℤ). row_fault t is.fields) (sym at_is)
     ∙ ap (row_fault at) same.1 ∙ fault)
 
--- ---- bytes that are no message
+-- ---- bytes that are not a message
 
 pub refused_message : (fault : MessageFault) (now : ℤ) (message : List ℕ) → IsMessageFault fault message
     → IsSyslogRefused (kind_of fault) now message

@@ -1,4 +1,4 @@
--- Lines that are taken in one after another.
+-- Lines that are read one after another.
 use Rattle.std.proofs.Common.{◌≡◌, ℕ, ℤ, suc, List, [], ◌∷◌, ◌++◌, refl, sym, ap, subst, ◌∙◌, append_assoc}
 use Rattle.std.specs.List.{AllZip}
 use Rattle.log_model.specs.Line.{lines_of}

@@ -12,7 +12,7 @@ use Rattle.ingest_row.specs.declared.fault.OptionFault.TheVariants.{BadExtra, Me
 unfoldable pub pieces : List ℕ → List (List ℕ)
 pieces list = filter (λ piece. not (is_empty piece)) (slice_split (λ byte. byte == 44) list)
 
--- the first `=` (61) ends the name, and the value is all that stands behind it
+-- the first `=` (61) ends the name, and the value is all that stands after it
 abbrev pub pair_of : List ℕ → Field
 pair_of piece = (before_first (λ byte. byte == 61) piece, after_first (λ byte. byte == 61) piece)
 

@@ -18,8 +18,8 @@ pub data Outcome : Type 0 where
   read : Row → Outcome
   refused : LineKind → Outcome
 
--- What becomes of a line that came in at the moment `now`: a line without anything is passed over, and each other one
--- has a row, or there is a reason why it has none. Want of memory is no such reason.
+-- What becomes of a line that came in at the moment `now`: a line without anything is skipped, and each other one
+-- has a row, or there is a reason why it has none. Running out of memory is not such a reason.
 abbrev pub IsOutcome : Options → ℤ → List ℕ → Outcome → Type 0
 IsOutcome options now line passed_over = IsTrue (is_blank line)
 IsOutcome options now line (read row) = IsFalse (is_blank line) × IsRowOfLine options now line row
@@ -58,7 +58,7 @@ outcome_of outcomes.PassedOver = passed_over
 outcome_of (outcomes.Read row) = read row
 outcome_of (outcomes.Refused kind) = refused kind
 
--- Whatever the lines of the rest give, added to what was taken in, is what all lines give.
+-- Whatever the lines of the rest give, added to what was read, is what all lines give.
 abbrev pub IsTaking : Options → ℤ → List ℕ → List ℕ → ℕ → Intake → Type 0
 IsTaking options now body rest number intake =
     (later : List Outcome) → IsIntake options now rest later

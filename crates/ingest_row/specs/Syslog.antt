@@ -36,7 +36,7 @@ pub record HasRowFault (fault : RowFault) (now : ℤ) (message : List ℕ) : Typ
   pub is_message : IsMessage message time fields
   pub is_fault : row_fault (moment_of now time) fields ≡ Some fault
 
--- Why a message gives no row. Want of memory says nothing of it.
+-- Why a message gives no row. Out of memory says nothing of it.
 abbrev pub IsSyslogRefused : SyslogKind → ℤ → List ℕ → Type 0
 IsSyslogRefused (kinds.Message fault) now message = (fault ≢ messages.Memory) × IsMessageFault fault message
 IsSyslogRefused (kinds.Row fault) now message = HasRowFault fault now message
@@ -48,7 +48,7 @@ IsStreamFault (kinds.Message fault) time fields = ⊥
 IsStreamFault (kinds.Row fault) time fields = row_fault time fields ≡ Some fault
 IsStreamFault kinds.Memory time fields = Unit {0}
 
--- why bytes that are no message give no row
+-- why bytes that are not a message give no row
 abbrev pub kind_of : MessageFault → SyslogKind
 kind_of messages.BadPri = kinds.Message messages.BadPri
 kind_of messages.BadVersion = kinds.Message messages.BadVersion

@@ -59,7 +59,7 @@ impl Intake {
     }
 }
 
-/// What becomes of one line. `room` is how many fields are expected.
+/// Returns what becomes of one line. `room` is how many fields are expected.
 fn read_line(
     alloc: Global,
     o: &Options,
@@ -81,7 +81,7 @@ fn read_line(
 }
 
 /// Reads each line of a body that came in at the moment `now`, in nanoseconds since 1970. A body is cut at its line
-/// feeds. Lines of blanks, tabs and carriage returns alone are passed over.
+/// feeds. Lines of blanks, tabs and carriage returns only are skipped.
 pub fn batch_of_body(
     alloc: Global,
     o: &Options,
@@ -99,7 +99,7 @@ pub fn batch_of_body(
         number += 1;
         let outcome = read_line(alloc, o, now, line, room)?;
         if let LineOutcome::Read(row) = &outcome {
-            // The field of the moment is no field of the row.
+            // The field of the moment is not a field of the row.
             room = row.fields().len() + 1;
         }
         intake.add(number, outcome)?;

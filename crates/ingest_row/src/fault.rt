@@ -6,7 +6,7 @@ use std::alloc::AllocError;
 use std::error::Error;
 use std::fmt;
 
-/// Why the arguments of a request are no options.
+/// Why the arguments of a request are not options.
 #[derive(Clone, Copy, Debug, PartialEq, Eq)]
 pub enum OptionFault {
     /// A piece of `extra_fields` has no `=`, or no name before it.

@@ -13,11 +13,11 @@ pub enum LineKind {
     LineLong,
     /// It is not UTF-8.
     NotUtf8,
-    /// The first byte that is no white space is no `{`, or there is none.
+    /// The first byte that is not white space is no `{`, or there is none.
     NotObject,
     /// More than 64 arrays and objects are open at one place.
     TooDeep,
-    /// It is no object of JSON (RFC 8259).
+    /// It is not an object of JSON (RFC 8259).
     NotJson,
     /// The text of its moment says none from 1970 on and below 2^63 nanoseconds.
     BadTime,
@@ -27,7 +27,7 @@ pub enum LineKind {
     ManyFields,
     /// The names and values have more than 262,144 bytes together.
     RowLarge,
-    /// There is no field.
+    /// The row has no fields.
     Empty,
     /// Memory ran out.
     Memory,

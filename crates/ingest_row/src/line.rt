@@ -21,7 +21,8 @@ const LINE_LIMIT: usize = 1_048_576;
 /// How many fields are expected of a line.
 pub(crate) const ROOM: usize = 16;
 
-/// The row of a line that came in at the moment `now`, in nanoseconds since 1970. The line is one object of JSON.
+/// Returns the row of a line that came in at the moment `now`, in nanoseconds since 1970. The line is one object of
+/// JSON.
 ///
 /// Fields that are ignored are left out. The field of the moment is taken out; where it is missing, empty or `0`, the
 /// moment is `now`. The message is moved to its name, and what is to be added is set.
@@ -38,7 +39,7 @@ pub fn row_of_line(alloc: Global, o: &Options, now: i64, line: &[u8]) -> Result<
     row_with_room(alloc, o, now, line, ROOM)
 }
 
-/// The row of a line of which so many fields are expected.
+/// Returns the row of a line of which this many fields are expected.
 pub(crate) fn row_with_room(
     alloc: Global,
     o: &Options,
@@ -56,7 +57,7 @@ pub(crate) fn row_with_room(
     row_of_fields(alloc, o, now, fields_of_line(alloc, line, room)?)
 }
 
-/// The row of the fields that a line says.
+/// Returns the row of the fields that a line says.
 fn row_of_fields(
     alloc: Global,
     o: &Options,
@@ -87,7 +88,7 @@ fn complete(alloc: Global, o: &Options, fields: &mut FieldList) -> Result<(), Al
     set_fields(alloc, o.extra_fields(), fields)
 }
 
-/// The row of this moment and these fields.
+/// Returns the row of this moment and these fields.
 fn row_at(alloc: Global, o: &Options, time: i64, fields: FieldList) -> Result<Row, LineKind>
     requires { pos 0 ≤ℤ time }
     ensures faultless { IfOk result (λ row. row_fault time fields ≡ None) }
@@ -105,7 +106,7 @@ fn row_at(alloc: Global, o: &Options, time: i64, fields: FieldList) -> Result<Ro
     }
 }
 
-/// The fields that a line says, of which so many are expected.
+/// Returns the fields that a line says, of which this many are expected.
 fn fields_of_line(alloc: Global, line: &[u8], room: usize) -> Result<FieldList, LineKind>
     ensures says { IfOk result (λ fields. Says line.now fields) }
     ensures only { IfOk result (λ fields. (other : List Pair) → Says line.now other → other ≡ fields) }
@@ -135,7 +136,7 @@ fn remove_all(fields: &mut FieldList, names: &[Text])
     }
 }
 
-/// The moment that a text says, where a text that says none stands for `now`.
+/// Returns the moment that a text says, where a text that says none stands for `now`.
 fn time_of(text: &str, now: i64) -> Option<i64>
     requires { pos 0 ≤ℤ now }
     ensures some { IfSome result (λ time. IsTimeOf now text.now time × (pos 0 ≤ℤ time)) }
@@ -152,7 +153,7 @@ fn time_of(text: &str, now: i64) -> Option<i64>
     }
 }
 
-/// Whether a text says no moment of its own.
+/// Returns whether a text says no moment of its own.
 fn says_now(text: &str) -> bool
     ensures { result ≡ says_now text.now }
 {

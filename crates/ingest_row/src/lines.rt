@@ -3,7 +3,7 @@ ghost use Rattle.log_model.specs.Line.{lines_of, is_blank};
 
 use memchr::memchr;
 
-/// The first line, without its line feed, and what stands behind it.
+/// Returns the first line, without its line feed, and what stands after it.
 pub(crate) fn next_line(input: &[u8]) -> Option<(&[u8], &[u8])>
     ensures line { IfSome result (λ cut. lines_of input.now ≡ cut.0.now ∷ lines_of cut.1.now) }
     ensures shorter { IfSome result (λ cut. length cut.1.now < length input.now) }
@@ -18,7 +18,7 @@ pub(crate) fn next_line(input: &[u8]) -> Option<(&[u8], &[u8])>
     }
 }
 
-/// Whether the line has nothing but blanks, tabs and carriage returns.
+/// Returns whether the line has nothing but blanks, tabs and carriage returns.
 pub(crate) fn is_blank(line: &[u8]) -> bool
     ensures { result ≡ is_blank line.now }
 {

@@ -51,14 +51,14 @@ impl Options {
         }
     }
 
-    /// The names of the fields that are a row's labels.
+    /// Returns the names of the fields that are a row's labels.
     pub fn stream_fields(&self) -> &[Text]
         ensures { result.now ≡ self.now.stream_fields }
     {
         self.stream_fields.as_slice()
     }
 
-    /// The name of the field that says a row's moment. Where it is empty, no line has that field.
+    /// Returns the name of the field that says a row's moment. Where it is empty, no line has that field.
     pub fn time_field(&self) -> &str
         ensures { result.now ≡ self.now.time_field }
     {
@@ -68,21 +68,21 @@ impl Options {
         }
     }
 
-    /// The names of the fields of which the first with a value is the message.
+    /// Returns the names of the fields of which the first with a value is the message.
     pub fn message_fields(&self) -> &[Text]
         ensures { result.now ≡ self.now.message_fields }
     {
         self.message_fields.as_slice()
     }
 
-    /// The names of the fields that are left out.
+    /// Returns the names of the fields that are left out.
     pub fn ignored_fields(&self) -> &[Text]
         ensures { result.now ≡ self.now.ignored_fields }
     {
         self.ignored_fields.as_slice()
     }
 
-    /// The fields that every row has besides.
+    /// Returns the fields that every row has besides.
     pub fn extra_fields(&self) -> &[Field]
         ensures value { result.now ≡ self.now.extra_fields }
         ensures named { IsTrue (list_all is_named self.now.extra_fields) }

@@ -8,10 +8,10 @@ use std::alloc::{AllocError, Global};
 use vl_row::{Field, Items, Text};
 
 impl Options {
-    /// What the arguments of a request ask for. `_stream_fields`, `_msg_field`, `ignore_fields` and `extra_fields` are
-    /// lists: they are cut at commas, empty pieces are dropped, and nothing is trimmed. `_time_field` is one name, and
-    /// `_time` where it is missing; an empty one is that of no field. Of a repeated argument the first counts. Other
-    /// arguments are passed over.
+    /// Returns what the arguments of a request ask for. `_stream_fields`, `_msg_field`, `ignore_fields` and
+    /// `extra_fields` are lists: they are cut at commas, empty pieces are dropped, and nothing is trimmed.
+    /// `_time_field` is one name, and `_time` where it is missing; an empty one is that of no field. Of a repeated
+    /// argument the first counts. Other arguments are skipped.
     ///
     /// A piece of `extra_fields` is cut at its first `=` into a name and a value, which may be empty. The fault is
     /// `BadExtra` where one has no `=` or no name before it.
@@ -37,7 +37,7 @@ impl Options {
     }
 }
 
-/// The value of the first argument of this name, where there is one.
+/// Returns the value of the first argument of this name, where there is one.
 pub fn argument<'a>(pairs: &'a [Field], name: &str) -> Option<&'a str>
     ensures { option_map (λ text. text.now) result ≡ argument pairs.now name.now }
 {
@@ -49,7 +49,7 @@ pub fn argument<'a>(pairs: &'a [Field], name: &str) -> Option<&'a str>
     None
 }
 
-/// The list that the first argument of this name says, empty where there is none.
+/// Returns the list that the first argument of this name says, empty where there is none.
 fn list<'a>(pairs: &'a [Field], name: &str) -> &'a str
     ensures { result.now ≡ list_argument pairs.now name.now }
 {
@@ -59,7 +59,7 @@ fn list<'a>(pairs: &'a [Field], name: &str) -> &'a str
     }
 }
 
-/// The pieces of a list that are not empty.
+/// Returns the pieces of a list that are not empty.
 fn pieces(alloc: Global, list: &str) -> Result<Vec<&str>, AllocError>
     ensures { IfOk result (λ found. map (λ piece. piece.now) found.items ≡ pieces list.now) }
 {
@@ -68,7 +68,7 @@ fn pieces(alloc: Global, list: &str) -> Result<Vec<&str>, AllocError>
         .collect(alloc)
 }
 
-/// The names that a list says.
+/// Returns the names that a list says.
 fn names(alloc: Global, list: &str) -> Result<Items<Text>, AllocError>
     ensures { IfOk result (λ names. names ≡ pieces list.now) }
 {
@@ -79,7 +79,7 @@ fn names(alloc: Global, list: &str) -> Result<Items<Text>, AllocError>
     Ok(Items::of(names))
 }
 
-/// The name that an argument says, if it is given.
+/// Returns the name that an argument says, if it is given.
 fn time_field(alloc: Global, given: Option<&str>) -> Result<Option<Text>, AllocError>
     ensures { IfOk result (λ name. name ≡ option_map (λ text. text.now) given.entry) }
 {
@@ -89,7 +89,7 @@ fn time_field(alloc: Global, given: Option<&str>) -> Result<Option<Text>, AllocE
     }
 }
 
-/// The fields that a list says, if each of its pieces is one.
+/// Returns the fields that a list says, if each of its pieces is one.
 fn extras(alloc: Global, list: &str) -> Result<Option<Items<Field>>, AllocError>
     ensures { IfOk result (λ fields. fields ≡ extras_of (pieces list.now)) }
 {
@@ -103,7 +103,7 @@ fn extras(alloc: Global, list: &str) -> Result<Option<Items<Field>>, AllocError>
     Ok(Some(Items::of(fields)))
 }
 
-/// The field that a piece is, if it is one.
+/// Returns the field that a piece is, if it is one.
 #[tactic(auto, unfolding(crate::specs::Asked::extra_of))]
 fn extra(alloc: Global, piece: &str) -> Result<Option<Field>, AllocError>
     ensures { IfOk result (λ field. field ≡ extra_of piece.now) }

@@ -13,7 +13,7 @@ use vl_row::{FieldList, Row, RowFault, Text};
 /// Why a message of syslog gives no row.
 #[derive(Clone, Copy, Debug, PartialEq, Eq)]
 pub enum SyslogKind {
-    /// It is no message, for this reason, which is not that memory ran out.
+    /// It is not a message, for this reason, which is not that memory ran out.
     Message(MessageFault),
     /// Its fields make no row, for this reason, which is not that memory ran out.
     Row(RowFault),
@@ -31,7 +31,7 @@ impl From<AllocError> for SyslogKind {
     }
 }
 
-/// The row of these fields at this moment, in the stream that messages of syslog have.
+/// Returns the row of these fields at this moment, in the stream that messages of syslog have.
 fn row_at(alloc: Global, time: i64, fields: FieldList) -> Result<Row, SyslogKind>
     requires { pos 0 ≤ℤ time }
     ensures faultless { IfOk result (λ row. row_fault time fields ≡ None) }
@@ -68,8 +68,8 @@ fn moment_of(now: i64, time: Option<i64>) -> i64
     }
 }
 
-/// The row of a message of syslog (RFC 5424) that came in at the moment `now`, in nanoseconds since 1970. A message
-/// whose timestamp is nil is of that moment.
+/// Returns the row of a message of syslog (RFC 5424) that came in at the moment `now`, in nanoseconds since 1970. A
+/// message whose timestamp is nil is of that moment.
 pub fn row_of_syslog(alloc: Global, now: i64, m: &[u8]) -> Result<Row, SyslogKind>
     requires { pos 0 ≤ℤ now }
     ensures read { IfOk result (λ row. IsRowOfSyslog now m.now row) }

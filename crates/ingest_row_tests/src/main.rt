@@ -1,4 +1,4 @@
-//! Reads cases, one a line: the arguments of a request as `name=value&name=value`, and behind a tab a line of JSON that
+//! Reads cases, one a line: the arguments of a request as `name=value&name=value`, and after a tab a line of JSON that
 //! came in 5 ns after 1970 began. Writes the row of that line; with no tab, what the arguments ask for; or the fault.
 //! A case that begins with `<` is a message of syslog that came in then, whose row it writes, or the fault.
 //!
@@ -60,7 +60,7 @@ fn syslog_answer(alloc: Global, message: &str) -> Result<String, AllocError> {
     }
 }
 
-/// The arguments, cut at each `&` and then at the first `=`.
+/// Returns the arguments, cut at each `&` and then at the first `=`.
 fn pairs(alloc: Global, arguments: &str) -> Result<Vec<Field>, AllocError> {
     let mut pairs = Vec::new(alloc);
     for argument in arguments.split('&') {
@@ -73,7 +73,7 @@ fn pairs(alloc: Global, arguments: &str) -> Result<Vec<Field>, AllocError> {
     Ok(pairs)
 }
 
-/// The labels, the moment's field, the message's fields, what is left out and what is added.
+/// Returns the labels, the moment's field, the message's fields, what is left out and what is added.
 fn options_text(alloc: Global, options: &Options) -> Result<String, AllocError> {
     let mut text = String::new(alloc);
     push_names(&mut text, options.stream_fields())?;
@@ -98,7 +98,7 @@ fn push_fields(text: &mut String, fields: &[Field]) -> Result<(), AllocError> {
     Ok(())
 }
 
-/// The moment, the labels and the fields.
+/// Returns the moment, the labels and the fields.
 fn row_text(alloc: Global, row: &Row) -> Result<String, AllocError> {
     let mut text = format!(in alloc; "{} ", row.time())?;
     push_fields(&mut text, row.stream().as_slice())?;

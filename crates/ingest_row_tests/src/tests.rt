@@ -4,7 +4,7 @@ use ingest_row::{Intake, LineKind, Options, batch_of_body, row_of_line};
 use std::alloc::{AllocError, Global};
 use std::test::Fail;
 
-/// The rows of a body, and then the numbers and the kinds of its refused lines.
+/// Returns the rows of a body, and then the numbers and the kinds of its refused lines.
 fn intake_text(alloc: Global, intake: &Intake) -> Result<String, AllocError> {
     let mut text = String::new(alloc);
     for row in intake.rows.as_slice() {
@@ -44,7 +44,7 @@ fn a_body_gives_rows_and_names_its_refused_lines(rt: HostRuntime) -> Result<(), 
     Ok(())
 }
 
-/// A line that is long: what stands in front, a piece that is repeated, how often, and what stands behind.
+/// A line that is long: what stands in front, a piece that is repeated, how often, and what stands after.
 #[derive(Clone, Copy)]
 struct Long {
     first: &'static str,
@@ -68,7 +68,7 @@ fn kind_of(alloc: Global, line: &str) -> Option<LineKind> {
     row_of_line(alloc, &Options::plain(alloc), 5, line.as_bytes()).err()
 }
 
-/// Whether the line is refused so, and is not with the piece once less.
+/// Returns whether the line is refused so, and is not with the piece once less.
 fn is_limit(alloc: Global, line: Long, wanted: LineKind) -> Result<bool, AllocError> {
     let count = line.count.saturating_sub(1);
     let shorter = Long { count, ..line };
@@ -126,7 +126,7 @@ fn lines_have_limits(rt: HostRuntime) -> Result<(), Fail> {
     Ok(())
 }
 
-/// Whether a line of so many members is one too many.
+/// Returns whether a line of this many members is one too many.
 fn is_many(alloc: Global, members: usize) -> Result<bool, AllocError> {
     let mut line = String::from_str(alloc, "{")?;
     for n in 1..members {

@@ -1,4 +1,4 @@
--- Where a text may be cut: behind ASCII bytes, and before what ends a run of plain bytes.
+-- Where a text may be cut: after ASCII bytes, and before what ends a run of plain bytes.
 use Rattle.std.proofs.Common.{◌≡◌, ℕ, ◌+◌, ◌-◌, ◌<◌, ◌++◌, Bool, true, false, List, length, get_or, subst, ap, inl}
 use Rattle.std.proofs.Common.{inr, arith}
 use Rattle.std.specs.Char.{is_ascii_digit, is_ascii_hexdigit}
@@ -29,7 +29,7 @@ short_is_ascii byte e = grind (arith, or_cases, eqb-true)
 stop_is_ascii : (byte : ℕ) → is_plain byte ≡ false → byte < 128
 stop_is_ascii byte e = grind (arith, and_cases, or_cases, eqb-true, leb-false, not-false)
 
--- ---- behind one byte
+-- ---- after one byte
 
 pub byte_cut : (text : List ℕ) → IsUtf8 text → 0 < length text → get_or text 0 0 < 128 → IsCharBoundary text 1
 byte_cut text utf8 some ascii = IsCharBoundary-after_ascii text 0 utf8 some ascii
@@ -42,7 +42,7 @@ pub short_cut : (text : List ℕ) → IsUtf8 text → 0 < length text → is_sho
     → IsCharBoundary text 1
 short_cut text utf8 some is = byte_cut text utf8 some (short_is_ascii _ is)
 
--- ---- behind a run
+-- ---- after a run
 
 run_cut : (test : ℕ → Bool) → ((byte : ℕ) → test byte ≡ true → byte < 128) → (text : List ℕ) → IsUtf8 text
     → IsCharBoundary text (prefix_len test text)

@@ -159,7 +159,7 @@ escape_read bytes inner e f =
     same (Ok x) = refl
     same (Err fault) = refl
 
--- neither the end nor an escape, behind a run
+-- neither the end nor an escape, after a run
 pub nothing_read : (bytes : List ℕ) → prefix_len is_plain bytes ≡ 0 → past 34 bytes ≡ None → past 92 bytes ≡ None
     → characters_at bytes ≡ Err (stuck (length bytes))
 unfolding character_at plain_at one_of
@@ -216,7 +216,7 @@ escape_shorter bytes inner next character e f =
     let r = reads_of (λ reach. IsBehind (92 ∷ [])) escape_at good_escape inner character next f in
     omega (arith, ap length (past_takes 92 bytes inner e), ap length r.parts, length-append r.text next)
 
--- behind the run at the start
+-- after the run at the start
 module _ (bytes after : List ℕ) (is : after ≡ drop (prefix_len is_plain bytes) bytes) where
   abbrev pub run : List Character
   run = map plain (take (prefix_len is_plain bytes) bytes)
@@ -262,7 +262,7 @@ module _ (bytes after : List ℕ) (is : after ≡ drop (prefix_len is_plain byte
 
 -- ---- so far
 
--- Old and the text of the characters up to here are now, but for what the last code unit leaves behind.
+-- Old and the text of the characters up to here are now, but for what the last code unit leaves.
 pub record Decoded (old now : List ℕ) (before : ℕ) (rest : List ℕ) (total : Result (List Character × List ℕ) Fault) :
     Type 0 where
   pub prefix : List Character
@@ -311,7 +311,7 @@ pub stops_at : {X Y Z : Type 0} (view : X → Y) (r : Result X ScanFault) (stop 
 stops_at view (Ok x) stop a b is same h = absurd is
 stops_at view (Err y) stop a b is same h = fails_too a b y same (subst (λ (z : ScanFault). Fails z a) (sym is) h)
 
--- a run and an escape behind it
+-- a run and an escape after it
 pub two_steps : (now mid new : List ℕ) (before unit next : ℕ) (run : List Character) (character : Character)
     → ((more : List Character) → now ++ text_behind before (run ++ more) ≡ mid ++ text_behind unit more)
     → ((more : List Character) → mid ++ text_behind unit (character ∷ more) ≡ new ++ text_behind next more)

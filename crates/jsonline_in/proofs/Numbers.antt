@@ -50,7 +50,7 @@ good_fraction = good_chosen 46 (λ reach x text. is_fraction text ≡ true) digi
     (λ reach x text e. e) tt (48 ∷ []) refl (good_digits (λ text. are_digits text ≡ true) (λ text e. e)))
     (λ bytes none. good_gives (λ reach x text. is_fraction text ≡ true) tt refl bytes)
 
--- behind a sign
+-- after a sign
 good_sign : (sign : ℕ) → is_sign sign ≡ true → Good (λ reach x text. is_signed text ≡ true) (behind sign digits_end)
 good_sign sign is = good_behind sign (λ reach x text. are_digits text ≡ true) (λ reach x text. is_signed text ≡ true)
     digits_end

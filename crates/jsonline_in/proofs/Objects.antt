@@ -64,7 +64,7 @@ good_tail members = good_both (λ reach x text. IsSpace text) (λ o reach x text
     (λ x. good_made (λ reach x text. text ≡ []) (λ reach x text. (x ≡ members) × (text ≡ [])) (λ end. members) end_at
     (λ reach x text e. (refl, e)) good_end)
 
--- what stands behind an opening brace
+-- what stands after an opening brace
 pub record IsInside (reach : Reach) (members : Items) (text : List ℕ) : Type 0 where
   pub are : AreItems object members
   pub nest : AllNest 63 reach members
@@ -229,7 +229,7 @@ longer_prefix text (byte ∷ stop) n line e low high more =
       refl,
     )
 
--- a shallow object that goes on behind a prefix of only deep ones
+-- a shallow object that goes on after a prefix of only deep ones
 too_short : (text stop more : List ℕ) (members : Items) {line : List ℕ} → line ≡ text ++ stop
     → IsObjectHere shallow members (text ++ more) → (d : IsTooDeep line) → length d.prefix ≤ length text → ⊥
 too_short text stop more members {line} parts here d short =

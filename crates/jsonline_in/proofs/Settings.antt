@@ -44,7 +44,7 @@ string_flat now left (Ok x) old new a e g kept = sym (empty_before a old e) ∙ 
     ∙ ap (λ (t : List ℕ). Ok (t, left x.1)) (kept_text now x.0 new (still x.0 old new e kept))
 string_flat now left (Err stop) old new a e g kept = subst (Fails stop) (empty_before a old e) g
 
--- ---- values that are no objects
+-- ---- values that are not objects
 
 nested_flat : (depth : ℕ) (kind : Kind) (bytes : List ℕ)
     → mapped flat_text (nested_at depth kind bytes) ≡ mapped (λ value. compact (tokens value))
@@ -65,7 +65,7 @@ array_flat depth bytes old e = nested_flat depth array bytes
     ∙ ap (λ (t : List ℕ). mapped (λ (value : Value). t ++ compact (tokens value)) (nested_at depth array bytes))
     (sym e)
 
--- what becomes of a value that is no object, where its text says all
+-- what becomes of a value that is not an object, where its text says all
 module _ {X : Type 0} (whole : Value → X) (one : List ℕ → X)
     (of_scalar : (token : Scalar) → whole (scalar token) ≡ one (scalar_text token))
     (of_array : (items : Items) → whole (nested array items) ≡ one (compact (tokens (nested array items)))) where

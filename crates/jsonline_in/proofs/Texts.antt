@@ -46,7 +46,7 @@ pub record IsSecond (a : ℕ) (character : Character) (text : List ℕ) : Type 0
   pub more : IsThird a b character tail
   pub spelled : text ≡ b ∷ tail
 
--- the character, behind these bytes of its own
+-- the character, after these bytes of its own
 pub record IsBehind (prefix : List ℕ) (character : Character) (text : List ℕ) : Type 0 where
   pub is : is_character character ≡ true
   pub spelled : prefix ++ text ≡ source character
@@ -180,7 +180,7 @@ character_shrinks bytes x rest e =
     let r = reads_of IsTurn character_at good_character bytes (Some x) rest e in
     omega (arith, ap length r.parts, length-append r.text rest, ap length r.inside.spelled, source_long x)
 
--- behind the opening quotation mark
+-- after the opening quotation mark
 pub record IsTail (characters : List Character) (text : List ℕ) : Type 0 where
   pub are : are_characters characters ≡ true
   pub spelled : text ≡ flat_map source characters ++ 34 ∷ []

@@ -132,7 +132,7 @@ bracket_copied old now pushed kind items e f =
     sym (append_assoc old (opening kind ∷ []) (compact (series kind [] items)))
     ∙ ap (λ (t : List ℕ). t ++ compact (series kind [] items)) (sym (e ∙ ap (λ (t : List ℕ). old ++ t) f))
 
--- the closing bracket behind what was copied
+-- the closing bracket after what was copied
 pub closing_copied : (old now pushed : List ℕ) (kind : Kind) → now ≡ old ++ pushed → pushed ≡ closing kind ∷ []
     → now ≡ old ++ closing kind ∷ []
 closing_copied old now pushed kind e f = e ∙ ap (λ (t : List ℕ). old ++ t) f
@@ -142,7 +142,7 @@ pub label_and_value : (old now label : List ℕ) (value : Value) → now ≡ old
 label_and_value old now label value e = sym (append_assoc old label (compact (tokens value)))
     ∙ ap (λ (t : List ℕ). t ++ compact (tokens value)) (sym e)
 
--- the items behind one that was copied
+-- the items after one that was copied
 pub item_copied : (old now : List ℕ) (kind : Kind) (x : Label × Value) (more : Items) → now ≡ old
     ++ (compact (label_tokens x.0) ++ compact (tokens x.1))
     → old ++ compact (label_tokens x.0 ++ (tokens x.1 ++ series kind ((44 ∷ []) ∷ []) more)) ≡ now

@@ -90,13 +90,13 @@ abbrev pub AllNest : ℕ → Reach → Items → Type 0
 AllNest depth shallow items = all_within depth items ≡ true
 AllNest depth any items = Unit {0}
 
--- the value that is spelled here, read where so many brackets may be open
+-- the value that is spelled here, read where this many brackets may be open
 pub record IsValueText (depth : ℕ) (reach : Reach) (value : Value) (text : List ℕ) : Type 0 where
   pub is : IsValue value
   pub nests : Nests depth reach value
   pub spelled : Spaced (tokens value) text
 
--- what is spelled behind an opening bracket
+-- what is spelled after an opening bracket
 pub record AreItemsText (depth : ℕ) (kind : Kind) (before : List (List ℕ)) (reach : Reach) (items : Items)
     (text : List ℕ) : Type 0 where
   pub are : AreItems kind items
@@ -327,7 +327,7 @@ module _ (depth : ℕ) (inner : Kind → Reader Value) (solid : Solid depth inne
   widen_item : (kind : Kind) (x : Label × Value) (text : List ℕ) → IsItem kind shallow x text → IsItem kind any x text
   widen_item kind x text p = record { suits_it = p.suits_it; is = p.is; nests = tt; spelled = p.spelled }
 
-  -- one more item behind a comma, or the closing bracket
+  -- one more item after a comma, or the closing bracket
   abbrev pub IsOther : Kind → Reach → Option (Label × Value) → List ℕ → Type 0
   IsOther kind reach None text = IsSpelled ((closing kind ∷ []) ∷ []) text
   IsOther kind reach (Some x) text = (suits kind x.0 ≡ true) × IsValue x.1 × Nests depth reach x.1

@@ -93,7 +93,7 @@ number_solid : (byte : ℕ) → begins_number byte ≡ true → is_space byte �
 number_solid byte e = false_from_ne_true (is_space byte)
     (λ (s : is_space byte ≡ true). grind (arith, and_cases, or_cases, leb-true, eqb-true))
 
--- a token alone, with white space before it
+-- a token by itself, with white space before it
 alone : (byte : ℕ) (token x rest : List ℕ) → IsSpelled ((byte ∷ token) ∷ []) x → is_space byte ≡ false
     → after_space (x ++ rest) ≡ byte ∷ (token ++ rest)
 alone byte token x rest p solid = here byte token [] x rest p solid
@@ -277,13 +277,13 @@ module _ (n : ℕ) (kind : Kind) (label : Label) (value : Value) (more : Items) 
       (ap (λ (r : Result (Items × List ℕ) Fault). r >>= put_prefix ((label, value) ∷ [])) (others f.0 f.1)
       ∙ made_fits (put_item (label, value)) (all_within n more) more rest)
 
--- ---- values, and the items behind the first
+-- ---- values, and the items after the first
 
 abbrev as_nested : Kind → Result (Items × List ℕ) Fault → Result (Value × List ℕ) Fault
 as_nested kind r = r >>= λ x. Ok (nested kind x.0, x.1)
 
 module _ (kind : Kind) (items : Items) (x rest : List ℕ) (p : IsSpelled (tokens (nested kind items)) x) where
-  -- behind the opening bracket
+  -- after the opening bracket
   pub nested_again : (n : ℕ) → ((m : ℕ) → items_at (nested_at m) kind (p.1 ++ rest) ≡ fits (all_within m items) items
       rest) → value_at (nested_at n) (after_space (x ++ rest)) ≡ fits (nests_within n (nested kind items))
       (nested kind items) rest

@@ -26,12 +26,12 @@ ReadsAs view (Err stop) read = Fails stop read
 abbrev pub mapped : {A B : Type 0} → (A → B) → Result (A × List ℕ) Fault → Result (B × List ℕ) Fault
 mapped made read = read >>= λ x. Ok (made x.0, x.1)
 
--- what stands behind the opening brace of a line
+-- what stands after the opening brace of a line
 pub record Opens (line inside : List ℕ) : Type 0 where
   pub utf8 : IsUtf8 line
   pub brace : past 123 (after_space line) ≡ Some inside
 
--- Reading stops so behind the opening brace.
+-- Reading stops so after the opening brace.
 pub record StopsIn (stop : ScanFault) (line : List ℕ) : Type 0 where
   pub inside : List ℕ
   pub opens : Opens line inside
@@ -59,7 +59,7 @@ or_kept (Some text) kept = text
 abbrev pub compact : List (List ℕ) → List ℕ
 compact tokens = flat_map (λ token. token) tokens
 
--- the text of a value that is no object
+-- the text of a value that is not an object
 abbrev pub flat_text : Value → List ℕ
 flat_text (scalar token) = scalar_text token
 flat_text (nested kind items) = compact (tokens (nested kind items))

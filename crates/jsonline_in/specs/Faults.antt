@@ -17,9 +17,9 @@ Refuses TooDeep line = SaysNothing line
 Refuses (NotJson at) line = SaysNothing line
 Refuses Memory line = Unit {0}
 
--- Each fault comes where none before it does: the line is not UTF-8 behind its longest prefix that is; it opens no
--- object; objects begin as it does, up to some place, but each is too deep; or it is no object, and none begins with
--- more of it.
+-- Each fault comes where none before it does: the line is not UTF-8 after its longest prefix that is; it opens no
+-- object; objects begin as it does, up to some place, but each is too deep; or it is not an object, and none begins
+-- with more of it.
 abbrev pub IsFault : JsonFault → List ℕ → Type 0
 IsFault (NotUtf8 at) line = (IsUtf8 line → ⊥) × (at ≡ utf8_valid_len line)
 IsFault NotObject line = IsUtf8 line × (OpensObject line → ⊥)

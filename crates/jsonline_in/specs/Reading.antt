@@ -9,7 +9,7 @@ use Rattle.log_model.specs.Token.{literal, truth, falsehood, null}
 use Rattle.log_model.specs.Value.{Kind, array, object, closing, Label, unnamed, named, Value, scalar, nested, Items}
 use Rattle.log_model.specs.Value.{nothing, item}
 
--- The 65th bracket would be open, or no object goes on so: then so many bytes are left.
+-- The 65th bracket would be open, or no object goes on so: then this many bytes are left.
 pub data Fault : Type 0 where
   deep : Fault
   stuck : ℕ → Fault
@@ -44,7 +44,7 @@ gives x bytes = Ok (x, bytes)
 abbrev pub fails : {A : Type 0} → Reader A
 fails bytes = Err (stuck (length bytes))
 
--- the first where its byte stands here, and then behind it; else the second
+-- the first where its byte stands here, and then after it; else the second
 abbrev pub chosen_by : {A : Type 0} → Reader A → Reader A → List ℕ → Option (List ℕ) → Result (A × List ℕ) Fault
 chosen_by some none bytes (Some rest) = some rest
 chosen_by some none bytes None = none bytes
@@ -90,7 +90,7 @@ short_at bytes = do
   byte ← one_of is_short bytes
   Ok (short byte.0, byte.1)
 
--- behind a backslash
+-- after a backslash
 unfoldable pub escape_at : Reader Character
 escape_at = chosen 117 unicode_at short_at
 
@@ -109,7 +109,7 @@ character_at = chosen 34 (gives None) (some_of (chosen 92 escape_at plain_at))
 abbrev pub put_character : Character → List Character → List Character
 put_character character characters = character ∷ characters
 
--- behind the opening quotation mark
+-- after the opening quotation mark
 unfoldable pub characters_at : Reader (List Character)
 characters_at bytes = turns put_character [] character_at (suc (length bytes)) bytes
 
@@ -171,7 +171,7 @@ bare_at =
 abbrev pub value_of_string : List Character → Value
 value_of_string characters = scalar (string characters)
 
--- the value that begins here and is no object, where inner reads on behind an opening bracket
+-- the value that begins here and is not an object, where inner reads on after an opening bracket
 unfoldable pub flat_at : (Kind → Reader Value) → Reader Value
 flat_at inner = chosen 34 (made_by value_of_string characters_at) (chosen 91 (inner array) (made_by scalar bare_at))
 
@@ -196,7 +196,7 @@ item_at inner kind bytes = do
   value ← value_at inner label.1
   Ok ((label.0, value.0), value.1)
 
--- behind an item: one more behind a comma, or none where the bracket closes
+-- after an item: one more after a comma, or none where the bracket closes
 unfoldable pub other_at : (Kind → Reader Value) → Kind → Reader (Option (Label × Value))
 other_at inner kind bytes =
     chosen 44 (λ rest. some_of (item_at inner kind) (after_space rest)) (behind (closing kind) (gives None))
@@ -214,11 +214,11 @@ first_at inner kind bytes = do
   more ← others_at inner kind x.1
   Ok (put_item x.0 more.0, more.1)
 
--- behind an opening bracket
+-- after an opening bracket
 unfoldable pub items_at : (Kind → Reader Value) → Kind → Reader Items
 items_at inner kind bytes = chosen (closing kind) (gives nothing) (first_at inner kind) (after_space bytes)
 
--- behind an opening bracket, where so many may be open
+-- after an opening bracket, where this many may be open
 unfoldable pub nested_at : ℕ → Kind → Reader Value
 nested_at zero kind bytes = Err deep
 nested_at (suc depth) kind bytes = items_at (nested_at depth) kind bytes >>= λ x. Ok (nested kind x.0, x.1)
@@ -229,7 +229,7 @@ unfoldable pub end_at : Reader (Unit {0})
 end_at [] = Ok (tt, [])
 end_at (byte ∷ rest) = Err (stuck (length (byte ∷ rest)))
 
--- the members of the object that is all of the text, behind white space and its opening brace
+-- the members of the object that is all of the text, after white space and its opening brace
 unfoldable pub text_at : Reader Items
 text_at bytes = do
   members ← items_at (nested_at 63) object bytes

@@ -73,7 +73,7 @@ fn number_end(text: &str) -> Result<&str, ScanFault>
     }
 }
 
-/// A number as it is spelled.
+/// Returns a number as it is spelled.
 #[tactic(auto, unfolding(crate::specs::Reading::number_at))]
 fn number(text: &str) -> Result<(&str, &str), ScanFault>
     ensures { ReadsAs (λ x. (x.0.now, x.1.now)) result (number_at text.now) }
@@ -82,7 +82,7 @@ fn number(text: &str) -> Result<(&str, &str), ScanFault>
     Ok((prefix(text, rest), rest))
 }
 
-/// What follows the `t`, and so for the two below.
+/// Returns what follows the `t`, and so for the two below.
 fn rest_of_true(text: &str) -> Result<&str, ScanFault>
     ensures { ReadsAs (λ rest. (tt, rest.now)) result (word_end (114 ∷ 117 ∷ 101 ∷ []) text.now) }
 {
@@ -101,7 +101,7 @@ fn rest_of_null(text: &str) -> Result<&str, ScanFault>
     expect(expect(expect(text, b'u')?, b'l')?, b'l')
 }
 
-/// The text of a number or a literal, and what follows it.
+/// Returns the text of a number or a literal, and what follows it.
 #[tactic(auto, unfolding(crate::specs::Reading::bare_at))]
 #[inline(never)]
 pub(crate) fn bare(text: &str) -> Result<(&str, &str), ScanFault>

@@ -46,7 +46,7 @@ fn closing_text(bracket: Bracket) -> &'static str
     }
 }
 
-/// Copies the string behind its opening quotation mark as it is spelled.
+/// Copies the string after its opening quotation mark as it is spelled.
 fn copy_string<'a>(
     text: &'a str,
     copied: &mut String,
@@ -102,7 +102,7 @@ fn copy_bare<'a>(text: &'a str, copied: &mut String) -> Result<&'a str, ScanFaul
     Ok(rest)
 }
 
-/// Copies the value at the start, where so many brackets more may be open, and gives what follows it.
+/// Copies the value at the start, where this many brackets more may be open, and gives what follows it.
 #[cycle(copied)]
 fn copy_value<'a>(
     text: &'a str,
@@ -125,7 +125,7 @@ fn copy_value<'a>(
     copy_bare(text, copied)
 }
 
-/// Copies the array or the object behind its opening bracket.
+/// Copies the array or the object after its opening bracket.
 #[cycle(copied)]
 #[inline(never)]
 pub(crate) fn copy_nested<'a>(
@@ -146,7 +146,7 @@ pub(crate) fn copy_nested<'a>(
     copy_items(text, bracket, depth - 1, copied, spare)
 }
 
-/// Copies the items behind an opening bracket, and the closing one.
+/// Copies the items after an opening bracket, and the closing one.
 #[cycle(copied)]
 fn copy_items<'a>(
     text: &'a str,

@@ -11,7 +11,7 @@ use crate::scan::{hex, past};
 use crate::scan_fault::ScanFault;
 use std::alloc::AllocError;
 
-/// What stands behind a backslash.
+/// What stands after a backslash.
 #[derive(Clone, Copy)]
 pub(crate) enum Escape {
     Short(u8),
@@ -36,7 +36,7 @@ fn is_short(byte: u8) -> bool
     matches!(byte, b'"' | b'\\' | b'/' | b'b' | b'f' | b'n' | b'r' | b't')
 }
 
-/// The byte of a short escape.
+/// Returns the byte of a short escape.
 #[tactic(auto, using(crate::proofs::Cuts::short_cut), unfolding(crate::specs::Reading::one_of))]
 fn short_byte(text: &str) -> Result<(u8, &str), ScanFault>
     ensures { ReadsAs (λ x. (x.0, x.1.now)) result (one_of is_short text.now) }
@@ -100,7 +100,7 @@ fn push_code(out: &mut String, code: u32) -> Result<(), AllocError>
     }
 }
 
-/// Appends what the code unit leaves behind if no low surrogate follows it.
+/// Appends U+FFFD if the code unit is a high surrogate and no low one follows.
 pub(crate) fn push_alone(out: &mut String, unit: u32) -> Result<(), AllocError>
     ensures { OnOk result (string_bytes out.new ≡ string_bytes out.old ++ alone unit) }
 {
@@ -124,7 +124,7 @@ fn push_unit(out: &mut String, before: u32, unit: u32) -> Result<(), AllocError>
     push_code(out, unit)
 }
 
-/// The character of a backslash and this byte.
+/// Returns the character of a backslash and this byte.
 fn short_value(byte: u8) -> u8
     ensures { result ≡ short_value byte }
 {
@@ -146,7 +146,7 @@ fn push_short(out: &mut String, before: u32, byte: u8) -> Result<(), AllocError>
     out.push(short_value(byte) as char)
 }
 
-/// Appends the text of the escaped character that comes right behind a code unit, or behind none, which is 0. Gives its
+/// Appends the text of the escaped character that comes right after a code unit, or after none, which is 0. Gives its
 /// own code unit.
 pub(crate) fn push_escape(out: &mut String, before: u32, escape: Escape) -> Result<u32, AllocError>
     requires { IsTrue (is_character (escape_of escape)) }

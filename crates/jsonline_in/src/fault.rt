@@ -9,9 +9,9 @@ use std::fmt;
 /// Why a line was not read: the first of these that holds of it.
 #[derive(Clone, Copy, Debug, PartialEq, Eq)]
 pub enum JsonFault {
-    /// The line is not UTF-8 behind this many bytes.
+    /// The line is not UTF-8 after this many bytes.
     NotUtf8 { at: usize },
-    /// The first byte that is no white space is no `{`, or there is none.
+    /// The first byte that is not white space is no `{`, or there is none.
     NotObject,
     /// More than 64 arrays and objects are open at one place.
     TooDeep,

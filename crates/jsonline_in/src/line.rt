@@ -7,7 +7,7 @@ use crate::fault::JsonFault;
 use crate::scan::{after_space, past};
 use crate::scan_fault::ScanFault;
 
-/// The text behind the opening brace of the line.
+/// Returns the text after the opening brace of the line.
 pub(crate) fn opened(line: &[u8]) -> Result<&str, JsonFault>
     ensures inside { IfOk result (λ inside. Opens line.now inside.now) }
     ensures refused { IfErr result (λ fault. Refuses fault line.now) }
@@ -27,7 +27,7 @@ pub(crate) fn opened(line: &[u8]) -> Result<&str, JsonFault>
     }
 }
 
-/// What a stop behind the opening brace says of the line.
+/// Returns what a stop after the opening brace says of the line.
 pub(crate) fn fault_of(line: &[u8], stop: ScanFault) -> JsonFault
     requires { StopsIn stop line.now }
     ensures refused { Refuses result line.now }

@@ -7,7 +7,7 @@ ghost use Rattle.jsonline_in.specs.Reading.{is_stop};
 
 use std::simd::prelude::*;
 
-/// A bit for each byte that ends a run.
+/// Returns a bit for each byte that ends a run.
 #[inline]
 fn stops(bytes: u8x16) -> u64
     ensures { result ≡ mask_l (map is_stop bytes) }
@@ -29,7 +29,7 @@ fn plain_end(bytes: &[u8], from: usize) -> usize
     at
 }
 
-/// How many bytes come before the first quotation mark, backslash or control character (RFC 8259,
+/// Returns how many bytes come before the first quotation mark, backslash or control character (RFC 8259,
 /// section 7), or the length where there is none.
 #[inline]
 pub fn plain_len(bytes: &[u8]) -> usize

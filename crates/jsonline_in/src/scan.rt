@@ -1,4 +1,4 @@
-// White space, single bytes and runs of digits. Each scanner gives the text behind what it read.
+// White space, single bytes and runs of digits. Each scanner gives the text after what it read.
 ghost use Rattle.std.specs.Prelude.{◌≡◌, ℕ, ◌<◌, ◌++◌, List, length};
 ghost use Rattle.std.specs.Option.{option_map};
 ghost use Rattle.std.specs.List.{prefix_len};
@@ -31,7 +31,7 @@ pub(crate) fn after_space(text: &str) -> &str
     &text[space_len(text.as_bytes())..]
 }
 
-/// What follows the ASCII byte, if the text begins with it.
+/// Returns what follows the ASCII byte, if the text begins with it.
 #[tactic(auto, using(crate::proofs::Cuts::byte_cut))]
 #[inline]
 pub(crate) fn past(text: &str, byte: u8) -> Option<&str>
@@ -56,7 +56,7 @@ pub(crate) fn expect(text: &str, byte: u8) -> Result<&str, ScanFault>
     }
 }
 
-/// What stands before the rest of a text.
+/// Returns what stands before the rest of a text.
 #[inline]
 pub(crate) fn prefix<'a>(text: &'a str, rest: &str) -> &'a str
     requires { (taken : List ℕ) × (text.now ≡ taken ++ rest.now) }

@@ -19,7 +19,8 @@ use crate::text::string;
 use std::alloc::{AllocError, Global};
 use vl_row::FieldList;
 
-/// The name of a member, up to its value. Where a character is escaped, its text is appended to `names` instead.
+/// Returns the name of a member, up to its value. Where a character is escaped, its text is appended to `names`
+/// instead.
 #[inline(always)]
 fn name<'a>(text: &'a str, names: &mut String) -> Result<(Option<&'a str>, &'a str), ScanFault>
     ensures read { ReadsAs (λ x. (string_bytes names.new ++ or_empty (option_map (λ t. t.now) x.0), x.1.now)) result
@@ -31,7 +32,8 @@ fn name<'a>(text: &'a str, names: &mut String) -> Result<(Option<&'a str>, &'a s
     Ok((name, after_space(rest)))
 }
 
-/// The text of the value at the start, which is no object. Where it is put together, it is left in `values` instead.
+/// Returns the text of the value at the start, which is not an object. Where it is put together, it is left in `values`
+/// instead.
 #[inline(always)]
 fn flat<'a>(
     text: &'a str,
@@ -67,7 +69,7 @@ fn set_named(alloc: Global, name: &str, value: &str, out: &mut FieldList) -> Res
     out.set(alloc, name, value)
 }
 
-/// Sets the field of the name that is in `names`, with this text behind it.
+/// Sets the field of the name that is in `names`, with this text after it.
 #[inline(always)]
 fn set_flat(
     alloc: Global,
@@ -126,7 +128,7 @@ impl Setter {
         }
     }
 
-    /// Sets the members behind an opening brace, and gives what follows the closing one.
+    /// Sets the members after an opening brace, and gives what follows the closing one.
     #[cycle(set)]
     fn members<'a>(
         &mut self,
@@ -174,7 +176,7 @@ impl Setter {
         Ok(rest)
     }
 
-    /// Sets the value at the start, whose name is in `names`, with this text behind it. The name that was there stays
+    /// Sets the value at the start, whose name is in `names`, with this text after it. The name that was there stays
     /// before what is added.
     #[cycle(set)]
     #[inline(always)]
@@ -205,7 +207,7 @@ impl Setter {
     }
 }
 
-/// Sets the members of the object that is all of the text, behind white space and its opening brace.
+/// Sets the members of the object that is all of the text, after white space and its opening brace.
 #[tactic(auto, unfolding(crate::specs::Reading::text_at, crate::specs::Reading::end_at))]
 fn set_text(alloc: Global, inside: &str, out: &mut FieldList) -> Result<(), ScanFault>
     ensures { ReadsAs (λ _. (out.new, [])) result
@@ -229,7 +231,7 @@ pub fn fields_of(alloc: Global, line: &[u8], out: &mut FieldList) -> Result<(), 
     ensures only { OnOk result
         ((fields : List Field) → IsObjectLine line.now fields → out.new ≡ set_all out.old fields) }
 
-    // What is refused is no line.
+    // What is refused is not a line.
     ensures refused { IfErr result (λ fault. Refuses fault line.now) }
 
     // Which fault it is.

@@ -13,7 +13,7 @@ use crate::scan::{expect, past};
 use crate::scan_fault::ScanFault;
 use std::alloc::AllocError;
 
-/// The characters at the start that stand for themselves, and what follows them.
+/// Returns the characters at the start that stand for themselves, and what follows them.
 #[tactic(auto, using(crate::proofs::Cuts::plain_cut))]
 #[inline(always)]
 fn split_run(text: &str) -> (&str, &str)
@@ -23,8 +23,8 @@ fn split_run(text: &str) -> (&str, &str)
     text.split_at(plain_len(text.as_bytes()))
 }
 
-/// Appends characters that stand for themselves, which come right behind a code unit, or behind none, which is 0.
-/// Gives the code unit that what follows them comes behind.
+/// Appends characters that stand for themselves, which come right after a code unit, or after none, which is 0.
+/// Gives the code unit that what follows them comes after.
 pub(crate) fn push_run(out: &mut String, before: u32, run: &str) -> Result<u32, AllocError>
     ensures { IfOk result (λ unit. (more : List Character) →
         string_bytes out.old ++ text_behind before (map plain run.now ++ more)
@@ -38,7 +38,7 @@ pub(crate) fn push_run(out: &mut String, before: u32, run: &str) -> Result<u32, 
     Ok(0)
 }
 
-/// Appends the text of the string behind its opening quotation mark, and gives what follows the closing one.
+/// Appends the text of the string after its opening quotation mark, and gives what follows the closing one.
 #[inline(never)]
 fn decode<'a>(text: &'a str, out: &mut String) -> Result<&'a str, ScanFault>
     ensures { ReadsAs (λ rest. (string_bytes out.new, rest.now)) result
@@ -59,8 +59,8 @@ fn decode<'a>(text: &'a str, out: &mut String) -> Result<&'a str, ScanFault>
     }
 }
 
-/// The text of the string behind its opening quotation mark, and what follows the closing one. Where a character is
-/// escaped, the text is appended to `out` instead.
+/// Returns the text of the string after its opening quotation mark, and what follows the closing one. Where a character
+/// is escaped, the text is appended to `out` instead.
 #[inline(always)]
 pub(crate) fn string<'a>(
     text: &'a str,

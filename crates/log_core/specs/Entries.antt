@@ -20,7 +20,7 @@ entry_of made = record { first = made.what.first; others = made.what.others; mak
 abbrev pub seen_history : List (Made EntryRows) → History
 seen_history seen = map entry_of seen
 
--- an entry of which nobody is named as the maker
+-- an entry of which no one is named as the maker
 abbrev pub nobodys : EntryRows → Entry
 nobodys entry = record { first = entry.first; others = entry.others; maker = None }
 
@@ -44,7 +44,7 @@ abbrev pub row_at : ℕ → List Numbered → Row
 row_at place [] = no_row
 row_at place (row ∷ rows) = if row.place == place then row.row else row_at place rows
 
--- so many rows in the order of their places, from this place on
+-- this many rows in the order of their places, from this place on
 abbrev pub rows_from : ℕ → ℕ → List Numbered → List Row
 rows_from place zero rows = []
 rows_from place (suc count) rows = row_at place rows ∷ rows_from (suc place) count rows

@@ -6,14 +6,14 @@ use Rattle.log_model.specs.History.{Numbered, with_batch}
 use Rattle.log_core.specs.declared.fault.CommitFault.{CommitFault}
 use Rattle.log_core.specs.declared.fault.CommitFault.TheVariants.{Full, Spent, Memory}
 
--- what stands against one more batch
+-- what prevents one more batch
 abbrev pub commit_fault : {P : Type 0} → Contents P → Option CommitFault
 commit_fault held =
     if length held.unsettled == held_limit then Some (Full held_limit)
     else (if count_of held == 2 ^ 63 - 1 then Some Spent
     else None)
 
--- A part is refused for what stands against it, and is handed back. Where nothing does, memory ran out, and its rows
+-- A part is refused for what prevents it, and is handed back. Where nothing does, memory ran out, and its rows
 -- may have another batch number then.
 abbrev pub IsPartRefused : {P : Type 0} → (P → List Numbered) → Option CommitFault → P → CommitFault × Option P
     → Type 0

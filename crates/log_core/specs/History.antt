@@ -4,7 +4,7 @@ use Rattle.log_model.specs.Core.{Contents}
 use Rattle.log_model.specs.History.{History, Numbered, rows_in}
 use Rattle.log_model.specs.Row.{Row}
 
--- rows that came together are one entry, if there are any, and nobody is named as its maker
+-- rows that came together are one entry, if there are any, and no one is named as its maker
 abbrev pub entries_of : List Row → History
 entries_of [] = []
 entries_of (row ∷ rows) = record { first = row; others = rows; maker = None } ∷ []

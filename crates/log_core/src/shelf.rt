@@ -65,7 +65,7 @@ impl<P: Held> Shelf<P> {
             → AreRowsOf (P.numbered part) (entry_rows entry)
             → Stands P.numbered self.old history → Stands P.numbered self.new (after history (commit entry))) }
 
-        // The part is held behind the others, under its number.
+        // The part is held after the others, under its number.
         ensures held { OnOk result ((kept : P) × (self.new ≡ with_part self.old kept)
             × (P.numbered kept ≡ with_batch (count_of self.old + 1) (P.numbered part))) }
 
@@ -73,7 +73,7 @@ impl<P: Held> Shelf<P> {
         ensures stood { (history : History) × Stands P.numbered self.old history }
         ensures unsettled { self.old ≡ contents_of self.old.unsettled }
 
-        // A batch is refused exactly where something stands against it, or for memory.
+        // A batch is refused exactly where something prevents it, or memory ran out.
         ensures accepted { OnOk result (commit_fault self.old ≡ None) }
         ensures refused { IfErr result (IsPartRefused P.numbered (commit_fault self.old) part) }
         ensures err { OnErr result (self.new ≡ self.old) }
@@ -87,7 +87,7 @@ impl<P: Held> Shelf<P> {
         }
     }
 
-    /// What is held now. It copies one shared pointer.
+    /// Returns what is held now. It copies one shared pointer.
     pub fn look(&self) -> Result<Snapshot<P>, AllocError>
         ensures held { IfOk result (λ snapshot. snapshot ≡ self.now) }
         ensures stays { Goes P.numbered self.now look self.now }
@@ -96,7 +96,7 @@ impl<P: Held> Shelf<P> {
         Ok(Snapshot { parts })
     }
 
-    /// How many batches there are.
+    /// Returns how many batches there are.
     pub fn count(&self) -> u64
         ensures value { result ≡ count_of self.now }
         ensures small { result < 2 ^ 63 }
@@ -107,7 +107,7 @@ impl<P: Held> Shelf<P> {
         self.parts.len() as u64
     }
 
-    /// How many of them, from the first on, are held as day parts.
+    /// Returns how many of them, from the first on, are held as day parts.
     pub fn settled(&self) -> u64
         ensures value { result ≡ self.now.settled }
         ensures none { result ≡ 0 }
@@ -117,7 +117,7 @@ impl<P: Held> Shelf<P> {
         0
     }
 
-    /// What stands against one more batch.
+    /// Returns what prevents one more batch.
     fn fault(&self) -> Option<CommitFault>
         ensures value { result ≡ commit_fault self.now }
         ensures room { IfNone result (length self.now.unsettled < held_limit) }
@@ -167,7 +167,7 @@ fn push_part<P: Drop>(alloc: Global, parts: &mut Arc<Vec<Arc<P>>>, part: P) -> R
         Ok(()) => {}
         Err(AllocError) => return Err(part),
     }
-    // Nobody else has the list now.
+    // No one else has the list now.
     let Some(list) = Arc::get_mut(parts) else {
         return Err(part);
     };
@@ -206,7 +206,7 @@ fn push_within<P: Drop>(list: &mut Vec<Arc<P>>, part: Arc<P>)
     }
 }
 
-/// The same parts, with room for one more.
+/// Returns the same parts, with room for one more.
 fn copied<P: Drop>(alloc: Global, parts: &[Arc<P>]) -> Result<Vec<Arc<P>>, AllocError>
     ensures { IfOk result (λ copies. map arc_value copies.items ≡ map arc_value parts.now) }
 {

@@ -26,14 +26,14 @@ impl<P> Model for Snapshot<P> {
 }
 
 impl<P> Snapshot<P> {
-    /// How many batches there were.
+    /// Returns how many batches there were.
     pub fn front(&self) -> u64
         ensures { result ≡ count_of self.now }
     {
         self.parts.len() as u64
     }
 
-    /// How many of them, from the first on, were held as day parts.
+    /// Returns how many of them, from the first on, were held as day parts.
     pub fn settled(&self) -> u64
         ensures { result ≡ self.now.settled }
     {
@@ -42,21 +42,21 @@ impl<P> Snapshot<P> {
         0
     }
 
-    /// How many parts hold them.
+    /// Returns how many parts hold them.
     pub fn len(&self) -> usize
         ensures { result ≡ length (parts_of self.now) }
     {
         self.parts.len()
     }
 
-    /// Whether there was no batch.
+    /// Returns whether there was no batch.
     pub fn is_empty(&self) -> bool
         ensures { IsTrue result ↔ (parts_of self.now ≡ []) }
     {
         self.parts.is_empty()
     }
 
-    /// The part at this place: the day parts come first, and then the parts of the other batches, oldest first.
+    /// Returns the part at this place: the day parts come first, and then the parts of the other batches, oldest first.
     pub fn part(&self, i: usize) -> &Arc<P>
         requires { i < length (parts_of self.now) }
         ensures { slice_get (parts_of self.now) i ≡ Some (arc_value result.now) }

@@ -6,7 +6,7 @@ use std::sync::Arc;
 use std::test::Fail;
 use vl_row::{Batch, FieldList, Held, Row, RowList};
 
-/// A batch of one row, whose message is this text.
+/// Returns a batch of one row, whose message is this text.
 fn batch_of(alloc: Global, message: &str) -> Result<Option<Batch>, AllocError> {
     let mut fields = FieldList::new(alloc);
     fields.set(alloc, "_msg", message)?;
@@ -18,7 +18,7 @@ fn batch_of(alloc: Global, message: &str) -> Result<Option<Batch>, AllocError> {
     Ok(Batch::try_of(rows).ok())
 }
 
-/// Commits batches of one row, so many, and says whether they got their numbers in turn.
+/// Commits batches of one row, this many, and says whether they got their numbers in turn.
 fn commits(alloc: Global, shelf: &mut Shelf<RowList>, count: u64) -> Result<bool, AllocError> {
     let Some(batch) = batch_of(alloc, "a")? else {
         return Ok(false);
@@ -31,7 +31,7 @@ fn commits(alloc: Global, shelf: &mut Shelf<RowList>, count: u64) -> Result<bool
     Ok(in_turn)
 }
 
-/// Whether one more batch is refused as the 4,097th, and comes back.
+/// Returns whether one more batch is refused as the 4,097th, and comes back.
 fn is_full(alloc: Global, shelf: &mut Shelf<RowList>) -> Result<bool, AllocError> {
     let Some(batch) = batch_of(alloc, "last")? else {
         return Ok(false);

@@ -63,7 +63,7 @@ each_strange p (e ∷ es) each =
     record { number = other.number; maker = other.maker; below = other.below; other = other.other } in
     (strange, each_strange p es (All-tail Other e es each))
 
--- Entries of strangers to the pass are those of others than its caller.
+-- Entries of other callers to the pass are those of others than its caller.
 pub strange : (p : PassState EntryRows) (es : List (Entry EntryRows)) → AreStrangers p.lock.passes p.numbers es
     → AllByRecursion (IsStrange (caller_of p)) (seen_history es)
 strange p es strangers = each_strange p es (each_stranger p.lock.passes p.numbers es strangers)

@@ -74,7 +74,7 @@ stands_left part new last q r done same is =
     subst (λ held. stands_for rows held (whats r.seen)) (sym same)
     (subst (stands_for rows new) (sym (ap (λ s. whats s.seen) is ∙ whats-committed entry q)) done.stands)
 
--- The pass has then seen what its turn found, and behind that the batch of the part.
+-- The pass has then seen what its turn found, and after that the batch of the part.
 pub inserts : (part : List Numbered) (entries : List EntryRows) (new : Contents (List Numbered))
     (p q r : PassState EntryRows)
     → Committed part entries new → Finds p q → r ≡ after_turn (committed (newest_in rows new.unsettled) q)

@@ -12,7 +12,7 @@ fault_of (commits.Full held) = Full held
 fault_of commits.Spent = Spent
 fault_of commits.Memory = Memory
 
--- Of so many batches, of which so many are settled, as many wait to be settled as may.
+-- Of this many batches, of which this many are settled, as many wait to be settled as may.
 abbrev pub IsFull : ℕ → ℕ → Type 0
 IsFull count settled = count ≡ settled + held_limit
 
@@ -24,7 +24,7 @@ last_number = 2 ^ 63 - 1
 abbrev pub HasRoom : ℕ → ℕ → Type 0
 HasRoom count settled = (count < settled + held_limit) × (count < last_number)
 
--- Why one more batch is not inserted: the first of these that applies. Want of memory is free.
+-- Why one more batch is not inserted: the first of these that applies. `Memory` may always be returned.
 abbrev pub Refuses : ℕ → ℕ → InsertFault → Type 0
 Refuses count settled (Full held) = IsFull count settled × (held ≡ held_limit)
 Refuses count settled Spent = (IsFull count settled → ⊥) × (count ≡ last_number)

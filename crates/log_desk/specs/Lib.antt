@@ -1,3 +1,7 @@
 pub mod Calls
 pub mod Faults
 pub mod Seen
+pub use Rattle.log_core.specs.declared.entries.EntryRows
+pub use Rattle.turn_lock.specs.Entries as LockEntries
+pub use Rattle.log_core.specs.Entries as LogEntries
+pub use Rattle.turn_lock.specs.Passes

@@ -49,7 +49,7 @@ pub record IsStrange (caller : Caller) (entry : Entry) : Type 0 where
   pub below : number < caller.lock.passes
   pub other : times number caller.numbers ≡ 0
 
--- Only others may have added entries. The settled number is no lower, and the same where the caller may settle.
+-- Only others may have added entries. The settled number is not lower, and the same where the caller may settle.
 pub record Follows (caller : Caller) (old new : Seen) : Type 0 where
   pub others : History
   pub longer : new.history ≡ old.history ++ others
@@ -58,7 +58,7 @@ pub record Follows (caller : Caller) (old new : Seen) : Type 0 where
   pub stays : 0 < caller.may_settle → new.settled ≡ old.settled
   pub turns : old.turns ≤ new.turns
 
--- Behind such entries there is one more, the last: this batch, which the caller made.
+-- After such entries there is one more, the last: this batch, which the caller made.
 pub record Gains (caller : Caller) (old new : Seen) (batch : Batch) : Type 0 where
   pub others : History
   pub entry : Entry

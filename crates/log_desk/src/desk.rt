@@ -20,8 +20,8 @@ use std::sync::Wait;
 use turn_lock::{SplitFault, TurnLock};
 use vl_row::{Batch, RowList};
 
-/// The state that all callers share. `insert`, `look` and `status` take one turn each; an insert that wants memory, one
-/// at most.
+/// The state that all callers share. `insert`, `look` and `status` take one turn each; an insert that runs out of
+/// memory, one at most.
 #[derive(Drop)]
 pub struct Desk {
     lock: TurnLock<Shelf<RowList>>,
@@ -36,8 +36,8 @@ impl Model for Desk {
 }
 
 impl Desk {
-    /// A desk of no batch, and its first pass, which has the number 0 and may settle. There are never more passes than
-    /// `passes`.
+    /// Returns a desk of no batch, and its first pass, which has the number 0 and may settle. There are never more
+    /// passes than `passes`.
     pub fn fresh<R>(rt: &R, alloc: Global, passes: u32) -> Result<(Desk, Pass), AllocError>
         requires { (0 < passes) × (passes ≤ 65536) }
         ensures lock { IfOk result (λ r. IsPassOf r.0 r.1 × (r.0.passes ≡ passes)) }
@@ -140,7 +140,8 @@ impl Desk {
         ensures number { IfOk result (λ number. length pass.new.seen ≡ number) }
         ensures mine { IfOk result (λ number. mine pass.new ≡ mine pass.old ++ number ∷ []) }
 
-        // A batch was refused exactly where there was no room for it, or for memory. Strangers alone added entries.
+        // A batch was refused exactly where there was no room for it, or memory ran out. Only other callers added
+        // entries.
         ensures room { IfOk result (λ number. (number ≤ pass.new.mark + held_limit) × (number ≤ last_number)) }
         ensures refused { IfErr result (λ refusal. Refuses (length pass.new.seen) pass.new.mark refusal.0) }
         ensures adds { OnErr result (Continues self.now.passes pass.old.numbers pass.old.seen pass.new.seen) }
@@ -160,8 +161,8 @@ impl Desk {
         }
     }
 
-    /// What the desk holds, in one turn: all batches of the history that the pass has then seen. Where memory runs out,
-    /// the turn was taken all the same.
+    /// Returns what the desk holds, in one turn: all batches of the history that the pass has then seen. Where memory
+    /// runs out, the turn was taken all the same.
     pub fn look<R: Wait>(&self, rt: &R, pass: &mut Pass) -> Result<Snapshot<RowList>, AllocError>
         requires { IsPassOf self.now pass.old }
         ensures lock { IsPassOf self.now pass.new }
@@ -186,7 +187,7 @@ impl Desk {
         look
     }
 
-    /// How many batches there are, and how many of them are settled. It takes no memory.
+    /// Returns how many batches there are, and how many of them are settled. It takes no memory.
     pub fn status<R: Wait>(&self, rt: &R, pass: &mut Pass) -> (u64, u64)
         requires { IsPassOf self.now pass.old }
         ensures lock { IsPassOf self.now pass.new }
@@ -195,7 +196,7 @@ impl Desk {
         ensures mark { KeepsMark pass.old pass.new }
         ensures follows { Follows (caller_of pass.old) (seen_of pass.old) (seen_of pass.new) }
 
-        // What was seen goes on with entries of strangers alone.
+        // What was seen goes on with entries of other callers only.
         ensures adds { Continues self.now.passes pass.old.numbers pass.old.seen pass.new.seen }
         ensures mine { mine pass.new ≡ mine pass.old }
         ensures numbers { (result.0 ≡ length pass.new.seen) × (result.1 ≡ pass.new.mark) }

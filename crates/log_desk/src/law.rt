@@ -4,7 +4,7 @@ ghost use Rattle.std.specs.List.{filter};
 ghost use Rattle.log_model.specs.Row.{Batch};
 ghost use Rattle.log_desk.specs.Seen.{Caller, Follows, Gains, Seen, is_own};
 
-/// Where there is one caller alone, nobody else adds to the history. And what others add is never the caller's own.
+/// With a single caller, no one else adds to the history. And what others add is never the caller's own.
 pub fn one_caller_law()
     ensures follows_alone { (caller : Caller) (old new : Seen) → caller.lock.passes ≡ 1 → caller.numbers ≡ 0 ∷ []
         → Follows caller old new → new.history ≡ old.history }

@@ -29,14 +29,14 @@ impl Model for Pass {
 }
 
 impl Pass {
-    /// How many batches the front of the history has that the caller has seen. It takes no turn.
+    /// Returns how many batches the front of the history has that the caller has seen. It takes no turn.
     pub fn front(&self) -> u64
         ensures { result ≡ length self.now.seen }
     {
         self.front
     }
 
-    /// How many of these batches were settled, as far as the caller has seen. It takes no turn.
+    /// Returns how many of these batches were settled, as far as the caller has seen. It takes no turn.
     pub fn settled(&self) -> u64
         ensures { result ≡ self.now.mark }
     {

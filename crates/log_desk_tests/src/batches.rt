@@ -1,4 +1,4 @@
-//! Batches whose rows have a message alone, and what a look has of them.
+//! Batches whose rows have a message only, and what a look has of them.
 ghost use Rattle.turn_lock.specs.Passes.{IsPassOf};
 
 use log_core::Snapshot;
@@ -7,14 +7,14 @@ use std::alloc::{AllocError, Global};
 use std::sync::Wait;
 use vl_row::{Batch, FieldList, Held, Row, RowList};
 
-/// A row with this message.
+/// Returns a row with this message.
 fn row_of(alloc: Global, message: &str) -> Result<Option<Row>, AllocError> {
     let mut fields = FieldList::new(alloc);
     fields.set(alloc, "_msg", message)?;
     Ok(Row::try_new(alloc, 0, &[], fields).ok())
 }
 
-/// A batch of one row for each line, with that message.
+/// Returns a batch of one row for each line, with that message.
 pub(crate) fn batch_of(alloc: Global, lines: &str) -> Result<Option<Batch>, AllocError> {
     let mut rows = Vec::new(alloc);
     for line in lines.lines() {
@@ -43,7 +43,7 @@ pub(crate) fn insert_one<R: Wait>(
     Ok(desk.insert(rt, alloc, pass, batch).ok())
 }
 
-/// Whether there is one row for each line, in this order, with that message.
+/// Returns whether there is one row for each line, in this order, with that message.
 pub(crate) fn are_rows_of(rows: &[Row], lines: &str) -> bool {
     rows.len() == lines.lines().count()
         && rows
@@ -52,7 +52,7 @@ pub(crate) fn are_rows_of(rows: &[Row], lines: &str) -> bool {
             .all(|(row, line)| row.value("_msg") == line)
 }
 
-/// How many rows a look has, whatever their messages.
+/// Returns how many rows a look has, whatever their messages.
 pub(crate) fn row_count(look: &Snapshot<RowList>) -> u64 {
     let mut count: u64 = 0;
     for i in 0..look.len() {
@@ -61,7 +61,7 @@ pub(crate) fn row_count(look: &Snapshot<RowList>) -> u64 {
     count
 }
 
-/// How many rows of a look have this message.
+/// Returns how many rows of a look have this message.
 pub(crate) fn rows_of(look: &Snapshot<RowList>, message: &str) -> u64 {
     let mut found: u64 = 0;
     for i in 0..look.len() {

@@ -9,7 +9,7 @@ use std::sync::Wait;
 use turn_lock::SplitFault;
 use vl_row::Batch;
 
-/// Why the pass of a desk with one number is not split.
+/// Returns why the pass of a desk with one number is not split.
 pub fn fault_of_one<R>(rt: &R, alloc: Global) -> Result<SplitFault, AllocError>
     ensures { IfOk result (λ fault. fault ≡ SplitFault.Spent 1) }
 {
@@ -36,7 +36,7 @@ pub fn insert_by_two<R: Wait>(
     ensures no_other { IfSome result (λ r. (k : ℕ)
         → times k (mine pass.new) ≤ times k (mine pass.old ++ r.0 ∷ []) + times k (r.2 ∷ [])) }
 
-    // The look holds the first batch, and the second one comes behind all that it holds.
+    // The look holds the first batch, and the second one comes after all that it holds.
     ensures front { IfSome result (λ r. (r.0 ≤ r.1) × (r.1 < r.2)) }
 {
     let (first, second) = batches;

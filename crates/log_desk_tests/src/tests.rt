@@ -16,8 +16,8 @@ fn spent_split(rt: HostRuntime) -> Result<(), Fail> {
     Ok(())
 }
 
-/// What two passes of one desk answer: the numbers of their batches and the front between them, and how many rows one
-/// look at the end has of the first batch, of the second, and in all.
+/// Returns what two passes of one desk answer: the numbers of their batches and the front between them, and how many
+/// rows one look at the end has of the first batch, of the second, and in all.
 fn by_two<R: Wait>(
     rt: &R,
     alloc: Global,
@@ -40,7 +40,7 @@ fn two_passes_of_one_desk(rt: HostRuntime) -> Result<(), Fail> {
     Ok(())
 }
 
-/// How many batches a pass has seen, and how many of them were settled.
+/// Returns how many batches a pass has seen, and how many of them were settled.
 fn seen_by(pass: &Pass) -> (u64, u64) {
     (pass.front(), pass.settled())
 }
@@ -79,7 +79,7 @@ fn a_joined_pass_has_the_longer_front(rt: HostRuntime) -> Result<(), Fail> {
     Ok(())
 }
 
-/// Inserts so many batches of one row, and says whether they got their numbers in turn.
+/// Inserts this many batches of one row, and says whether they got their numbers in turn.
 fn inserts_in_turn<R: Wait>(
     rt: &R,
     alloc: Global,
@@ -98,7 +98,7 @@ fn inserts_in_turn<R: Wait>(
     Ok(true)
 }
 
-/// Whether one more batch, of three rows, is refused as the 4,097th, and comes back whole.
+/// Returns whether one more batch, of three rows, is refused as the 4,097th, and comes back whole.
 fn is_full<R: Wait>(rt: &R, alloc: Global, desk: &Desk, pass: &mut Pass) -> Result<bool, AllocError>
     requires { IsPassOf desk.now pass.old }
     ensures { IsPassOf desk.now pass.new }

@@ -19,7 +19,7 @@ const CALLERS: u64 = 8;
 /// The most seconds that they may take, in a slow build and on a busy machine too.
 const MOST_SECONDS: u64 = 10;
 
-/// The front of a look, and how many of its rows have this message.
+/// Returns the front of a look, and how many of its rows have this message.
 fn look_for<R: Wait>(
     rt: &R,
     desk: &Desk,
@@ -154,7 +154,7 @@ fn eight<R: Threads + Wait + Sync>(
     Some(pass)
 }
 
-/// Whether a look holds all rows of each caller, and no other row.
+/// Returns whether a look holds all rows of each caller, and no other row.
 fn holds_all<R: Wait>(
     rt: &R,
     alloc: Global,

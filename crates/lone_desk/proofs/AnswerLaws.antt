@@ -1,4 +1,4 @@
--- What a query comes to where there is one caller alone.
+-- The result of a query with a single caller.
 use Rattle.std.proofs.Common.{◌≡◌, ℕ, List, Result, Ok, Err, ap, subst}
 use Rattle.std.specs.Prelude.{IfErr, IfOk, OnOk}
 use Rattle.log_desk.specs.Seen.{Caller, Seen}

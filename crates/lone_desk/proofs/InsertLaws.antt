@@ -1,4 +1,4 @@
--- What lines come to where there is one caller alone.
+-- The result of lines with a single caller.
 use Rattle.std.proofs.Common.{◌≡◌, ℕ, List, Result, Ok, Err, ap, sym, subst, length, arith}
 use Rattle.std.specs.Prelude.{IfErr}
 use Rattle.ingest_row.specs.Ingest.{Options}

@@ -1,4 +1,4 @@
--- What a caller that is alone sees of the history.
+-- What a single caller sees of the history.
 use Rattle.std.proofs.Common.{◌≡◌, List, [], ◌∷◌, ◌++◌, append-nil, ap, ◌∙◌, arith}
 use Rattle.std.proofs.lemmas.List.{map-append}
 use Rattle.log_model.specs.History.{History, batches_in, entry_rows}
@@ -7,7 +7,7 @@ use Rattle.log_desk.proofs.SeenLaws.{none_beside_one}
 use Rattle.log_desk.specs.Seen.{Caller, Follows, Gains, Seen}
 use Rattle.lone_desk.specs.Alone.{FollowsAlone, GainsAlone, IsAlone}
 
--- Nobody else added anything.
+-- No one else added anything.
 pub same_history : (caller : Caller) → IsAlone caller → (old new : Seen) → Follows caller old new
     → new.history ≡ old.history
 same_history caller alone old new follows =
@@ -15,12 +15,12 @@ same_history caller alone old new follows =
     ∙ ap (λ (others : History). old.history ++ others)
     (none_beside_one caller follows.others alone.one_pass alone.first follows.strange) ∙ append-nil old.history
 
--- Nobody else settles batches.
+-- No one else settles batches.
 pub same_settled : (caller : Caller) → IsAlone caller → (old new : Seen) → Follows caller old new
     → new.settled ≡ old.settled
 same_settled caller alone old new follows = follows.stays (omega (arith, alone.settles))
 
--- the batches with one entry more, which comes right behind them
+-- the batches with one entry more, which comes right after them
 pub batches-gained : (caller : Caller) (old new : Seen) (rows : List Row) → IsAlone caller → Gains caller old new rows
     → batches_in new.history ≡ batches_in old.history ++ rows ∷ []
 batches-gained caller old new rows alone gains =
@@ -31,7 +31,7 @@ batches-gained caller old new rows alone gains =
     ∙ map-append entry_rows old.history (gains.entry ∷ [])
     ∙ ap (λ rows. batches_in old.history ++ rows ∷ []) gains.rows
 
--- the batches behind an insert
+-- the batches after an insert
 pub batches-with : (old new : Seen) (batch : Batch) → GainsAlone old new batch
     → batches_in new.history ≡ batches_in old.history ++ batch ∷ []
 batches-with old new batch (caller, alone, gains) = batches-gained caller old new batch alone gains

@@ -21,12 +21,12 @@ GainsAlone old new batch = (caller : Caller) × IsAlone caller × Gains caller o
 abbrev pub FollowsAlone : Seen → Seen → Type 0
 FollowsAlone old new = (caller : Caller) × IsAlone caller × Follows caller old new
 
--- such a caller had lines taken in
+-- such a caller had lines accepted
 abbrev pub InsertsAlone : Options → ℕ → List ℕ → Seen → Seen → Insertion → Type 0
 InsertsAlone options now body old new insertion =
     (caller : Caller) × IsAlone caller × IsInsertion caller options now body old new insertion
 
--- it had none taken in, for this reason
+-- it had none accepted, for this reason
 abbrev pub RefusesAlone : Options → ℕ → List ℕ → Seen → Seen → InsertionFault → Type 0
 RefusesAlone options now body old new fault =
     (caller : Caller) × IsAlone caller × RefusesLines caller options now body old new fault

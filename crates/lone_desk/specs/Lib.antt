@@ -1,1 +1,2 @@
 pub mod Alone
+pub use Rattle.log_desk.specs.Seen

@@ -1,7 +1,7 @@
 //! The desk and its calls.
 ghost use Rattle.std.specs.Prelude.{◌≡◌, ◌≤ℤ◌, [], IfErr, IfOk, List, OnErr, OnOk, Some, length, pos, unsigned_abs};
 ghost use Rattle.ingest_row.specs.Intake.{Outcome};
-ghost use Rattle.query_run.specs.Asked.{IsReadableQuery};
+ghost use Rattle.vl_session.specs.Asked.{IsReadableQuery};
 ghost use Rattle.vl_session.specs.Answer.{FailsQuery, HasRecords, IsOfEvaluation, IsQueryAnswer};
 ghost use Rattle.vl_session.specs.Insert.{CanBeBatch};
 ghost use Rattle.vl_session.specs.Seen.{HasRoom};
@@ -16,7 +16,7 @@ use std::sync::Wait;
 use vl_row::Batch;
 use vl_session::{Answer, AnswerFault, Insertion, InsertionFault, answer_query, insert_lines};
 
-/// A desk that is made for one pass, with that pass, so that nobody else inserts.
+/// A desk that is made for one pass, with that pass, so that no one else inserts.
 ///
 /// A contract sees what its caller has seen, which is all that there is.
 #[derive(Drop)]
@@ -28,7 +28,7 @@ pub struct LoneDesk<'d, R> {
 }
 
 impl<'d, R> Model for LoneDesk<'d, R> {
-    ghost use Rattle.turn_lock.specs.Passes.{IsPassOf};
+    ghost use Rattle.log_desk.specs.Passes.{IsPassOf};
     ghost use Rattle.log_desk.specs.Seen.{Seen, caller_of, seen_of};
     ghost use Rattle.lone_desk.specs.Alone.{IsAlone};
 
@@ -40,7 +40,7 @@ impl<'d, R> Model for LoneDesk<'d, R> {
 }
 
 impl<'d, R: Wait> LoneDesk<'d, R> {
-    /// A desk of no batch.
+    /// Returns a desk of no batch.
     pub fn fresh(rt: &'d R, alloc: Global) -> Result<LoneDesk<'d, R>, AllocError>
         ensures nothing { IfOk result (λ desk. desk.history ≡ []) }
         ensures unsettled { IfOk result (λ desk. desk.settled ≡ 0) }
@@ -77,7 +77,7 @@ impl<'d, R: Wait> LoneDesk<'d, R> {
         ensures inserted { IfOk result (InsertsAlone options.now (unsigned_abs now) body.now self.old self.new) }
         ensures refused { IfErr result (RefusesAlone options.now (unsigned_abs now) body.now self.old self.new) }
 
-        // Lines with rows that can be a batch are taken in as one, where there is room for it, unless memory runs out.
+        // Lines with rows that can be a batch are accepted as one, where there is room for it, unless memory runs out.
         ensures batch { (outcomes : List Outcome) → CanBeBatch options.now (unsigned_abs now) body.now outcomes
             → IfOk result (λ insertion. insertion.batch ≡ Some (length self.new.history)) }
         ensures complete { (outcomes : List Outcome) → CanBeBatch options.now (unsigned_abs now) body.now outcomes

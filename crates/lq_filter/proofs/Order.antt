@@ -22,7 +22,7 @@ both_true : (a b : Bool) → a ≡ true → b ≡ true → (a && b) ≡ true
 both_true a b p q = rw (p, q) refl
 
 module _ (text : List ℕ) where
-  -- the phrase stands at a place, and the others in order behind it
+  -- the phrase stands at a place, and the others in order after it
   abbrev goes_on : List ℕ → List (List ℕ) → ℕ → Bool
   goes_on phrase phrases place = stands_at text phrase place && in_order text (place + length phrase) phrases
 

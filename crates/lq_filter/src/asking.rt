@@ -51,7 +51,7 @@ impl<'p> Asking<'p> {
         }
     }
 
-    /// Whether the pattern is found in the value.
+    /// Returns whether the pattern is found in the value.
     pub(crate) fn is_found(&mut self, pattern: &'p Pattern, value: &str) -> Result<bool, AllocError>
         ensures { IfOk result (λ found. found ≡ is_found pattern.now value.now) }
     {

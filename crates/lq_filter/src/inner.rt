@@ -54,8 +54,8 @@ pub fn prepare_inner_numbered(
 }
 
 impl Inner {
-    /// Whether the filter holds for the record, which is of no moment and of no stream. Memory is taken only where a
-    /// pattern or a text in any case of its letters is asked.
+    /// Returns whether the filter holds for the record, which is of no moment and of no stream. Memory is taken only
+    /// where a pattern or a text in any case of its letters is asked.
     pub fn holds(&self, alloc: Global, r: &FieldList) -> Result<bool, AllocError>
         ensures { IfOk result (λ found. found ≡ record_holds (inner_condition self.now) r.now) }
     {
@@ -82,7 +82,7 @@ pub struct RecordScan<'p> {
 }
 
 impl<'p> RecordScan<'p> {
-    /// Whether the filter holds for the record.
+    /// Returns whether the filter holds for the record.
     pub fn holds(&mut self, r: &FieldList) -> Result<bool, AllocError>
         ensures value { IfOk result (λ found. found ≡ record_holds (record_condition self.old) r.now) }
         ensures filter { record_condition self.new ≡ record_condition self.old }

@@ -82,7 +82,7 @@ impl Selector {
         Ok(Selector { groups })
     }
 
-    /// Whether it was prepared from this selector.
+    /// Returns whether it was prepared from this selector.
     pub(crate) fn is_of(&self, select: &Select) -> bool
         ensures { IsTrue result → prepared_groups self.now ≡ groups_of select.now }
     {
@@ -98,7 +98,7 @@ impl Selector {
         true
     }
 
-    /// Whether some group has all its tests true. Without groups every stream is selected.
+    /// Returns whether some group has all its tests true. Without groups every stream is selected.
     pub(crate) fn selects<'p>(
         &'p self,
         asking: &mut Asking<'p>,
@@ -243,7 +243,7 @@ impl WholePattern {
         Ok(WholePattern { text, pattern })
     }
 
-    /// Whether the whole value matches.
+    /// Returns whether the whole value matches.
     fn is_found<'p>(&'p self, asking: &mut Asking<'p>, value: &str) -> Result<bool, AllocError>
         ensures { IfOk result (λ found. found ≡ is_found (whole self.now) value.now) }
     {

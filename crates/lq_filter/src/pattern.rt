@@ -43,7 +43,7 @@ impl Pattern {
         }
     }
 
-    /// Reads the pattern that matches where the text's matches a whole value. It has to be readable alone too, which
+    /// Reads the pattern that matches where the text's matches a whole value. It must be readable by itself too, which
     /// `a)(b` is not.
     pub(crate) fn of_whole(alloc: Global, text: &str, nth: u32) -> Result<Pattern, PrepareFault>
         ensures ok { IfOk result (λ pattern. pattern ≡ whole text.now) }
@@ -56,14 +56,14 @@ impl Pattern {
         Pattern::new(alloc, whole.as_str(), nth)
     }
 
-    /// The text that it was read from.
+    /// Returns the text that it was read from.
     pub(crate) fn as_str(&self) -> &str
         ensures { result.now ≡ self.now }
     {
         self.regex.as_str()
     }
 
-    /// A matcher, with memory of its own to search in.
+    /// Returns a matcher, with memory of its own to search in.
     pub(crate) fn matcher(&self, alloc: Global) -> Result<Matcher<'_>, AllocError>
         ensures { IfOk result (λ matcher. FindsAs (matcher_pattern matcher) self.now) }
     {

@@ -39,8 +39,8 @@ pub fn prepare(alloc: Global, q: &Query) -> Result<Prepared, PrepareFault>
 }
 
 impl Prepared {
-    /// Whether the filter holds for the row, at the moment `now`, in nanoseconds since 1970. Memory is taken only where
-    /// a pattern, a text in any case of its letters, or a computed text of the row is asked.
+    /// Returns whether the filter holds for the row, at the moment `now`, in nanoseconds since 1970. Memory is taken
+    /// only where a pattern, a text in any case of its letters, or a computed text of the row is asked.
     pub fn holds(&self, alloc: Global, now: i64, row: &Row) -> Result<bool, AllocError>
         ensures { IfOk result (λ found. found ≡ holds now (condition_of self.now) row.now) }
     {
@@ -48,7 +48,7 @@ impl Prepared {
         scan.holds(row)
     }
 
-    /// Whether the selector selects the stream.
+    /// Returns whether the selector selects the stream.
     pub fn selects(&self, alloc: Global, group: &Select, s: &Stream) -> Result<bool, AllocError>
         ensures { IfOk result (λ found. found ≡ selects (groups_of group.now) s.now) }
     {
@@ -71,7 +71,7 @@ impl Prepared {
     }
 }
 
-// By a selector that is no part of the query.
+// By a selector that is not part of the query.
 fn selects_anew(alloc: Global, group: &Select, s: &Stream) -> Result<bool, AllocError>
     ensures { IfOk result (λ found. found ≡ selects (groups_of group.now) s.now) }
 {
@@ -105,7 +105,7 @@ pub struct Scan<'p> {
 }
 
 impl<'p> Scan<'p> {
-    /// Whether the filter holds for the row.
+    /// Returns whether the filter holds for the row.
     pub fn holds(&mut self, row: &Row) -> Result<bool, AllocError>
         ensures value { IfOk result (λ found. found ≡ holds (moment_of self.old) (scanned self.old) row.now) }
         ensures filter { scanned self.new ≡ scanned self.old }

@@ -16,7 +16,7 @@ pub(crate) enum Subject<'s> {
 }
 
 impl<'s> Subject<'s> {
-    /// Whether it is of the last `span` nanoseconds, and not of the future.
+    /// Returns whether it is of the last `span` nanoseconds, and not of the future.
     pub(crate) fn is_recent(&self, span: i64) -> bool
         ensures { result ≡ option_map_or (is_recent (subject_of self.now).now span) (subject_of self.now).moment false }
     {
@@ -26,7 +26,7 @@ impl<'s> Subject<'s> {
         }
     }
 
-    /// Whether its moment is between the ends, both included.
+    /// Returns whether its moment is between the ends, both included.
     pub(crate) fn is_during(&self, from: i128, to: i128) -> bool
         ensures { result ≡ option_map_or (is_within from to) (subject_of self.now).moment false }
     {
@@ -37,7 +37,7 @@ impl<'s> Subject<'s> {
     }
 }
 
-// Whether the row is younger than so many nanoseconds, and not of the future.
+// Returns whether the row is younger than this many nanoseconds, and not of the future.
 fn is_recent(now: i64, span: i64, row: &Row) -> bool
     ensures { result ≡ (int_lt (now -ℤ span) (pos row.now.moment) && int_le (pos row.now.moment) now) }
 {

@@ -126,7 +126,7 @@ fn trees(alloc: Global, filters: &[Filter], nth: &mut u32) -> Result<Vec<Tree>, 
     Ok(trees)
 }
 
-// A test of a field's value, which has no pattern.
+// Returns a test of a field's value, which has no pattern.
 fn plain(made: Result<FieldTest, AllocError>) -> Result<Tree, PrepareFault>
     ensures same { (asked : is.Condition) → IfOk made (λ field. condition_of_field field ≡ asked)
         → IfOk result (λ tree. condition_of_tree tree ≡ asked) }
@@ -164,8 +164,8 @@ fn of_selector(alloc: Global, select: &Select, nth: &mut u32) -> Result<Tree, Pr
 }
 
 impl Tree {
-    /// Whether the filter holds for the subject. The filters of an AND or an OR are asked in their order, up to the
-    /// first that settles it.
+    /// Returns whether the filter holds for the subject. The filters of an AND or an OR are asked in their order, up to
+    /// the first that settles it.
     #[cycle(holding)]
     pub(crate) fn holds<'p>(
         &'p self,
@@ -202,7 +202,7 @@ fn selects<'p>(
 }
 
 impl Tree {
-    /// The selector in it that was prepared from this one, if one was.
+    /// Returns the selector in it that was prepared from this one, if one was.
     #[cycle(finding)]
     pub(crate) fn selector_of(&self, select: &Select) -> Option<&Selector>
         ensures { IfSome result (λ selector. prepared_groups selector.now ≡ groups_of select.now) }

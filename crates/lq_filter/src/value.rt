@@ -77,7 +77,7 @@ impl FieldTest {
     ghost use Rattle.lq_filter.specs.Subject.{subject_of};
     ghost use Rattle.lq_filter.specs.Value.{value_holds};
 
-    /// Whether the value of the field is as asked.
+    /// Returns whether the value of the field is as asked.
     pub(crate) fn holds<'p>(
         &'p self,
         asking: &mut Asking<'p>,
@@ -104,7 +104,7 @@ impl FieldTest {
     }
 }
 
-// Whether the field is no stored one: the moment, or the text or the id of the stream.
+// Returns whether the field is not a stored one: the moment, or the text or the id of the stream.
 fn is_computed(name: &str) -> bool
     ensures { result ≡ is_reserved name.now }
 {
@@ -185,7 +185,7 @@ impl Folded {
     }
 }
 
-// The text with its case folded. Of ASCII that is its lower case, which is made much faster.
+// Returns the text with its case folded. Of ASCII that is its lower case, which is made much faster.
 fn case_folded(alloc: Global, text: &str) -> Result<String, AllocError>
     ensures { IfOk result (λ folded. string_bytes folded ≡ case_folded text.now) }
 {
@@ -195,7 +195,7 @@ fn case_folded(alloc: Global, text: &str) -> Result<String, AllocError>
     caseless::default_case_fold_str(alloc, text)
 }
 
-// Whether the phrases stand in the value in this order, each from the end of the one before or later.
+// Returns whether the phrases stand in the value in this order, each from the end of the one before or later.
 fn are_in_order(phrases: &[Finder<'static>], value: &str) -> bool
     ensures { result ≡ in_order value.now 0 phrases.now }
 {
@@ -209,8 +209,8 @@ fn are_in_order(phrases: &[Finder<'static>], value: &str) -> bool
     true
 }
 
-// The end of the first place from `from` on at which the phrase stands, which leaves most room for others; an empty
-// one is passed over.
+// Returns the end of the first place from `from` on at which the phrase stands, which leaves most room for others; an
+// empty one is skipped.
 fn end_from(phrase: &Finder<'static>, value: &str, from: usize) -> Option<usize>
     requires { from ≤ length value.now }
     ensures found { IfSome result (λ end. end ≤ length value.now) }

@@ -55,7 +55,7 @@ fn held_of_record(alloc: Global, inner: &Inner, case: Case<'_>) -> Result<String
     format!(in alloc; "{holds}")
 }
 
-/// A row with this value of `v`, and another field, so that there is a row for an empty value too.
+/// Returns a row with this value of `v`, and another field, so that there is a row for an empty value too.
 fn row_of(alloc: Global, value: &str) -> Result<Row, AllocError> {
     let mut fields = FieldList::new(alloc);
     fields.set(alloc, "a", "x")?;
@@ -64,7 +64,7 @@ fn row_of(alloc: Global, value: &str) -> Result<Row, AllocError> {
     Row::try_new(alloc, 0, labels.as_slice(), fields).map_err(|_| AllocError)
 }
 
-/// The texts between commas.
+/// Returns the texts between commas.
 fn texts(alloc: Global, list: &str) -> Result<Vec<Text>, AllocError> {
     let mut texts = Vec::new(alloc);
     for text in list.split(',') {
@@ -85,7 +85,7 @@ impl<'l> Case<'l> {
         }
     }
 
-    /// The filter of a form, of which a name that begins with `not ` is the negation.
+    /// Returns the filter of a form, of which a name that begins with `not ` is the negation.
     fn filter(&self, alloc: Global) -> Result<Filter, AllocError> {
         match self.form.strip_prefix("not ") {
             Some(form) => {
@@ -108,7 +108,7 @@ impl<'l> Case<'l> {
         }
     }
 
-    /// The two texts as phrases.
+    /// Returns the two texts as phrases.
     fn phrases(&self, alloc: Global) -> Result<Vec<Filter>, AllocError> {
         let mut filters = Vec::new(alloc);
         filters.push(self.phrase(alloc, self.first)?)?;
@@ -122,7 +122,7 @@ impl<'l> Case<'l> {
         Ok(Filter::Phrase { field, text })
     }
 
-    /// A selector with one test, of the label that has the field's name.
+    /// Returns a selector with one test, of the label that has the field's name.
     fn selector(&self, alloc: Global, how: How) -> Result<Filter, AllocError> {
         let mut labels = Vec::new(alloc);
         let name = Text::try_of(alloc, self.field)?;
@@ -170,7 +170,7 @@ impl<'l> Case<'l> {
         }
     }
 
-    /// The values between two ends, where an empty end of numbers is an infinite one.
+    /// Returns the values between two ends, where an empty end of numbers is an infinite one.
     fn interval_filter(
         &self,
         alloc: Global,

@@ -7,7 +7,7 @@ use std::alloc::{AllocError, Global};
 use std::test::Fail;
 use vl_row::{FieldList, Items, Row, Text};
 
-/// A row of this time, whose stream has the label `app` with this value, or no label where it is empty.
+/// Returns a row of this time, whose stream has the label `app` with this value, or no label where it is empty.
 fn row_of(alloc: Global, time: i64, app: &str) -> Result<Row, AllocError> {
     let mut fields = FieldList::new(alloc);
     fields.set(alloc, "app", app)?;
@@ -161,7 +161,7 @@ fn no_group_has_all_its_tests_true(rt: HostRuntime) -> Result<(), Fail> {
     Ok(())
 }
 
-/// Whether the selector of a prepared query selects the stream.
+/// Returns whether the selector of a prepared query selects the stream.
 fn stream_is_selected(alloc: Global, app: &str) -> Result<bool, AllocError> {
     let query = Query {
         filter: Filter::Not(Box::new(alloc, of_two_groups(alloc)?)?),
@@ -197,7 +197,7 @@ fn selects_no_labels(alloc: Global, prepared: &Prepared) -> Result<bool, AllocEr
     prepared.selects(alloc, &select, row.stream())
 }
 
-/// Whether the prepared selector selects the stream without labels.
+/// Returns whether the prepared selector selects the stream without labels.
 fn no_labels_are_selected(alloc: Global) -> Result<bool, AllocError> {
     let query = Query {
         filter: Filter::Select(selector(alloc, How::IsNot, "dev")?),
@@ -215,12 +215,12 @@ fn a_stream_without_labels_is_selected(rt: HostRuntime) -> Result<(), Fail> {
     Ok(())
 }
 
-/// What a text asks.
+/// Returns what a text asks.
 fn query(alloc: Global, text: &str) -> Result<Query, AllocError> {
     parse(alloc, text).map_err(|_| AllocError)
 }
 
-/// Whether the query of a text holds for a row in which `v` is `x`.
+/// Returns whether the query of a text holds for a row in which `v` is `x`.
 fn holds_for_x(alloc: Global, text: &str) -> Result<bool, AllocError> {
     let row = row_of(alloc, 0, "")?;
     let query = query(alloc, text)?;
@@ -244,7 +244,7 @@ fn next_holds(alloc: Global, scan: &mut Scan, app: &str) -> Result<bool, AllocEr
     scan.holds(&row)
 }
 
-/// Whether a row whose label is `ab` holds after one without the label did not.
+/// Returns whether a row whose label is `ab` holds after one without the label did not.
 fn scan_goes_on(alloc: Global, prepared: &Prepared) -> Result<bool, AllocError> {
     let mut scan = prepared.scan(alloc, 0);
     let without = next_holds(alloc, &mut scan, "")?;
@@ -266,7 +266,7 @@ fn a_scan_tells_its_patterns_apart(rt: HostRuntime) -> Result<(), Fail> {
     Ok(())
 }
 
-/// The number of the pattern for which the query of a text is refused.
+/// Returns the number of the pattern for which the query of a text is refused.
 fn refused_in(alloc: Global, text: &str) -> Result<Option<u32>, AllocError> {
     let query = query(alloc, text)?;
     match prepare(alloc, &query) {
@@ -316,7 +316,7 @@ fn the_first_pattern_is_refused_first(rt: HostRuntime) -> Result<(), Fail> {
     Ok(())
 }
 
-/// A record in which `v` and `_time` have this value.
+/// Returns a record in which `v` and `_time` have this value.
 fn record_of(alloc: Global, value: &str) -> Result<FieldList, AllocError> {
     let mut record = FieldList::new(alloc);
     record.set(alloc, "v", value)?;
@@ -361,7 +361,7 @@ fn next_record_holds(
     scan.holds(&record)
 }
 
-/// Whether, in one scan, `ab` does not hold, `abc` does, and `bc` does not.
+/// Returns whether, in one scan, `ab` does not hold, `abc` does, and `bc` does not.
 fn records_are_scanned(alloc: Global, inner: &Inner) -> Result<bool, AllocError> {
     let mut scan = inner.scan(alloc);
     let first = next_record_holds(alloc, &mut scan, "ab")?;
@@ -392,7 +392,7 @@ fn patterns_of_a_filter_of_records_count_from_0(rt: HostRuntime) -> Result<(), F
     Ok(())
 }
 
-/// The number for which the filter of a text is refused among others, or the next number.
+/// Returns the number for which the filter of a text is refused among others, or the next number.
 fn number_behind(alloc: Global, text: &str, nth: u32) -> Result<u32, AllocError> {
     let query = query(alloc, text)?;
     let mut next = nth;

@@ -10,7 +10,7 @@ use Rattle.lq_grammar.specs.LogsQL.{logsql, query}
 use Rattle.lq_grammar.specs.Query.{Items, most_open, IsQuery, IsFlawed}
 use Rattle.lq_grammar.proofs.Passing.{passes, query_passes}
 
--- what reading the tokens from the left comes to
+-- the result of reading the tokens from the left
 abbrev pub reading : Items → Result Question (Stop Reason)
 reading items = whole (read_at logsql most_open query) items
 

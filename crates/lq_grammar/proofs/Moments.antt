@@ -1,4 +1,4 @@
--- What is said of durations and bounds holds, and nothing else does.
+-- The meaning of durations and bounds is right, and the only one.
 use Rattle.std.proofs.Common.{◌≡◌, ℕ, zero, suc, ◌+◌, ◌^◌, ◌<◌, ◌≤◌, Bool, true, false, cond, ◌&&◌}
 use Rattle.std.proofs.Common.{nat_le, ltb}
 use Rattle.std.proofs.Common.{List, [], ◌∷◌, length, drop, slice_index, ℤ, pos, Option, Some, None, Result, Ok, Err}
@@ -6,7 +6,7 @@ use Rattle.std.proofs.Common.{inl, inr, refl, sym, ap, ◌∙◌, subst, arith}
 use Rattle.std.proofs.lemmas.Bool.{ltb-true, ltb-false, and_parts}
 use Rattle.std.proofs.lemmas.Int.{ints}
 use Rattle.std.proofs.lemmas.List.{length-drop}
-use Rattle.log_model.specs.MomentText.{IsMomentInRange}
+use Rattle.vl_row.specs.MomentText.{IsMomentInRange}
 use Rattle.time_text.specs.Reading.{◌>>=◌, digits_len, number_at, AreAlike}
 use Rattle.time_text.specs.DurationReading.{letter_unit, with_rest, unit_at, times, part_at, AnswersSum}
 use Rattle.time_text.specs.Bound.{AreInRange}

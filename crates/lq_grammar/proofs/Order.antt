@@ -1,4 +1,4 @@
--- The tokens of a text stand behind one another, and all before its end.
+-- The tokens of a text stand after one another, and all before its end.
 use Rattle.std.proofs.Common.{◌≡◌, ℕ, suc, ◌+◌, ◌<◌, ◌≤◌, List, [], ◌∷◌, ◌++◌, length, map, chars, refl, sym, ap, ◌∙◌}
 use Rattle.std.proofs.Common.{subst, arith, encode_utf8, append_assoc}
 use Rattle.std.specs.Str.{encode_utf8_all}
@@ -15,7 +15,7 @@ use Rattle.lq_grammar.specs.Values.{Bytes}
 use Rattle.lq_grammar.specs.Items.{item_of}
 use Rattle.lq_grammar.specs.Query.{Items, HasItems, place_or_end}
 
--- the first stands here or later, each behind the one before it, and the end is behind all
+-- the first stands here or later, each after the one before it, and the end is after all
 abbrev Rising : ℕ → ℕ → Items → Type 0
 Rising low end [] = low ≤ end
 Rising low end (t ∷ ts) = (low ≤ t.place) × Rising (suc t.place) end ts
@@ -88,7 +88,7 @@ place_before text items before rest at has parts p =
     (subst (Rising 0 (length text)) cut (items_rise text items has)) in
     subst (λ (n : ℕ). n < place_or_end text rest) (sym p.place_is) less
 
--- where one stands behind the other, it does so in the text
+-- where one stands after the other, it does so in the text
 pub behind_less : (text : Bytes) (items : Items) (one other : ℕ) → HasItems text items → Behind items one other
     → one < other
 behind_less text items one other has b =

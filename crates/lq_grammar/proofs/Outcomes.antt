@@ -27,9 +27,9 @@ use Rattle.lq_grammar.proofs.Order.{place_before, behind_less}
 abbrev pub Outcome : Type 0
 Outcome = Result Question QueryFault
 
--- ---- what reading comes to, with its place
+-- ---- the result of reading, with its place
 
--- where reading stops that so many tokens are left to
+-- where reading stops with this many tokens left
 abbrev pub stop_place : Bytes → Items → ℕ → ℕ
 stop_place text items left = place_or_end text (drop (length items - left) items)
 

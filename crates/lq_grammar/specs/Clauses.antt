@@ -29,7 +29,7 @@ abbrev pub Gives : {X Y : Type 0} → (X → Y) → Result X Halt → Result Y (
 Gives view (Ok x) r = r ≡ Ok (view x)
 Gives view (Err halt) r = Fails halt r
 
--- what the rule reads, where so many may be open
+-- what the rule reads, where this many may be open
 abbrev pub at : {A : Type 0} → ℕ → Parse A → List (Token Bytes) → Answer Bytes Reason A
 at depth rule u = read_at logsql depth rule u
 
@@ -51,7 +51,7 @@ abbrev pub TakesText : Class → List (Token Bytes) → Option (Bor Bytes × Bor
 TakesText class u None = next class u ≡ false
 TakesText class u (Some x) = (t : Token Bytes) × (u ≡ t ∷ x.1.now) × (has class t ≡ true) × (x.0.now ≡ t.content)
 
--- the text of that token, where a colon stands behind it, and what follows the colon
+-- the text of that token, where a colon stands after it, and what follows the colon
 abbrev pub TakesName : Class → List (Token Bytes) → Option (Bor Bytes × Bor (List (Token Bytes))) → Type 0
 TakesName class u None = (next class u && next (any (Colon ∷ [])) (drop 1 u)) ≡ false
 TakesName class u (Some x) =

@@ -38,7 +38,7 @@ keywords =
 abbrev pub entry_of : Bor Bytes × Role → Bytes × Role
 entry_of entry = (str_to_ascii_lowercase entry.0.now, entry.1)
 
--- what is said of a word in a list, of which the first entry counts
+-- the role of a word in a list: that of its first entry
 abbrev pub role_in : List (Bytes × Role) → Bytes → Role
 role_in [] word = Bare
 role_in (entry ∷ entries) word = if bytes_eq word entry.0 then entry.1 else role_in entries word

@@ -74,7 +74,7 @@ made {A} {B} f rule = both (λ (x : A) (_ : Unit {0}). f x) rule (empty tt)
 abbrev pub enclosed : {A : Type 0} → Parse A → Parse A
 enclosed rule = behind (any (Open ∷ [])) (closed rule (any (Close ∷ [])))
 
--- a rule, and others of it behind a token
+-- a rule, and others of it after a token
 abbrev pub others : {A : Type 0} → Role → Parse A → Parse (List A)
 others role rule = many (λ xs. xs) (behind (any (role ∷ [])) rule)
 
@@ -115,7 +115,7 @@ size = checked size_value arg
 unfoldable pub high_size : Parse ℕ
 high_size = checked high_size_value arg
 
--- ---- leaves: what may stand behind a word
+-- ---- leaves: what may stand after a word
 
 -- [^"*"], and no call
 unfoldable pub bare_end : Parse (Bytes → Filtering)
@@ -125,7 +125,7 @@ bare_end = one (glued (Star ∷ [])) (λ _. prefixed) ||| unless (glued (Open �
 unfoldable pub quoted_end : Parse (Bytes → Filtering)
 quoted_end = one (glued (Star ∷ [])) (λ _. prefixed) ||| unless (glued (Star ∷ [])) phrased
 
--- a call behind its word
+-- a call after its word
 abbrev pub called : Parse Filtering → Parse (Bytes → Filtering)
 called inside = both (λ _ filter word. filter) (mark (glued (Open ∷ []))) (closed inside (any (Close ∷ [])))
 
@@ -190,14 +190,14 @@ greater =
 unfoldable pub less : Parse Filtering
 less = behind (any (Less ∷ [])) (both (λ _ number. at_most number) (mark (glued (Equals ∷ []))) num ||| made below num)
 
--- "*", with no glued word behind it
+-- "*", with no glued word after it
 unfoldable pub star : Parse Filtering
 star = behind (any (Star ∷ [])) (unless (glued text_roles) everything)
 
 unfoldable pub mark_leaf : Parse Filtering
 mark_leaf = exact ||| regex ||| greater ||| less ||| star
 
--- A word, and what its end makes of it. A function says what else may stand behind the word.
+-- A word, and what its end makes of it. A function says what else may stand after the word.
 abbrev pub End : Type 1
 End = Parse (Bytes → Filtering) → Parse (Bytes → Filtering)
 
@@ -269,11 +269,11 @@ run_rest =
 unfoldable pub run : Parse Bytes
 run = text (any quoted) ||| both (λ bare rest. bare ++ rest) (text (any bares)) run_rest
 
--- a run inside brackets, which is no duration
+-- a run inside brackets, which is not a duration
 unfoldable pub bound : Parse (ℤ × ℤ)
 bound = checked bound_value run
 
--- a run alone
+-- a run by itself
 unfoldable pub lone_run : Parse Condition
 lone_run = checked run_value run
 
@@ -299,7 +299,7 @@ time =
 unfoldable pub inner : Scope → Parse Filtering
 inner scope = deeper (inner_negation scope) denied ||| deeper (group scope) (λ filter. filter) ||| leaf
 
--- ":" inner, or what else may stand behind a word
+-- ":" inner, or what else may stand after a word
 abbrev pub colon : Scope → End
 colon scope end = both (λ _ filter name. named name filter) (mark (any (Colon ∷ []))) (inner scope) ||| end
 
@@ -332,7 +332,7 @@ row_unit =
     ||| word_unit Rows
 
 -- name ":" inner | leaf
--- In the `or` of FILTER, WHERE and IF neither selector nor `time` may stand, and `_time` is no name.
+-- In the `or` of FILTER, WHERE and IF neither selector nor `time` may stand, and `_time` is not a name.
 unfoldable pub record_unit : Parse Filtering
 record_unit =
     ended (text (any (Time ∷ []))) bare_end
@@ -457,11 +457,11 @@ uniq_rest = ended name_list uniq_end
 unfoldable pub uniq_pipe : Parse Stage
 uniq_pipe = by uniq_rest
 
--- [BY], behind N
+-- [BY], after N
 unfoldable pub most_end : Parse Bool
 most_end = one (any (By ∷ [])) (λ _. true) ||| unless (any (By ∷ [])) false
 
--- BY, or another one behind it: then the first is an N, which is no number.
+-- BY, or another one after it: then the first is an N, which is not a number.
 unfoldable pub by_most : Parse ℕ
 by_most = checked by_value (both (λ word again. (word, again)) (text (any (By ∷ []))) most_end)
 
@@ -530,12 +530,12 @@ call =
     ||| behind (any (CountUniq ∷ [])) (made (λ names. (is_call.CountUniq, names)) name_list)
     ||| call_of_one
 
--- [[AS] name], where a name behind nothing is of these roles
+-- [[AS] name], where a name after nothing is of these roles
 unfoldable pub naming : List Role → Parse (Option Bytes)
 naming roles =
     behind (any (As ∷ [])) (made Some list_name) ||| one (any roles) (λ t. Some (field_named t.content)) ||| empty None
 
--- "(" or ")" [[AS] name], behind IF, or the word as a name
+-- "(" or ")" [[AS] name], after IF, or the word as a name
 unfoldable pub if_end : Parse (Bytes → Option Condition × Option Bytes)
 if_end =
     both (λ filter name word. (Some (filter None), name)) (deeper (group Records) (λ filter. filter))

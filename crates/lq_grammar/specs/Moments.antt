@@ -1,4 +1,4 @@
--- What a run says of time. A duration or a bound is read from its text alone.
+-- What a run says of time. A duration or a bound is read from its text only.
 use Rattle.std.specs.Prelude.{◌≡◌, ℕ, zero, suc, ◌+◌, ◌^◌, ◌<◌, ◌≤◌, nat_lt, Bool, true, false, ◌&&◌, [], ◌∷◌}
 use Rattle.std.specs.Prelude.{length, ℤ, pos, ◌+ℤ◌, ◌-ℤ◌, int_le, int_lt, Option, Some, None, Result, Ok, Err}
 use Rattle.std.specs.Prelude.{if◌then◌else◌}
@@ -21,7 +21,7 @@ SaysDuration text (Ok span) = (nanos : ℕ) × (span ≡ pos nanos) × SpellsDur
 SaysDuration text (Err NotADuration) = (nanos : ℕ) → SpellsDuration text nanos → ⊥
 SaysDuration text (Err OutOfRange) = (nanos : ℕ) × SpellsDuration text nanos × (2 ^ 63 ≤ nanos)
 
--- the sum, with what came before, of the parts that a text is; there are at most so many
+-- the sum, with what came before, of the parts that a text is; there are at most this many
 abbrev pub sum_from : ℕ → ℕ → Bytes → Option ℕ
 sum_from most sum [] = Some sum
 sum_from zero sum (byte ∷ bytes) = None
@@ -86,7 +86,7 @@ bracketed (Err NotADuration) text = bound_from (bound_of text)
 abbrev pub bound_value : Bytes → Result (ℤ × ℤ) Reason
 bound_value text = bracketed (duration_of text) text
 
--- An end that is included takes in the whole interval that its bound names, and one that is not leaves it out.
+-- An included end covers the whole interval that its bound names, and an excluded end leaves it out.
 abbrev pub start_of : Bool → ℤ × ℤ → ℤ
 start_of true span = span.0
 start_of false span = span.1 +ℤ pos 1

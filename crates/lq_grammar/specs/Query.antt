@@ -54,7 +54,7 @@ pub record IsSyntax (text : Bytes) (items : Items) (at : ℕ) : Type 0 where
   pub stops : IsStuck IsQuery items rest
   pub place_is : at ≡ place_or_end text rest
 
--- The tokens begin a query up to the item at this place, which has this flaw. What stands behind it may be anything.
+-- The tokens begin a query up to the item at this place, which has this flaw. What stands after it may be anything.
 abbrev pub IsFlawed : Items → Flaw Reason → ℕ → Type 0
 IsFlawed items flaw at = HasFlaw logsql most_open query (flaw, at) items
 

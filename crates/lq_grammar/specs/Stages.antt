@@ -18,7 +18,7 @@ use Rattle.lq_grammar.specs.Moments.{duration_of}
 abbrev pub Cut : Type 0
 Cut = Option ℕ × ℕ
 
--- the other way round, if so it is said behind the list
+-- the other way round, if so it is said after the list
 abbrev pub turned : Bool → SortBy → SortBy
 turned descending key = (key.0, if descending then not key.1 else key.1)
 
@@ -31,7 +31,7 @@ sorted keys descending cut =
 abbrev pub distinct : List Bytes → Bool → Option ℕ → Stage
 distinct names hits limit = is.uniq (record { names = names; hits = hits; limit = limit })
 
--- A BY without another one behind it says no number, and then 10 are meant.
+-- A BY without another one after it says no number, and then 10 are meant.
 abbrev pub by_value : Bytes × Bool → Result ℕ Reason
 by_value (word, false) = Ok 10
 by_value (word, true) = size_value word

@@ -2,8 +2,8 @@
 use Rattle.std.specs.Prelude.{ℕ, ◌-◌, ◌^◌, Bool, true, false, List, [], ◌∷◌, map, bytes_eq, codes, ℤ, pos, neg_ℤ, ◌+ℤ◌}
 use Rattle.std.specs.Prelude.{◌-ℤ◌, Option, Some, None, Result, Ok, Err, if◌then◌else◌}
 use Rattle.std.specs.Str.{str_to_ascii_lowercase}
-use Rattle.log_model.specs.Field.{is_empty}
-use Rattle.log_model.specs.Order.{number_of}
+use Rattle.vl_row.specs.Field.{is_empty}
+use Rattle.vl_row.specs.Order.{number_of}
 use Rattle.lq_ast.specs.Condition.{Condition, Conditions, conditions, Test, Tests}
 use Rattle.lq_ast.specs.Condition as is
 

@@ -7,7 +7,7 @@ ghost use Rattle.lq_grammar.specs.Items.{role_of, role_in, entry_of};
 use crate::role::Role;
 use lq_lex::Kind;
 
-/// The role of a token, by its kind, its span and the text that it stands for.
+/// Returns the role of a token, by its kind, its span and the text that it stands for.
 pub(crate) fn role_of(kind: Kind, span: &str, text: &str) -> Role
     ensures { result ≡ role_of kind span.now text.now }
 {
@@ -79,14 +79,14 @@ const KEYWORDS: &[(&str, Role)] = &[
     ("uniq_values", Role::UniqValues),
 ];
 
-/// What a word is that is not `_time` or `_stream`.
+/// Returns what a word is that is not `_time` or `_stream`.
 fn keyword_role(span: &str) -> Role
     ensures { result ≡ keyword_role span.now }
 {
     role_in(KEYWORDS, span)
 }
 
-/// What is said of a word, in any case, by the first entry that has it.
+/// Returns the role of a word, in any case, by the first entry that has it.
 fn role_in(entries: &[(&str, Role)], span: &str) -> Role
     ensures { result ≡ role_in (map entry_of entries.now) (str_to_ascii_lowercase span.now) }
 {

@@ -1,4 +1,4 @@
-// Why a text is no query.
+// Why a text is not a query.
 ghost use Rattle.std.specs.Prelude.{◌≡◌};
 ghost use Rattle.lq_grammar.specs.Clauses.{lex_fault};
 ghost use Rattle.lq_grammar.specs.declared.fault.QueryFault.TheVariants.{Memory as OutOfMemory};
@@ -9,8 +9,8 @@ use std::alloc::{AllocError, AllocFailed};
 use std::error::Error;
 use std::fmt;
 
-/// Why a text is no query (LogsQL, "Query syntax"). A text that has tokens is refused for the leftmost of the faults of
-/// its grammar, which name the first token of their item; of two at one place it is the one that stands first here.
+/// Why a text is not a query (LogsQL, "Query syntax"). A text that has tokens is refused for the leftmost of the faults
+/// of its grammar, which name the first token of their item; of two at one place it is the one that stands first here.
 /// Places count bytes.
 #[derive(Clone, Copy, Debug, PartialEq, Eq)]
 pub enum QueryFault {
@@ -20,7 +20,7 @@ pub enum QueryFault {
     Syntax { at: usize },
     /// The parenthesis or negation there is the 65th that is open at its place.
     TooDeep { at: usize },
-    /// The argument there is no number of its kind.
+    /// The argument there is not a number of its kind.
     BadNumber { at: usize },
     /// The time there is neither a duration nor a bound in range.
     BadTime { at: usize },
@@ -73,11 +73,11 @@ impl From<AllocError> for QueryFault {
 /// Where a reader of tokens stops, before the places of missing tokens are known.
 #[derive(Clone, Copy, Debug, PartialEq, Eq)]
 pub enum Stop {
-    /// No query goes on so. So many tokens are left.
+    /// No query goes on so. This many tokens are left.
     Stuck { left: usize },
     /// The parenthesis or negation at this place is the 65th that is open.
     TooDeep { at: usize },
-    /// The argument at this place is no number of its kind.
+    /// The argument at this place is not a number of its kind.
     BadNumber { at: usize },
     /// The time at this place is neither a duration nor a bound in range.
     BadTime { at: usize },

@@ -39,14 +39,14 @@ impl Model for Item {
 }
 
 impl Item {
-    /// Whether it has one of these roles.
+    /// Returns whether it has one of these roles.
     pub fn is(&self, roles: &[Role]) -> bool
         ensures { result ≡ has (any roles.now) self.now }
     {
         is_any(self.role, self.glued, roles)
     }
 
-    /// Whether it has one of these roles and is glued.
+    /// Returns whether it has one of these roles and is glued.
     pub fn is_glued(&self, roles: &[Role]) -> bool
         ensures { result ≡ has (glued_of roles.now) self.now }
     {
@@ -60,7 +60,7 @@ impl Item {
         self.start
     }
 
-    /// The text that it stands for.
+    /// Returns the text that it stands for.
     pub fn text(&self) -> &str
         ensures { result.now ≡ self.now.content }
     {
@@ -68,7 +68,7 @@ impl Item {
     }
 }
 
-/// The tokens of a text as the grammar sees them.
+/// Returns the tokens of a text as the grammar sees them.
 pub fn items(alloc: Global, tokens: &Tokens<'_>) -> Result<Vec<Item>, AllocError>
     ensures { IfOk result (λ list. list.items ≡ map item_of tokens.now) }
 {
@@ -95,7 +95,7 @@ fn classified(alloc: Global, token: &Token<'_>) -> Result<Item, AllocError>
     })
 }
 
-/// Whether a token of this role is one of these, glued or not.
+/// Returns whether a token of this role is one of these, glued or not.
 #[tactic(auto, using(crate::proofs::Codes::any_role))]
 fn is_any(role: Role, glued: bool, roles: &[Role]) -> bool
     ensures { result ≡ member (number_of role + (if glued then apart_by else 0)) (any roles.now) }
@@ -103,14 +103,14 @@ fn is_any(role: Role, glued: bool, roles: &[Role]) -> bool
     is_among(role, roles)
 }
 
-/// Whether it is one of these and glued.
+/// Returns whether it is one of these and glued.
 fn is_glued(role: Role, glued: bool, roles: &[Role]) -> bool
     ensures { result ≡ member (number_of role + (if glued then apart_by else 0)) (glued_of roles.now) }
 {
     glued && is_among(role, roles)
 }
 
-/// Whether the role is one of these.
+/// Returns whether the role is one of these.
 fn is_among(role: Role, roles: &[Role]) -> bool
     ensures { result ≡ list_any (λ other. number_of other == number_of role) roles.now }
 {

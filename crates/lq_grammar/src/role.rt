@@ -7,15 +7,15 @@ ghost use Rattle.lq_grammar.specs.Roles.{number as number_of, apart_by};
 /// They stand in an order in which each class of words lies together.
 #[derive(Clone, Copy, PartialEq, Eq)]
 pub enum Role {
-    // Words that are no names.
+    // Words that are not names.
     And,
     Or,
     Not,
-    // Words that are no names in the lists of some pipes.
+    // Words that are not names in the lists of some pipes.
     Asc,
     Desc,
     As,
-    /// The word `if`, which is no name before a parenthesis.
+    /// The word `if`, which is not a name before a parenthesis.
     If,
     // Words that begin pipes.
     /// `fields` or `keep`.
@@ -85,7 +85,7 @@ pub enum Role {
     Plus,
 }
 
-/// The number of a role.
+/// Returns the number of a role.
 pub(crate) fn number(role: Role) -> u8
     ensures value { result ≡ number_of role }
     ensures bound { number_of role < apart_by }
@@ -189,7 +189,7 @@ pub const RUN_PARTS: &[Role] = with_other_names!(
 /// What denies a filter.
 pub const NEGATIONS: &[Role] = &[Role::Not, Role::Bang, Role::Minus];
 
-/// What begins a filter behind another one, but for the bracket of a selector.
+/// What begins a filter after another one, but for the bracket of a selector.
 pub const UNARY: &[Role] = with_other_names!(
     And Not Bang Minus Open Asc Desc As If By;
     In I Seq LenRange StringRange Range Time Stream QuotedTime Quoted Equals Tilde Greater Less Star

@@ -11,7 +11,7 @@ use crate::fault::Stop;
 use crate::item::Item;
 use crate::role::Role;
 
-/// What follows a token of one of these roles.
+/// Returns what follows a token of one of these roles.
 pub fn past<'t>(tokens: &'t [Item], roles: &[Role]) -> Option<&'t [Item]>
     ensures { Takes (any roles.now) tokens.now result }
 {
@@ -21,7 +21,7 @@ pub fn past<'t>(tokens: &'t [Item], roles: &[Role]) -> Option<&'t [Item]>
     }
 }
 
-/// What follows a glued token of one of these roles.
+/// Returns what follows a glued token of one of these roles.
 pub fn past_glued<'t>(tokens: &'t [Item], roles: &[Role]) -> Option<&'t [Item]>
     ensures { Takes (glued roles.now) tokens.now result }
 {
@@ -31,7 +31,7 @@ pub fn past_glued<'t>(tokens: &'t [Item], roles: &[Role]) -> Option<&'t [Item]>
     }
 }
 
-/// What follows a token of one of these roles, which has to stand here.
+/// Returns what follows a token of one of these roles, which has to stand here.
 pub fn expect<'t>(tokens: &'t [Item], roles: &[Role]) -> Result<&'t [Item], Stop>
     ensures { Gives (λ rest. (tt {0}, rest.now)) result (one_at (any roles.now) (λ _. tt {0}) tokens.now) }
 {
@@ -41,7 +41,7 @@ pub fn expect<'t>(tokens: &'t [Item], roles: &[Role]) -> Result<&'t [Item], Stop
     }
 }
 
-/// The text of a token of one of these roles, and what follows it.
+/// Returns the text of a token of one of these roles, and what follows it.
 pub fn text_past<'t>(tokens: &'t [Item], roles: &[Role]) -> Option<(&'t str, &'t [Item])>
     ensures { TakesText (any roles.now) tokens.now result }
 {
@@ -51,7 +51,7 @@ pub fn text_past<'t>(tokens: &'t [Item], roles: &[Role]) -> Option<(&'t str, &'t
     }
 }
 
-/// The same, where one has to stand here.
+/// Returns the same, where one has to stand here.
 pub fn text<'t>(tokens: &'t [Item], roles: &[Role]) -> Result<(&'t str, &'t [Item]), Stop>
     ensures { Gives (λ x. (x.0.now, x.1.now)) result (one_at (any roles.now) (λ t. t.content) tokens.now) }
 {
@@ -61,7 +61,7 @@ pub fn text<'t>(tokens: &'t [Item], roles: &[Role]) -> Result<(&'t str, &'t [Ite
     }
 }
 
-/// Whether a glued token of one of these roles stands here.
+/// Returns whether a glued token of one of these roles stands here.
 pub fn at_glued(tokens: &[Item], roles: &[Role]) -> bool
     ensures { result ≡ next (glued roles.now) tokens.now }
 {
@@ -71,7 +71,7 @@ pub fn at_glued(tokens: &[Item], roles: &[Role]) -> bool
     }
 }
 
-/// The text of a glued token of one of these roles, which has to stand here.
+/// Returns the text of a glued token of one of these roles, which has to stand here.
 pub fn glued_text<'t>(tokens: &'t [Item], roles: &[Role]) -> Result<(&'t str, &'t [Item]), Stop>
     ensures { Gives (λ x. (x.0.now, x.1.now)) result (one_at (glued roles.now) (λ t. t.content) tokens.now) }
 {
@@ -81,7 +81,7 @@ pub fn glued_text<'t>(tokens: &'t [Item], roles: &[Role]) -> Result<(&'t str, &'
     }
 }
 
-/// Whether a token of one of these roles stands here.
+/// Returns whether a token of one of these roles stands here.
 pub fn at(tokens: &[Item], roles: &[Role]) -> bool
     ensures { result ≡ next (any roles.now) tokens.now }
 {
@@ -91,7 +91,7 @@ pub fn at(tokens: &[Item], roles: &[Role]) -> bool
     }
 }
 
-/// What follows a glued token of one of these roles, which has to stand here.
+/// Returns what follows a glued token of one of these roles, which has to stand here.
 pub fn expect_glued<'t>(tokens: &'t [Item], roles: &[Role]) -> Result<&'t [Item], Stop>
     ensures { Gives (λ rest. (tt {0}, rest.now)) result (one_at (glued roles.now) (λ _. tt {0}) tokens.now) }
 {
@@ -101,7 +101,7 @@ pub fn expect_glued<'t>(tokens: &'t [Item], roles: &[Role]) -> Result<&'t [Item]
     }
 }
 
-/// The text of a glued token of one of these roles, and what follows it.
+/// Returns the text of a glued token of one of these roles, and what follows it.
 pub fn glued_text_past<'t>(tokens: &'t [Item], roles: &[Role]) -> Option<(&'t str, &'t [Item])>
     ensures { TakesText (glued roles.now) tokens.now result }
 {
@@ -111,7 +111,7 @@ pub fn glued_text_past<'t>(tokens: &'t [Item], roles: &[Role]) -> Option<(&'t st
     }
 }
 
-/// The text of a token of one of these roles with a colon behind it, and what follows the colon.
+/// Returns the text of a token of one of these roles with a colon after it, and what follows the colon.
 pub fn name_past<'t>(tokens: &'t [Item], roles: &[Role]) -> Option<(&'t str, &'t [Item])>
     ensures { TakesName (any roles.now) tokens.now result }
 {
@@ -123,7 +123,7 @@ pub fn name_past<'t>(tokens: &'t [Item], roles: &[Role]) -> Option<(&'t str, &'t
     }
 }
 
-/// The place of the next token.
+/// Returns the place of the next token.
 pub fn place(tokens: &[Item]) -> usize
     ensures { result ≡ place_of tokens.now }
 {
@@ -133,7 +133,7 @@ pub fn place(tokens: &[Item]) -> usize
     }
 }
 
-/// The place of the first of so many tokens that are left at the end of a text, or the text's end.
+/// Returns the place of the first of this many tokens that are left at the end of a text, or the text's end.
 pub fn place_of_left(tokens: &[Item], left: usize, text: &str) -> usize
     requires { left ≤ length tokens.now }
     ensures { result ≡ place_or_end text.now (drop (length tokens.now - left) tokens.now) }

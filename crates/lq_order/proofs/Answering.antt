@@ -100,7 +100,7 @@ module _ (names : List (List ℕ)) (records : List Record) where
   most_hits_total : IsTotalOrder most_hits
   most_hits_total = back_total (on_total (hits names records) nat_cmp_total)
 
-  -- a tuple of fewer records stands behind one that has so many
+  -- a tuple of fewer records stands after one that has this many
   fewer_behind : (least : ℕ) (a b : Tuple) → has_hits names records least a ≡ false
       → has_hits names records least b ≡ true → is_gt (most_hits a b) ≡ true
   fewer_behind least a b few many = true_from_ne_false (is_gt (most_hits a b)) (λ e.
@@ -114,7 +114,7 @@ module _ (names : List (List ℕ)) (records : List Record) where
     tuples_are = once_kept_sorted tuple_cmp tuple_cmp_total tuple_tells (λ tuple. not (is_wholly_empty tuple)) some
         (map (tuple_of names) records) once
 
-    -- those that so many records have are enough
+    -- those that this many records have are enough
     enough_kept : (most least : ℕ) → IsNthGreatest most least (map (hits names records) some)
         → min most (length (tuples names records)) ≤ length (filter (has_hits names records least) (tuples names records))
     enough_kept most least enough =

@@ -94,7 +94,7 @@ module _ (order : ℕ → ℕ → Ordering) where
     placed_apart xs h.1,
   )
 
--- ---- those that do not stand behind one of them
+-- ---- those that do not stand after one of them
 
 le_from : (o : Ordering) → is_gt o ≡ false → is_le o ≡ true
 le_from Less h = refl
@@ -129,7 +129,7 @@ reversed_is_eq Less = refl
 reversed_is_eq Equal = refl
 reversed_is_eq Greater = refl
 
--- what stands behind one of the items is not equal to it
+-- what stands after one of the items is not equal to it
 distinct_behind : {A : Type 0} (same : A → A → Bool) (front : List A) (x : A) (back : List A)
     → IsDistinct same (front ++ x ∷ back) → AllByRecursion (λ y. same x y ≡ false) back
 unfolding IsDistinct
@@ -214,7 +214,7 @@ taken_fewer keep (x ∷ xs) (suc n) =
       | false ↦ more
     ]
 
--- Where so many of a sample stand up to the last one, those of all places up to it have the first of all.
+-- Where this many of a sample stand up to the last one, those of all places up to it have the first of all.
 pub has_first : (columns : List Column) (places : List ℕ) (sample most last : ℕ) (kept : List ℕ)
     → IsStrictlyIncreasing places
     → length (filter (is_up_to columns last) (take sample places)) ≡ most
@@ -241,7 +241,7 @@ has_first columns places sample most last kept up exact is =
           ∙ exact;
     }
 
--- so many items in order, where there are no more
+-- this many items in order, where there are no more
 pub sorted_whole : (order : ℕ → ℕ → Ordering) (xs : List ℕ) (most : ℕ) → length xs ≡ most
     → take most (sorted_by order xs) ≡ sorted_by order xs
 sorted_whole order xs most exact =

@@ -40,7 +40,7 @@ then_equal Less = refl
 then_equal Equal = refl
 then_equal Greater = refl
 
--- where there is one column alone
+-- with a single column
 pub one_column : (columns : List Column) (column : Column) → length columns ≡ 1 → column ≡ get_or columns 0 column
     → (a b : ℕ) → column_cmp column a b ≡ columns_cmp columns a b
 one_column [] column one is a b = absurd (omega arith)

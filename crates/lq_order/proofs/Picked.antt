@@ -98,7 +98,7 @@ module _ {A : Type 0} (items : List A) where
       ∙ ap (order p.1) (at_q.1 p.1))
       (enumerate_from 0 items) stand_each
 
-  -- the same of the places alone
+  -- the same of the places only
   pub places_as_items : (places : ℕ → ℕ → Ordering) (order : A → A → Ordering) → Mirrors places order items
       → sorted_by places (range_with_len 0 (length items))
       ≡ map (λ p. p.0) (sorted_by (on (λ p. p.1) order) (enumerate_from 0 items))
@@ -155,7 +155,7 @@ places_kept kept places offset limit entries is all =
 
 -- ---- records that are taken out one after another
 
--- Those of the first so many places are out, and the others still stand.
+-- Those of the first n places are out, and the others still stand.
 pub record AreTaken (records now : List Record) (places : List ℕ) (out : List Record) (i : ℕ) : Type 0 where
   pub long : length now ≡ length records
   pub first : out ≡ map (λ place. get_or records place []) (take i places)

@@ -26,7 +26,7 @@ pub record IsPlacing (entries : List (ℕ × Key)) : Type 0 where
   pub inside : (k : ℕ) → k < length entries → (entry entries k).0 < length entries
   pub apart : (i j : ℕ) → i < j → j < length entries → (entry entries i).0 ≢ (entry entries j).0
 
--- The first so many entries have ranks, of which the last is this one.
+-- The first n entries have ranks, of which the last is this one.
 pub record AreRanked (entries : List (ℕ × Key)) (ranks : List ℕ) (i rank : ℕ) : Type 0 where
   pub long : length ranks ≡ length entries
   pub low : rank ≤ i - 1

@@ -18,14 +18,14 @@ use Rattle.lq_order.specs.Groups.{IsGroup, IsNamed, group_pair}
 use Rattle.lq_order.specs.Tally.{AreGroups, Tallies, has_hits}
 use Rattle.lq_order.specs.declared.tally.Tally.{Tally}
 
--- so many records or more
+-- this many records or more
 abbrev is_kept : ℕ → Tuple × ℕ → Bool
 is_kept least p = nat_le least p.1
 
 module _ (texts : List (Bor (List ℕ))) (tuples : List Tuple) (numbers : List ℕ) (width least : ℕ)
     (same : map (λ text. text.now) texts ≡ map tuple_text tuples) (wide : HaveLength width tuples)
     (long : length numbers ≡ length tuples) where
-  -- the groups of the first so many texts
+  -- the groups of the first n texts
   abbrev pub AreRead : ℕ → List (Group ℕ) → Type 0
   AreRead i groups = map group_pair groups ≡ filter (is_kept least) (zip (take i tuples) (take i numbers))
 

@@ -49,7 +49,7 @@ places_alike s f same records =
     ∙ ap (map (λ p. p.0)) (sym (map_at_most made s.limit (drop s.offset (sorted_by order placed))))
     ∙ map_twice made (λ p. p.0) (at_most s.limit (drop s.offset (sorted_by order placed)))
 
--- ---- records of some of their fields alone
+-- ---- records of some of their fields only
 
 value_only : (names : List (List ℕ)) (r : Record) (name : List ℕ) → is_one_of names name ≡ true
     → field_value (only_fields names r) name ≡ field_value r name
@@ -57,7 +57,7 @@ value_only names r name one =
     ap (λ found. unwrap_or found []) (lookup-filter-keys (bytes_eq name) (is_one_of names) true
     (λ key same. ap (is_one_of names) (sym ((bytes_eq-Decides name key).0 same)) ∙ one) r)
 
--- Records are compared by the fields of the keys alone.
+-- Records are compared by the fields of the keys only.
 pub compared_only : (names : List (List ℕ)) (keys : List SortBy)
     → AllByRecursion (λ key. is_one_of names key.0 ≡ true) keys → (a b : Record)
     → record_cmp keys (only_fields names a) (only_fields names b) ≡ record_cmp keys a b

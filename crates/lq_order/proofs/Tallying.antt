@@ -52,7 +52,7 @@ hits_none names records t none =
 
 -- ---- lists that are made of tuples
 
--- what is made anew at one place alone
+-- what is made again at one place only
 map_raised : {A B : Type 0} (f g : A → B) (xs : List A) (place : ℕ) (d : A) → place < length xs
     → ((k : ℕ) → k < length xs → k ≢ place → g (get_or xs k d) ≡ f (get_or xs k d))
     → map g xs ≡ set (map f xs) place (g (get_or xs place d))

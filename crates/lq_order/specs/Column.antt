@@ -30,6 +30,6 @@ columns_cmp (column ∷ columns) a b = ordering_then (column_cmp column a b) (co
 abbrev pub placed_cmp : List Column → ℕ → ℕ → Ordering
 placed_cmp columns = then_cmp (columns_cmp columns) nat_cmp
 
--- whether a place does not stand behind the last one that is wanted
+-- whether a place does not stand after the last one that is wanted
 abbrev pub is_up_to : List Column → ℕ → ℕ → Bool
 is_up_to columns last place = is_le (placed_cmp columns place last)

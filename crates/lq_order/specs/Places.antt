@@ -21,7 +21,7 @@ abbrev pub sorted_places : Sorting → List Record → List ℕ
 sorted_places s records = map (λ p. p.0)
     (at_most s.limit (drop s.offset (sorted_by (on (λ p. p.1) (record_cmp s.keys)) (enumerate_from 0 records))))
 
--- So many places from the first on, but not all, hold all that an offset and a limit keep.
+-- This many places from the first on, but not all, hold all that an offset and a limit keep.
 pub record IsWanted (offset : ℕ) (limit : Option ℕ) (count most : ℕ) : Type 0 where
   pub size : ℕ
   pub limited : limit ≡ Some size

@@ -34,11 +34,11 @@ TalliesRecord old new r =
     (names : List (List ℕ)) (records : List Record) → length records + 1 < 2 ^ 64 → Tallies old names records
     → Tallies new names (records ++ r ∷ [])
 
--- whether so many records or more have the tuple
+-- whether this many records or more have the tuple
 abbrev pub has_hits : List (List ℕ) → List Record → ℕ → Tuple → Bool
 has_hits names records least tuple = nat_le least (hits names records tuple)
 
--- The groups are those of the tuples that so many records or more have, but for one that is wholly empty.
+-- The groups are those of the tuples that this many records or more have, but for one that is wholly empty.
 pub record AreGroups (names : List (List ℕ)) (records : List Record) (least : ℕ)
     (groups : List (Group ℕ)) : Type 0 where
   pub tuples : List Tuple

@@ -19,7 +19,7 @@ pub(crate) struct Column<'a> {
 }
 
 impl<'a> Column<'a> {
-    /// The column of a key in these records, by ranks where these are wanted.
+    /// Returns the column of a key in these records, by ranks where these are wanted.
     fn of(
         alloc: Global,
         key: &SortKey,
@@ -48,7 +48,7 @@ impl<'a> Column<'a> {
     }
 }
 
-/// The columns of these keys in these records, by ranks where these are wanted.
+/// Returns the columns of these keys in these records, by ranks where these are wanted.
 pub(crate) fn columns<'a>(
     alloc: Global,
     keys: &[SortKey],
@@ -79,7 +79,7 @@ pub(crate) fn compare(columns: &[Column<'_>], a: usize, b: usize) -> Ordering
     Ordering::Equal
 }
 
-/// The same, and where they differ in no column, the one that came first stands first.
+/// Returns the same, and where they differ in no column, the one that came first stands first.
 pub(crate) fn compare_placed(columns: &[Column<'_>], a: usize, b: usize) -> Ordering
     ensures { result ≡ placed_cmp columns.now a b }
 {

@@ -13,7 +13,7 @@ pub(crate) struct Dictionary<'a> {
 }
 
 impl<'a> Dictionary<'a> {
-    /// The dictionary of these texts.
+    /// Returns the dictionary of these texts.
     pub(crate) fn of(alloc: Global, texts: &[&'a str]) -> Result<Dictionary<'a>, AllocError>
         ensures { IfOk result (λ made.
             IsDictionary (map (λ text. text.now) texts.now) (map (λ word. word.now) made.words.items) made.ids.items) }
@@ -28,7 +28,7 @@ impl<'a> Dictionary<'a> {
     }
 }
 
-/// The place of a text among the words, to which it is added where it is new.
+/// Returns the place of a text among the words, to which it is added where it is new.
 fn entered<'a>(
     places: &mut HashMap<&'a str, usize>,
     words: &mut Vec<&'a str>,

@@ -12,7 +12,7 @@ use std::alloc::{AllocError, Global};
 /// How many places a sample has at least.
 const LEAST_SAMPLE: usize = 1024;
 
-/// The places of so many records.
+/// Returns the places of this many records.
 pub(crate) fn all_places(alloc: Global, count: usize) -> Result<Vec<usize>, AllocError>
     ensures { IfOk result (λ places. places.items ≡ range_with_len 0 count) }
 {
@@ -23,8 +23,8 @@ pub(crate) fn all_places(alloc: Global, count: usize) -> Result<Vec<usize>, Allo
     Ok(places)
 }
 
-/// Of the places of so many records, those of the first `most` by the columns, as they came. This takes expected linear
-/// time.
+/// Of the places of this many records, those of the first `most` by the columns, as they came. This takes expected
+/// linear time.
 pub(crate) fn first_places(
     alloc: Global,
     columns: &[Column<'_>],
@@ -45,7 +45,7 @@ pub(crate) fn first_places(
     up_to_nth(alloc, columns, near, near.len(), most)
 }
 
-/// The places without those that stand behind each of the first `most` of a sample, which is the front of them.
+/// Returns the places without those that stand after each of the first `most` of a sample, which is the front of them.
 fn up_to_nth(
     alloc: Global,
     columns: &[Column<'_>],
@@ -69,7 +69,7 @@ fn up_to_nth(
     Ok(kept)
 }
 
-/// The place that stands last among the first `most` of these.
+/// Returns the place that stands last among the first `most` of these.
 fn last_place(
     alloc: Global,
     columns: &[Column<'_>],

@@ -7,7 +7,7 @@ use lq_tuple::{Group, tuple_record};
 use std::alloc::{AllocError, Global};
 use vl_row::FieldList;
 
-/// The record of a group's tuple, with the number of its records where that is wanted.
+/// Returns the record of a group's tuple, with the number of its records where that is wanted.
 pub(crate) fn group_record(
     alloc: Global,
     names: &[&str],

@@ -11,7 +11,7 @@ use lq_tuple::{Group, read_tuple};
 use std::alloc::{AllocError, Global};
 
 impl<'p> Tally<'p> {
-    /// The groups of so many records or more.
+    /// Returns the groups of this many records or more.
     pub(crate) fn groups(&self, alloc: Global, least: u64) -> Result<Vec<Group<u64>>, AllocError>
         ensures { IfOk result (λ groups. (names : List (List ℕ)) (records : List Record)
             → Tallies self.now names records → AreGroups names records least groups.items) }
@@ -27,7 +27,7 @@ impl<'p> Tally<'p> {
     }
 }
 
-/// The groups of so many records or more, of tuples of so many values that have these texts and numbers.
+/// Returns the groups of this many records or more, of tuples of this many values that have these texts and numbers.
 fn read_groups(
     alloc: Global,
     texts: &[&str],
@@ -50,7 +50,7 @@ fn read_groups(
     Ok(groups)
 }
 
-/// The number at a place, and 0 where there is none.
+/// Returns the number at a place, and 0 where there is none.
 fn number_at(numbers: &[u64], place: usize) -> u64
     ensures { result ≡ slice_index numbers.now place }
 {

@@ -2,7 +2,7 @@
 ghost use Rattle.std.specs.Prelude.{◌≡◌, drop};
 ghost use Rattle.lq_ast.specs.Sorting.{at_most};
 
-/// What is left behind the first `offset` items, and no more than `limit` of it.
+/// Returns what is left after the first `offset` items, and no more than `limit` of it.
 pub(crate) fn kept<T>(items: &[T], offset: u64, limit: Option<u64>) -> &[T]
     ensures { result.now ≡ at_most limit (drop offset items.entry.now) }
 {

@@ -18,7 +18,7 @@ struct Keyed<'a> {
     at: usize,
 }
 
-/// A number for each text, so that the numbers are in the order of the texts.
+/// Returns a number for each text, so that the numbers are in the order of the texts.
 pub(crate) fn ranks(alloc: Global, texts: &[&str]) -> Result<Vec<usize>, AllocError>
     ensures { IfOk result (λ ranks.
         Mirrors (on (slice_index ranks.items) nat_cmp) value_cmp (map (λ text. text.now) texts.now)) }
@@ -28,7 +28,7 @@ pub(crate) fn ranks(alloc: Global, texts: &[&str]) -> Result<Vec<usize>, AllocEr
     looked_up(alloc, word_ranks.as_slice(), dictionary.ids.as_slice())
 }
 
-/// What stands at these places, and 0 for a place where nothing stands.
+/// Returns what stands at these places, and 0 for a place where nothing stands.
 fn looked_up(alloc: Global, numbers: &[usize], places: &[usize]) -> Result<Vec<usize>, AllocError>
     ensures { IfOk result (λ found. found.items ≡ map (slice_index numbers.now) places.now) }
 {
@@ -39,7 +39,7 @@ fn looked_up(alloc: Global, numbers: &[usize], places: &[usize]) -> Result<Vec<u
     Ok(found)
 }
 
-/// The same, each text by itself.
+/// Returns the same, each text by itself.
 fn word_ranks(alloc: Global, texts: &[&str]) -> Result<Vec<usize>, AllocError>
     ensures { IfOk result (λ ranks.
         Mirrors (on (slice_index ranks.items) nat_cmp) value_cmp (map (λ text. text.now) texts.now)) }
@@ -54,7 +54,7 @@ fn word_ranks(alloc: Global, texts: &[&str]) -> Result<Vec<usize>, AllocError>
     Ok(ranks)
 }
 
-/// The rank of the text at a place, where the one before it has this rank.
+/// Returns the rank of the text at a place, where the one before it has this rank.
 fn next_rank(keyed: &[Keyed<'_>], i: usize, rank: usize) -> usize
     requires { i < length keyed.now }
     ensures { result ≡ next_rank (map keyed_of keyed.entry.now) i rank }
@@ -66,7 +66,7 @@ fn next_rank(keyed: &[Keyed<'_>], i: usize, rank: usize) -> usize
     }
 }
 
-/// The keys of the texts in value order.
+/// Returns the keys of the texts in value order.
 fn in_order<'a>(alloc: Global, texts: &[&'a str]) -> Result<Vec<Keyed<'a>>, AllocError>
     ensures { IfOk result (λ keyed. map keyed_of keyed.items
         ≡ sorted_by (on (λ p. p.1) key_cmp) (enumerate_from 0 (map (λ text. key_of text.now) texts.now))) }

@@ -8,7 +8,7 @@ use lq_tuple::KeyedGroup;
 use std::alloc::{AllocError, Global};
 use vl_row::{Recs, Text};
 
-/// A record for each of these groups: its tuple, and its number where that is wanted.
+/// Returns a record for each of these groups: its tuple, and its number where that is wanted.
 pub(crate) fn records_of(
     alloc: Global,
     names: &[Text],

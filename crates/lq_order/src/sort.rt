@@ -18,8 +18,8 @@ use vl_row::{FieldList, Recs};
 /// texts, more of them are found faster by the ranks of all.
 const SMALL_PART: u64 = 32;
 
-/// The records in the order of the pipe's keys, by value order, and those that are equal in it as they came. Then
-/// `offset` of them are left out, and `limit` of the others are kept.
+/// Returns the records in the order of the pipe's keys, by value order, and those that are equal in it as they came.
+/// Then `offset` of them are left out, and `limit` of the others are kept.
 pub fn sort_recs(alloc: Global, p: &SortPipe, r: Recs) -> Result<Recs, AllocError>
     ensures { IfOk result (λ records. records ≡ sorted (sorting p.now) r) }
 {
@@ -28,7 +28,7 @@ pub fn sort_recs(alloc: Global, p: &SortPipe, r: Recs) -> Result<Recs, AllocErro
     moved(alloc, records, places.as_slice())
 }
 
-/// Where the records stand that the pipe keeps, counted from 0, in the pipe's order.
+/// Returns where the records stand that the pipe keeps, counted from 0, in the pipe's order.
 pub fn sorted_places(
     alloc: Global,
     p: &SortPipe,
@@ -56,7 +56,8 @@ fn enough_in_order(
     }
 }
 
-/// How many of so many records are to be put in order, where that is a small part of them. It is one at least.
+/// Returns how many of this many records are to be put in order, where that is a small part of them. It is one at
+/// least.
 fn wanted(offset: u64, limit: Option<u64>, count: usize) -> Option<usize>
     ensures { IfSome result (IsWanted offset limit count) }
 {
@@ -68,7 +69,7 @@ fn wanted(offset: u64, limit: Option<u64>, count: usize) -> Option<usize>
     }
 }
 
-/// Where the records stand in the order of the keys.
+/// Returns where the records stand in the order of the keys.
 fn all_in_order(
     alloc: Global,
     keys: &[SortKey],
@@ -81,7 +82,7 @@ fn all_in_order(
     in_order(columns.as_slice(), places)
 }
 
-/// Where the first `most` of the records stand in the order of the keys. Only these are sorted.
+/// Returns where the first `most` of the records stand in the order of the keys. Only these are sorted.
 fn first_in_order(
     alloc: Global,
     keys: &[SortKey],
@@ -97,7 +98,7 @@ fn first_in_order(
     in_order(columns.as_slice(), places)
 }
 
-/// The places by the columns. Those that are equal in these stand as they came.
+/// Returns the places by the columns. Those that are equal in these stand as they came.
 fn in_order(columns: &[Column<'_>], mut places: Vec<usize>) -> Result<Vec<usize>, AllocError>
     ensures { IfOk result (λ sorted. sorted.items ≡ sorted_by (columns_cmp columns.now) places.items) }
 {
@@ -108,7 +109,7 @@ fn in_order(columns: &[Column<'_>], mut places: Vec<usize>) -> Result<Vec<usize>
     Ok(places)
 }
 
-/// The records of these places.
+/// Returns the records of these places.
 fn moved(alloc: Global, mut records: Vec<FieldList>, places: &[usize]) -> Result<Recs, AllocError>
     requires { ArePlaces (length records.items) places.now }
     ensures { IfOk result (λ moved. moved ≡ map (λ place. slice_index_or records.items place []) places.now) }

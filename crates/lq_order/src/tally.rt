@@ -19,7 +19,7 @@ pub struct Tally<'p> {
 }
 
 impl<'p> Tally<'p> {
-    /// The tally of no records, for these fields. This allocates nothing.
+    /// Returns the tally of no records, for these fields. This allocates nothing.
     pub fn new(alloc: Global, names: &'p [Text]) -> Tally<'p>
         ensures { Tallies result names.entry.now [] }
     {
@@ -31,7 +31,7 @@ impl<'p> Tally<'p> {
         }
     }
 
-    /// The tally of these records, for these fields. The records go before anything is made of it.
+    /// Returns the tally of these records, for these fields. The records go before anything is made of it.
     pub(crate) fn of(alloc: Global, names: &'p [Text], r: Recs) -> Result<Tally<'p>, AllocError>
         ensures { IfOk result (λ tally. Tallies tally names.entry.now r) }
     {
@@ -41,7 +41,7 @@ impl<'p> Tally<'p> {
         Ok(tally)
     }
 
-    /// Takes more records. After want of memory the tally may only be dropped.
+    /// Takes more records. After out of memory the tally may only be dropped.
     pub fn add_all(&mut self, alloc: Global, records: &[FieldList]) -> Result<(), AllocError>
         ensures { OnOk result ((names : List (List ℕ)) (before : List Record)
             → length before + length records.now < 2 ^ 64 → Tallies self.old names before

@@ -14,8 +14,8 @@ use lq_tuple::in_tuple_order;
 use std::alloc::{AllocError, Global};
 use vl_row::Recs;
 
-/// The `n` tuples of the values of the pipe's fields that most records have, each with their number: from the most
-/// records down, and those with as many in tuple order.
+/// Returns the `n` tuples of the values of the pipe's fields that most records have, each with their number: from the
+/// most records down, and those with as many in tuple order.
 pub fn top_recs(alloc: Global, p: &TopPipe, r: Recs) -> Result<Recs, AllocError>
     ensures { IfOk result (λ records. records ≡ sorting.top (ranking p.now) r) }
 {
@@ -23,7 +23,7 @@ pub fn top_recs(alloc: Global, p: &TopPipe, r: Recs) -> Result<Recs, AllocError>
 }
 
 impl<'p> Tally<'p> {
-    /// What the pipe makes of the records of the tally of its fields.
+    /// Returns what the pipe makes of the records of the tally of its fields.
     pub fn top(self, alloc: Global, p: &TopPipe) -> Result<Recs, AllocError>
         ensures { IfOk result (λ made. (records : List Record) → Tallies self.entry (ranking p.now).names records
             → made ≡ sorting.top (ranking p.now) records) }
@@ -39,7 +39,7 @@ impl<'p> Tally<'p> {
     }
 }
 
-/// The number that stands at the `n`-th place from the greatest down, and 0 where there are fewer.
+/// Returns the number that stands at the `n`-th place from the greatest down, and 0 where there are fewer.
 fn least_hits(alloc: Global, hits: &[u64], n: u64) -> Result<u64, AllocError>
     ensures { IfOk result (λ least. IsNthGreatest n least hits.now) }
 {
@@ -47,7 +47,7 @@ fn least_hits(alloc: Global, hits: &[u64], n: u64) -> Result<u64, AllocError>
     Ok(nth_greatest(numbers.as_mut_slice(), n as usize))
 }
 
-/// The `n`-th greatest of these numbers, and 0 where there are fewer of them or `n` is 0.
+/// Returns the `n`-th greatest of these numbers, and 0 where there are fewer of them or `n` is 0.
 fn nth_greatest(numbers: &mut [u64], n: usize) -> u64
     ensures { IsNthGreatest n result numbers.old }
 {

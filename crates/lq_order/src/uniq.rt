@@ -22,7 +22,7 @@ pub fn uniq_recs(alloc: Global, p: &UniqPipe, r: Recs) -> Result<Recs, AllocErro
 }
 
 impl<'p> Tally<'p> {
-    /// What the pipe makes of the records of the tally of its fields.
+    /// Returns what the pipe makes of the records of the tally of its fields.
     pub fn uniq(self, alloc: Global, p: &UniqPipe) -> Result<Recs, AllocError>
         ensures { IfOk result (λ made. (records : List Record) → Tallies self.entry (distinct p.now).names records
             → made ≡ sorting.uniq (distinct p.now) records) }

@@ -20,7 +20,7 @@ pub(crate) enum Values<'a> {
 }
 
 impl<'a> Values<'a> {
-    /// The ranks of a field's values in these records.
+    /// Returns the ranks of a field's values in these records.
     pub(crate) fn ranked(
         alloc: Global,
         name: &str,
@@ -33,7 +33,7 @@ impl<'a> Values<'a> {
         Ok(Values::Ranks(ranks(alloc, texts.as_slice())?))
     }
 
-    /// The keys of a field's values in these records.
+    /// Returns the keys of a field's values in these records.
     pub(crate) fn keyed(
         alloc: Global,
         name: &str,
@@ -56,14 +56,14 @@ impl<'a> Values<'a> {
     }
 }
 
-/// The rank at a place, and 0 where there is none.
+/// Returns the rank at a place, and 0 where there is none.
 fn rank(ranks: &[usize], place: usize) -> usize
     ensures { result ≡ slice_index ranks.now place }
 {
     ranks.get(place).copied().unwrap_or(0)
 }
 
-/// The values of a field in these records.
+/// Returns the values of a field in these records.
 fn texts<'a>(
     alloc: Global,
     name: &str,
@@ -79,7 +79,7 @@ fn texts<'a>(
     Ok(texts)
 }
 
-/// The keys of a field's values in these records.
+/// Returns the keys of a field's values in these records.
 fn keys<'a>(
     alloc: Global,
     name: &str,

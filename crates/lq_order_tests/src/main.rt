@@ -1,6 +1,6 @@
 //! Tests of `lq_order`.
 //!
-//! The program answers a table. A case is a line: a pipe, and behind it records, with tabs between all. A pipe is
+//! The program answers a table. A case is a line: a pipe, and after it records, with tabs between all. A pipe is
 //! `sort`, `uniq` or `top` and its parts in words: the fields, as `by=a,-b` where the values of `b` go down from the
 //! greatest, and `offset=1`, `limit=1`, `n=1` or `hits`; with `cut=1` a tally takes the first record, and then the
 //! others. A record is its fields as `name=value`, with `&` between them. The answer is the records that the pipe

@@ -4,7 +4,7 @@ use lq_order::{Tally, sort_recs, top_recs, uniq_recs};
 use std::alloc::{AllocError, Global};
 use vl_row::{FieldList, Items, Recs, Text};
 
-/// The records that the pipe of a case makes of those of the case.
+/// Returns the records that the pipe of a case makes of those of the case.
 pub fn answer(alloc: Global, case: &str) -> Result<String, AllocError> {
     match case.split_once('\t') {
         Some((pipe, records)) => {
@@ -40,7 +40,7 @@ fn top(alloc: Global, parts: &str, records: Recs) -> Result<Recs, AllocError> {
     }
 }
 
-/// The tally of the records, which takes the first so many, and then the others.
+/// Returns the tally of the records, which takes the first n, and then the others.
 fn tallied<'p>(
     alloc: Global,
     names: &'p [Text],
@@ -94,7 +94,7 @@ fn names_of(alloc: Global, parts: &str) -> Result<Items<Text>, AllocError> {
     Ok(Items::of(names))
 }
 
-/// What stands behind these letters in one of the words.
+/// Returns what stands after these letters in one of the words.
 fn part<'a>(parts: &'a str, letters: &str) -> Option<&'a str> {
     for word in parts.split(' ') {
         if let Some(value) = word.strip_prefix(letters) {

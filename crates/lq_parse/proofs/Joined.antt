@@ -5,7 +5,7 @@ use Rattle.std.proofs.lemmas.List.{append-nil, take_all}
 use Rattle.std.specs.List.{join_with_byte}
 use Rattle.lq_grammar.specs.Values.{Bytes}
 
--- names that each stand behind a comma
+-- names that each stand after a comma
 abbrev pub commas : List Bytes → Bytes
 commas [] = []
 commas (x ∷ xs) = 44 ∷ (x ++ commas xs)

@@ -23,7 +23,7 @@ use Rattle.lq_grammar.proofs.Answered.{answered_query}
 use Rattle.lq_grammar.proofs.Outcomes.{Outcome, OutcomeOf, named, named_outcome, stop_place, one_outcome, query_named}
 use Rattle.lq_parse.specs.Outcome.{NamesStop, outcome, reading}
 
--- the outcome where reading comes to this
+-- the outcome of reading this
 pub outcome_when : (text : Bytes) (items : Items) → HasItems text items → (r : Result Question (Stop Reason))
     → reading items ≡ r → OutcomeOf text items (named text items r)
 outcome_when text items has r e =

@@ -10,7 +10,7 @@ pub unturned : (keys : List SortBy) → map (turned false) keys ≡ keys
 unturned [] = refl
 unturned (key ∷ keys) = ap (λ (l : List SortBy). key ∷ l) (unturned keys)
 
--- the first so many are turned round
+-- the first n are turned round
 abbrev pub mixed : ℕ → List SortBy → List SortBy
 mixed zero keys = keys
 mixed (suc i) [] = []

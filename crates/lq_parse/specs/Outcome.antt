@@ -14,7 +14,7 @@ abbrev pub outcome : Result Query QueryFault → Result Question QueryFault
 outcome (Ok query) = Ok (question query)
 outcome (Err fault) = Err fault
 
--- what reading all tokens from the left comes to
+-- the result of reading all tokens from the left
 abbrev pub reading : Items → Result Question (Stop Reason)
 reading items = whole (read_at logsql most_open query) items
 

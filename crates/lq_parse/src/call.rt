@@ -13,7 +13,7 @@ use lq_parse_filter::{field_named, name};
 use std::alloc::{AllocError, Global};
 use vl_row::{Items, Text};
 
-/// The fields whose records COUNT counts, which are none for all records.
+/// Returns the fields whose records COUNT counts, which are none for all records.
 #[tactic(auto, unfolding(lq_grammar::specs::LogsQL::counted))]
 fn counted<'t>(alloc: Global, tokens: &'t [Item]) -> Result<(Items<Text>, &'t [Item]), Stop>
     ensures { (depth : ℕ) → Gives (λ x. (x.0, x.1.now)) result (at_of depth counted tokens.now) }
@@ -27,7 +27,7 @@ fn counted<'t>(alloc: Global, tokens: &'t [Item]) -> Result<(Items<Text>, &'t [I
     Ok((Items::of(Vec::new(alloc)), tokens))
 }
 
-/// A function of one field, and what follows its word.
+/// Returns a function of one field, and what follows its word.
 #[tactic(auto, unfolding(lq_grammar::specs::LogsQL::name_call))]
 fn name_call(tokens: &[Item]) -> Result<(Call, &[Item]), Stop>
     ensures { (depth : ℕ) → Gives (λ x. (x.0, x.1.now)) result (at_of depth name_call tokens.now) }
@@ -45,7 +45,7 @@ fn name_call(tokens: &[Item]) -> Result<(Call, &[Item]), Stop>
     Ok((Call::UniqValues, rest))
 }
 
-/// A function and its fields.
+/// Returns a function and its fields.
 #[tactic(auto, unfolding(lq_grammar::specs::LogsQL::call))]
 pub(crate) fn call<'t>(
     alloc: Global,
@@ -70,7 +70,7 @@ pub(crate) fn call<'t>(
     call_of_one(alloc, tokens)
 }
 
-/// A function of one field, and the field.
+/// Returns a function of one field, and the field.
 #[tactic(auto, unfolding(lq_grammar::specs::LogsQL::call_of_one))]
 fn call_of_one<'t>(
     alloc: Global,
@@ -87,7 +87,7 @@ fn call_of_one<'t>(
     Ok(((call, Items::of(names)), rest))
 }
 
-/// A name for a value, behind AS or without it, where it has one of these roles.
+/// Returns a name for a value, after AS or without it, where it has one of these roles.
 #[tactic(auto, unfolding(lq_grammar::specs::LogsQL::naming))]
 pub(crate) fn naming<'t>(
     alloc: Global,
@@ -107,7 +107,7 @@ pub(crate) fn naming<'t>(
     Ok((None, tokens))
 }
 
-/// The name of a value that is given none: `count()`, `sum(x)` or `count_uniq(a,b)`.
+/// Returns the name of a value that is given none: `count()`, `sum(x)` or `count_uniq(a,b)`.
 pub(crate) fn call_text(alloc: Global, call: Call, names: &[Text]) -> Result<Text, AllocError>
     ensures { IfOk result (λ text. text ≡ text_of_call (call, names.now)) }
 {
@@ -133,7 +133,7 @@ fn push_joined(alloc: Global, names: &[Text], text: &mut Text) -> Result<(), All
     Ok(())
 }
 
-/// The word of a function.
+/// Returns the word of a function.
 fn call_word(call: Call) -> &'static str
     ensures { result.now ≡ word_of_call call }
 {

@@ -9,5 +9,5 @@ mod sort;
 mod stats;
 mod uniq;
 
-pub use lq_grammar::QueryFault;
+pub use lq_grammar::{QueryFault, query_law};
 pub use query::parse;

@@ -44,7 +44,7 @@ pub(crate) fn name_list<'t>(
     Ok((names, rest))
 }
 
-/// The name that a field gets, behind AS or without it.
+/// Returns the name that a field gets, after AS or without it.
 #[tactic(auto, unfolding(lq_grammar::specs::LogsQL::new_name))]
 fn new_name<'t>(alloc: Global, tokens: &'t [Item]) -> Result<(Text, &'t [Item]), Stop>
     ensures { (depth : ℕ) → Gives (λ x. (x.0, x.1.now)) result (at depth new_name tokens.now) }
@@ -55,7 +55,7 @@ fn new_name<'t>(alloc: Global, tokens: &'t [Item]) -> Result<(Text, &'t [Item]),
     name(alloc, tokens, LIST_NAMES)
 }
 
-/// A name, and the one that its field gets.
+/// Returns a name, and the one that its field gets.
 #[tactic(auto, unfolding(lq_grammar::specs::LogsQL::pair))]
 fn pair<'t>(alloc: Global, tokens: &'t [Item]) -> Result<(Pair, &'t [Item]), Stop>
     ensures { (depth : ℕ) → Gives (λ x. (name_pair x.0, x.1.now)) result (at depth pair tokens.now) }
@@ -84,7 +84,7 @@ pub(crate) fn pairs<'t>(
     Ok((Items::of(pairs), rest))
 }
 
-/// A number of records.
+/// Returns a number of records.
 #[tactic(auto, unfolding(lq_grammar::specs::LogsQL::count))]
 pub(crate) fn count(tokens: &[Item]) -> Result<(u64, &[Item]), Stop>
     ensures { (depth : ℕ) → Gives (λ x. (x.0, x.1.now)) result (at depth count tokens.now) }
@@ -96,7 +96,7 @@ pub(crate) fn count(tokens: &[Item]) -> Result<(u64, &[Item]), Stop>
     }
 }
 
-/// A number of records behind LIMIT, or none.
+/// Returns a number of records after LIMIT, or none.
 #[tactic(auto, unfolding(lq_grammar::specs::LogsQL::limit))]
 pub(crate) fn limit(tokens: &[Item]) -> Result<(Option<u64>, &[Item]), Stop>
     ensures { (depth : ℕ) → Gives (λ x. (x.0, x.1.now)) result (at depth limit tokens.now) }

@@ -85,7 +85,7 @@ fn pipe<'t>(alloc: Global, tokens: &'t [Item], depth: u32) -> Result<(Pipe, &'t 
     record_pipe(alloc, tokens, depth)
 }
 
-/// The pipes that follow a filter, each behind a bar.
+/// Returns the pipes that follow a filter, each after a bar.
 #[tactic(auto, unfolding(lq_grammar::specs::LogsQL::pipes), using(grammar::proofs::Turns::list_steps))]
 pub(crate) fn pipes<'t>(
     alloc: Global,

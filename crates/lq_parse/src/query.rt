@@ -14,7 +14,7 @@ use lq_lex::tokens;
 use lq_parse_filter::or;
 use std::alloc::Global;
 
-/// The query that a text of at most 16,384 bytes spells (LogsQL, "Query syntax").
+/// Returns the query that a text of at most 16,384 bytes spells (LogsQL, "Query syntax").
 pub fn parse(alloc: Global, s: &str) -> Result<Query, QueryFault>
     // The text spells the query.
     ensures spelled { IfOk result (λ query. IsQueryText s.now (question query)) }
@@ -30,7 +30,7 @@ pub fn parse(alloc: Global, s: &str) -> Result<Query, QueryFault>
     query_of(alloc, &items, s)
 }
 
-/// The query that the tokens of a text spell.
+/// Returns the query that the tokens of a text spell.
 fn query_of(alloc: Global, tokens: &[Item], text: &str) -> Result<Query, QueryFault>
     requires { HasItems text.now tokens.now }
     ensures { result ≢ Err QueryFault.Memory → QueryOf text.now (outcome result) }
@@ -41,7 +41,7 @@ fn query_of(alloc: Global, tokens: &[Item], text: &str) -> Result<Query, QueryFa
     }
 }
 
-/// The query that all these tokens spell.
+/// Returns the query that all these tokens spell.
 #[tactic(auto, unfolding(lq_grammar::specs::LogsQL::query))]
 fn whole(alloc: Global, tokens: &[Item]) -> Result<Query, Stop>
     ensures { Gives question result (reading tokens.now) }
@@ -54,7 +54,7 @@ fn whole(alloc: Global, tokens: &[Item]) -> Result<Query, Stop>
     }
 }
 
-/// The fault that a reader of all tokens of a text came to, with its place.
+/// Returns the fault of a reader of all tokens of a text, with its place.
 fn fault_of(stop: Stop, tokens: &[Item], text: &str) -> QueryFault
     requires text { HasItems text.now tokens.now }
     requires stops { Gives question (Err stop) (reading tokens.now) }

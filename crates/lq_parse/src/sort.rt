@@ -14,7 +14,7 @@ use lq_parse_filter::name;
 use std::alloc::Global;
 use vl_row::Items;
 
-/// Whether DESC stands here, and what follows it or ASC.
+/// Returns whether DESC stands here, and what follows it or ASC.
 #[tactic(auto, unfolding(lq_grammar::specs::LogsQL::direction))]
 fn direction(tokens: &[Item]) -> (bool, &[Item])
     ensures { (depth : ℕ) → at depth direction tokens.now ≡ Ok (result.0, result.1.now) }
@@ -28,7 +28,7 @@ fn direction(tokens: &[Item]) -> (bool, &[Item])
     (false, tokens)
 }
 
-/// A key.
+/// Returns a key.
 #[tactic(auto, unfolding(lq_grammar::specs::LogsQL::sort_key))]
 fn sort_key<'t>(alloc: Global, tokens: &'t [Item]) -> Result<(SortKey, &'t [Item]), Stop>
     ensures { (depth : ℕ) → Gives (λ x. (sort_by x.0, x.1.now)) result (at depth sort_key tokens.now) }
@@ -54,7 +54,7 @@ fn sort_keys<'t>(alloc: Global, tokens: &'t [Item]) -> Result<(Vec<SortKey>, &'t
     Ok((keys, rest))
 }
 
-/// A number of records behind OFFSET, or 0.
+/// Returns a number of records after OFFSET, or 0.
 #[tactic(auto, unfolding(lq_grammar::specs::LogsQL::offset))]
 fn offset(tokens: &[Item]) -> Result<(u64, &[Item]), Stop>
     ensures { (depth : ℕ) → Gives (λ x. (x.0, x.1.now)) result (at depth offset tokens.now) }
@@ -83,7 +83,7 @@ fn cut(tokens: &[Item]) -> Result<((Option<u64>, u64), &[Item]), Stop>
     Ok(((None, 0), tokens))
 }
 
-/// What is said behind the keys.
+/// Returns what is reported after the keys.
 #[tactic(auto, unfolding(lq_grammar::specs::LogsQL::sort_end))]
 fn sort_end<'t>(tokens: &'t [Item], keys: Vec<SortKey>) -> Result<(Pipe, &'t [Item]), Stop>
     ensures { (depth : ℕ) → Gives (λ x. (stage x.0, x.1.now)) result
@@ -102,7 +102,7 @@ fn sort_end<'t>(tokens: &'t [Item], keys: Vec<SortKey>) -> Result<(Pipe, &'t [It
     ))
 }
 
-/// The keys, each the other way round where `descending` is set.
+/// Returns the keys, each the other way round where `descending` is set.
 #[tactic(auto, using(crate::proofs::Turned::unturned))]
 fn turned(keys: Vec<SortKey>, descending: bool) -> Items<SortKey>
     ensures { map sort_by result ≡ map (turned_round descending) (map sort_by keys.items) }
@@ -113,7 +113,7 @@ fn turned(keys: Vec<SortKey>, descending: bool) -> Items<SortKey>
     Items::of(keys)
 }
 
-/// The keys, each the other way round.
+/// Returns the keys, each the other way round.
 fn all_turned(mut keys: Vec<SortKey>) -> Vec<SortKey>
     ensures { map sort_by result.items ≡ map (turned_round true) (map sort_by keys.items) }
 {
@@ -124,7 +124,7 @@ fn all_turned(mut keys: Vec<SortKey>) -> Vec<SortKey>
     keys
 }
 
-/// The pipe behind its word, but for BY.
+/// Returns the pipe after its word, but for BY.
 #[tactic(auto, unfolding(lq_grammar::specs::LogsQL::sort_rest))]
 fn sort_rest<'t>(alloc: Global, tokens: &'t [Item]) -> Result<(Pipe, &'t [Item]), Stop>
     ensures { (depth : ℕ) → Gives (λ x. (stage x.0, x.1.now)) result (at depth sort_rest tokens.now) }
@@ -135,7 +135,7 @@ fn sort_rest<'t>(alloc: Global, tokens: &'t [Item]) -> Result<(Pipe, &'t [Item])
     sort_end(rest, keys)
 }
 
-/// The pipe behind its word.
+/// Returns the pipe after its word.
 #[tactic(auto, unfolding(lq_grammar::specs::LogsQL::sort_pipe))]
 pub(crate) fn sort_pipe<'t>(alloc: Global, tokens: &'t [Item]) -> Result<(Pipe, &'t [Item]), Stop>
     ensures { (depth : ℕ) → Gives (λ x. (stage x.0, x.1.now)) result (at depth sort_pipe tokens.now) }

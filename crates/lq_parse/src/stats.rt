@@ -24,7 +24,7 @@ pub(crate) struct FuncEnd {
     pub(crate) name: Option<Text>,
 }
 
-/// A duration that is not zero.
+/// Returns a duration that is not zero.
 #[tactic(auto, unfolding(lq_grammar::specs::LogsQL::step))]
 fn step(tokens: &[Item]) -> Result<(i64, &[Item]), Stop>
     ensures { (depth : ℕ) → Gives (λ x. (x.0, x.1.now)) result (at_of depth step tokens.now) }
@@ -36,7 +36,7 @@ fn step(tokens: &[Item]) -> Result<(i64, &[Item]), Stop>
     }
 }
 
-/// A step behind a colon, or none.
+/// Returns a step after a colon, or none.
 #[tactic(auto, unfolding(lq_grammar::specs::LogsQL::step_end))]
 fn step_end(tokens: &[Item]) -> Result<(Option<i64>, &[Item]), Stop>
     ensures { (depth : ℕ) → Gives (λ x. (x.0, x.1.now)) result (at_of depth step_end tokens.now) }
@@ -48,7 +48,7 @@ fn step_end(tokens: &[Item]) -> Result<(Option<i64>, &[Item]), Stop>
     Ok((None, tokens))
 }
 
-/// A key.
+/// Returns a key.
 #[tactic(auto, unfolding(lq_grammar::specs::LogsQL::key))]
 fn key<'t>(alloc: Global, tokens: &'t [Item]) -> Result<(StatKey, &'t [Item]), Stop>
     ensures { (depth : ℕ) → Gives (λ x. (group_by x.0, x.1.now)) result (at_of depth key tokens.now) }
@@ -61,7 +61,7 @@ fn key<'t>(alloc: Global, tokens: &'t [Item]) -> Result<(StatKey, &'t [Item]), S
     plain_key(alloc, tokens, KEY_NAMES)
 }
 
-/// A key without a step, which is a name that has one of these roles.
+/// Returns a key without a step, which is a name that has one of these roles.
 fn plain_key<'t>(
     alloc: Global,
     tokens: &'t [Item],
@@ -91,7 +91,7 @@ fn keys<'t>(alloc: Global, tokens: &'t [Item]) -> Result<(Items<StatKey>, &'t [I
     Ok((Items::of(keys), rest))
 }
 
-/// Keys in parentheses, behind BY or without it, or none.
+/// Keys in parentheses, after BY or without it, or none.
 #[tactic(auto, unfolding(lq_grammar::specs::LogsQL::groups_by, lq_grammar::specs::LogsQL::key_list))]
 fn groups_by<'t>(alloc: Global, tokens: &'t [Item]) -> Result<(Items<StatKey>, &'t [Item]), Stop>
     ensures { (depth : ℕ) → Gives (λ x. (map group_by x.0, x.1.now)) result (at_of depth groups_by tokens.now) }
@@ -116,7 +116,7 @@ fn key_list<'t>(alloc: Global, tokens: &'t [Item]) -> Result<(Items<StatKey>, &'
     Ok((keys, rest))
 }
 
-/// What stands behind the word IF: a filter in parentheses, or else the word is a name.
+/// Returns what stands after the word IF: a filter in parentheses, or else the word is a name.
 #[tactic(auto, unfolding(lq_grammar::specs::LogsQL::if_end))]
 fn if_end<'t>(
     alloc: Global,
@@ -137,7 +137,7 @@ fn if_end<'t>(
     Ok((FuncEnd { only: None, name }, tokens))
 }
 
-/// A condition behind IF and a name, which may both be missing.
+/// Returns a condition after IF and a name, which may both be missing.
 #[tactic(auto, unfolding(lq_grammar::specs::LogsQL::func_end))]
 fn func_end<'t>(
     alloc: Global,
@@ -153,7 +153,7 @@ fn func_end<'t>(
     Ok((FuncEnd { only: None, name }, rest))
 }
 
-/// A function with its condition and the name of its value.
+/// Returns a function with its condition and the name of its value.
 #[tactic(auto, unfolding(lq_grammar::specs::LogsQL::func))]
 fn func<'t>(alloc: Global, tokens: &'t [Item], depth: u32) -> Result<(Func, &'t [Item]), Stop>
     ensures { Gives (λ x. (statistic x.0, x.1.now)) result (at_of depth func tokens.now) }
@@ -196,7 +196,7 @@ fn funcs<'t>(
     Ok((Items::of(funcs), rest))
 }
 
-/// The pipe behind its word.
+/// Returns the pipe after its word.
 #[tactic(auto, unfolding(lq_grammar::specs::LogsQL::stats_pipe))]
 pub(crate) fn stats_pipe<'t>(
     alloc: Global,

@@ -1,4 +1,4 @@
--- A rule behind a token, as a loop reads it.
+-- A rule after a token, as a loop reads it.
 use Rattle.std.proofs.Common.{◌≡◌, ℕ, suc, ◌<◌, Bool, true, cond, List, [], ◌∷◌, ◌++◌, length, Ok, Err, refl, ap, ◌∙◌}
 use Rattle.grammar.specs.Rule.{Token, Class, has, next}
 use Rattle.grammar.specs.Spelling.{◌>>=◌}
@@ -34,7 +34,7 @@ behind_read depth class rule u rest (t, is, h) =
 pub next_read : (class : Class) (u rest : Tokens) → Stands class u rest → next class u ≡ true
 next_read class u rest (t, is, h) = ap (next class) is ∙ h
 
--- one more item behind a token
+-- one more item after a token
 pub item_more : {A : Type 0} (depth : ℕ) (class : Class) (rule : Parse A) (list longer : List A) (u rest : Tokens)
     (x : A) (w : Tokens) (whole : Answer Bytes Reason (List A)) → Stands class u rest → at depth rule rest ≡ Ok (x, w)
     → longer ≡ list ++ x ∷ []

@@ -46,7 +46,7 @@ pub groups_none : (depth : ℕ) (u : List (Token Bytes)) → next (any words) u 
 unfolding optional_groups groups labels label
 groups_none depth u e = cond-false (next (any words) u) (at depth groups u) (Ok ([], u)) e
 
--- what begins a filter behind another one
+-- what begins a filter after another one
 within : (a b : Class) (u : List (Token Bytes)) → inside a b ≡ true → inside b a ≡ true → next a u ≡ next b u
 within a b u there back = by_test (next a u) refl (next b u) refl
   where

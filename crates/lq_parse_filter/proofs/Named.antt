@@ -35,7 +35,7 @@ word_at b t ts = cond b (Ok (t.content, ts)) (Err (stuck (suc (length ts))))
 abbrev colon_at : Bool → Tokens → Read (Unit {0})
 colon_at b ts = cond b (Ok (tt, ts)) (Err (stuck (suc (length ts))))
 
--- no token of the class stands there, or no colon behind it
+-- no token of the class stands there, or no colon after it
 abbrev Unnamed : Class → Tokens → Type 0
 Unnamed class u = (next class u ≡ false) ⊎ (next colons (drop 1 u) ≡ false)
 

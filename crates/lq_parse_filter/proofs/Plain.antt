@@ -1,4 +1,4 @@
--- A word that calls nothing, and what stands behind it.
+-- A word that calls nothing, and what stands after it.
 use Rattle.std.proofs.Common.{◌≡◌, ℕ, suc, Bool, true, cond, List, [], ◌∷◌, length, Option, Ok, Err, refl, sym, ap, ◌∙◌}
 use Rattle.std.proofs.lemmas.Bool.{cond-true}
 use Rattle.grammar.specs.Rule.{Token, Class, has}

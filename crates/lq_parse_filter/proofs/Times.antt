@@ -3,7 +3,7 @@ use Rattle.std.proofs.Common.{◌≡◌, ℕ, ◌^◌, ◌<◌, ◌≤◌, ℤ, 
 use Rattle.std.proofs.Common.{subst}
 use Rattle.std.specs.Option.{option_map}
 use Rattle.std.specs.Result.{result_ok}
-use Rattle.log_model.specs.MomentText.{IsMomentInRange}
+use Rattle.vl_row.specs.MomentText.{IsMomentInRange}
 use Rattle.time_text.specs.Duration.{SpellsDuration}
 use Rattle.time_text.specs.Bound.{SpellsBound, AreInRange}
 use Rattle.time_text.specs.declared.bound.Span.{Span}

@@ -109,7 +109,7 @@ fold_shorter depth e field u c w some read =
 
 -- ---- negations
 
--- behind the token that opens a name
+-- after the token that opens a name
 pub name_read : (depth : ℕ) (n : Name) (u rest : List (Token Bytes)) → 0 < depth
     → one_at {F = Reason} (heads n) (λ _. tt {0}) u ≡ Ok (tt, rest) → name_at depth n u ≡ at (depth - 1) (rules n) rest
 name_read depth n [] rest some e = absurd cc

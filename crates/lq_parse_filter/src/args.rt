@@ -25,7 +25,7 @@ pub(crate) fn arg<'t>(alloc: Global, tokens: &'t [Item]) -> Result<(Text, &'t [I
     Ok((Text::try_of(alloc, word)?, rest))
 }
 
-/// Whether an argument begins here.
+/// Returns whether an argument begins here.
 #[tactic(auto, using(crate::proofs::Firsts::next_append), unfolding(lq_grammar::specs::LogsQL::arg))]
 fn at_arg(tokens: &[Item]) -> bool
     ensures { result ≡ next (first heads arg) tokens.now }

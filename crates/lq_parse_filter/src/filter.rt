@@ -20,7 +20,7 @@ use lq_grammar::scan::{at, expect, name_past, past, place, text_past};
 use lq_grammar::{COMMON_NAMES, Item, NEGATIONS, Role, Scope, Stop, UNARY};
 use std::alloc::Global;
 
-/// What stands in parentheses, where so many more may be open.
+/// Returns what stands in parentheses, where this many more may be open.
 #[cycle(filter)]
 #[tactic(auto, using(crate::proofs::Turning::name_steps))]
 pub fn group<'t>(
@@ -42,7 +42,7 @@ pub fn group<'t>(
     Ok((filter, rest))
 }
 
-/// A negation of a filter.
+/// Returns a negation of a filter.
 #[cycle(filter)]
 #[tactic(auto, using(crate::proofs::Turning::name_steps))]
 fn negation<'t>(
@@ -63,7 +63,7 @@ fn negation<'t>(
     Ok((Filter::Not(Box::new(alloc, filter)?), rest))
 }
 
-/// A negation behind a name and a colon.
+/// Returns a negation after a name and a colon.
 #[cycle(filter)]
 #[tactic(auto, using(crate::proofs::Turning::name_steps))]
 fn inner_negation<'t>(
@@ -84,7 +84,7 @@ fn inner_negation<'t>(
     Ok((Filter::Not(Box::new(alloc, filter)?), rest))
 }
 
-/// What may stand behind a name and a colon.
+/// Returns what may stand after a name and a colon.
 #[cycle(filter)]
 #[tactic(auto, unfolding(lq_grammar::specs::LogsQL::inner))]
 fn inner<'t>(
@@ -106,7 +106,7 @@ fn inner<'t>(
     leaf(alloc, tokens, field)
 }
 
-/// A filter without conjunctions.
+/// Returns a filter without conjunctions.
 #[cycle(filter)]
 #[tactic(auto, unfolding(lq_grammar::specs::LogsQL::unary))]
 fn unary<'t>(
@@ -125,7 +125,7 @@ fn unary<'t>(
     unit(alloc, tokens, depth, scope, field)
 }
 
-/// A filter that is no negation.
+/// Returns a filter that is not a negation.
 #[cycle(filter)]
 #[tactic(auto, unfolding(lq_grammar::specs::LogsQL::unit))]
 fn unit<'t>(
@@ -147,7 +147,7 @@ fn unit<'t>(
     }
 }
 
-/// A filter of rows that is no negation and stands in no parentheses.
+/// Returns a filter of rows that is not a negation and stands in no parentheses.
 #[cycle(filter)]
 #[tactic(auto, unfolding(lq_grammar::specs::LogsQL::row_unit, lq_grammar::specs::LogsQL::selector))]
 fn row_unit<'t>(
@@ -181,7 +181,7 @@ fn row_unit<'t>(
     word_unit(alloc, tokens, depth, Scope::Rows, field)
 }
 
-/// What stands behind the word `_stream`.
+/// Returns what stands after the word `_stream`.
 #[cycle(filter)]
 #[tactic(auto, unfolding(lq_grammar::specs::LogsQL::stream_end))]
 fn stream_end<'t>(
@@ -200,7 +200,7 @@ fn stream_end<'t>(
     bare_end(alloc, tokens, word, field)
 }
 
-/// What stands behind `_stream` and a colon.
+/// Returns what stands after `_stream` and a colon.
 #[cycle(filter)]
 #[tactic(auto, unfolding(lq_grammar::specs::LogsQL::stream_value, lq_grammar::specs::LogsQL::selector))]
 fn stream_value<'t>(
@@ -220,7 +220,7 @@ fn stream_value<'t>(
     inner(alloc, tokens, depth, Scope::Rows, Some(name_of(word)))
 }
 
-/// A filter of records that is no negation and stands in no parentheses.
+/// Returns a filter of records that is not a negation and stands in no parentheses.
 #[cycle(filter)]
 #[tactic(auto, unfolding(lq_grammar::specs::LogsQL::record_unit))]
 fn record_unit<'t>(
@@ -247,7 +247,7 @@ fn record_unit<'t>(
     word_unit(alloc, tokens, depth, Scope::Records, field)
 }
 
-/// A filter that begins with a name like any other, or a leaf.
+/// Returns a filter that begins with a name like any other, or a leaf.
 #[cycle(filter)]
 #[tactic(auto, unfolding(lq_grammar::specs::LogsQL::word_unit))]
 fn word_unit<'t>(
@@ -266,7 +266,7 @@ fn word_unit<'t>(
     led(alloc, tokens, field)
 }
 
-/// The next of those that all hold, behind AND or without it.
+/// Returns the next of those that all hold, after AND or without it.
 #[cycle(filter)]
 #[tactic(auto, unfolding(lq_grammar::specs::LogsQL::next_unary))]
 fn next_unary<'t>(
@@ -333,7 +333,7 @@ pub fn or<'t>(
     Ok((any_holds(filters), rest))
 }
 
-/// Whether a filter stands here that goes on with those before it.
+/// Returns whether a filter stands here that goes on with those before it.
 fn at_unary(tokens: &[Item], scope: Scope) -> bool
     ensures { result ≡ next (first heads (next_unary scope)) tokens.now }
 {
@@ -343,7 +343,7 @@ fn at_unary(tokens: &[Item], scope: Scope) -> bool
     }
 }
 
-/// The same for filters of rows.
+/// Returns the same for filters of rows.
 fn at_row_unary(tokens: &[Item]) -> bool
     ensures { result ≡ next (first heads (next_unary Rows)) tokens.now }
 {
@@ -376,7 +376,7 @@ fn any_holds(mut filters: Vec<Filter>) -> Filter
     Filter::Any2(filters)
 }
 
-/// The name that a word is, which is the message's where it is empty.
+/// Returns the name that a word is, which is the message's where it is empty.
 fn name_of(word: &str) -> &str
     ensures { result.now ≡ field_named word.now }
 {

@@ -32,7 +32,7 @@ fn how(tokens: &[Item]) -> Result<(How, &[Item]), Stop>
     Ok((How::IsNot, rest))
 }
 
-/// A test of a label.
+/// Returns a test of a label.
 #[tactic(auto, unfolding(lq_grammar::specs::LogsQL::label))]
 fn label<'t>(alloc: Global, tokens: &'t [Item]) -> Result<(LabelTest, &'t [Item]), Stop>
     ensures { (depth : ℕ) → Gives (λ x. (test_of x.0, x.1.now)) result (at_of depth label tokens.now) }
@@ -77,7 +77,7 @@ fn groups<'t>(alloc: Global, tokens: &'t [Item]) -> Result<(Select, &'t [Item]),
     Ok((Select { groups }, rest))
 }
 
-/// A selector.
+/// Returns a selector.
 #[tactic(auto, unfolding(lq_grammar::specs::LogsQL::selector))]
 pub(crate) fn selector<'t>(alloc: Global, tokens: &'t [Item]) -> Result<(Select, &'t [Item]), Stop>
     ensures { (depth : ℕ) → Gives (λ x. (on_streams (groups_of x.0), x.1.now)) result

@@ -14,7 +14,7 @@ use lq_grammar::scan::{at_glued, expect, past_glued, text};
 use lq_grammar::{Item, Role, Stop, TEXTS};
 use std::alloc::Global;
 
-/// A prefix, or a phrase that begins no call.
+/// Returns a prefix, or a phrase that begins no call.
 #[tactic(auto, unfolding(lq_grammar::specs::LogsQL::bare_end))]
 pub(crate) fn bare_end<'t>(
     alloc: Global,
@@ -34,7 +34,7 @@ pub(crate) fn bare_end<'t>(
     Ok((make::phrased(alloc, word, field)?, tokens))
 }
 
-/// A prefix, or a phrase.
+/// Returns a prefix, or a phrase.
 #[tactic(auto, unfolding(lq_grammar::specs::LogsQL::quoted_end))]
 pub(crate) fn quoted_end<'t>(
     alloc: Global,
@@ -51,7 +51,7 @@ pub(crate) fn quoted_end<'t>(
     Ok((make::phrased(alloc, word, field)?, tokens))
 }
 
-/// A list of texts behind IN, or the word alone.
+/// Returns a list of texts after IN, or just the word.
 #[tactic(auto, unfolding(lq_grammar::specs::LogsQL::in_end))]
 pub(crate) fn in_end<'t>(
     alloc: Global,
@@ -70,7 +70,7 @@ pub(crate) fn in_end<'t>(
     bare_end(alloc, tokens, word, field)
 }
 
-/// A text behind I, or the word alone.
+/// Returns a text after I, or just the word.
 #[tactic(auto, unfolding(lq_grammar::specs::LogsQL::i_end))]
 pub(crate) fn i_end<'t>(
     alloc: Global,
@@ -89,7 +89,7 @@ pub(crate) fn i_end<'t>(
     bare_end(alloc, tokens, word, field)
 }
 
-/// Texts behind SEQ, or the word alone.
+/// Texts after SEQ, or just the word.
 #[tactic(auto, unfolding(lq_grammar::specs::LogsQL::seq_end))]
 pub(crate) fn seq_end<'t>(
     alloc: Global,
@@ -108,7 +108,7 @@ pub(crate) fn seq_end<'t>(
     bare_end(alloc, tokens, word, field)
 }
 
-/// Two texts behind STRING_RANGE, or the word alone.
+/// Two texts after STRING_RANGE, or just the word.
 #[tactic(auto, unfolding(lq_grammar::specs::LogsQL::string_range_end))]
 pub(crate) fn string_range_end<'t>(
     alloc: Global,
@@ -129,7 +129,7 @@ pub(crate) fn string_range_end<'t>(
     bare_end(alloc, tokens, word, field)
 }
 
-/// A whole value, or how it begins.
+/// Returns a whole value, or how it begins.
 #[tactic(auto, unfolding(lq_grammar::specs::LogsQL::exact))]
 pub(crate) fn exact<'t>(
     alloc: Global,
@@ -147,7 +147,7 @@ pub(crate) fn exact<'t>(
     Ok((make::exact(alloc, text, field)?, rest))
 }
 
-/// A regular expression.
+/// Returns a regular expression.
 #[tactic(auto, unfolding(lq_grammar::specs::LogsQL::regex))]
 pub(crate) fn regex<'t>(
     alloc: Global,
@@ -162,7 +162,7 @@ pub(crate) fn regex<'t>(
     Ok((make::matching(alloc, pattern, field)?, rest))
 }
 
-/// A star that is no prefix's.
+/// Returns a star that is not a prefix's.
 #[tactic(auto, unfolding(lq_grammar::specs::LogsQL::star))]
 pub(crate) fn star<'t>(
     alloc: Global,

@@ -13,7 +13,7 @@ use lq_ast::Filter;
 use std::alloc::{AllocError, Global};
 use vl_row::Text;
 
-/// The name of the field in force, which is the message where none is.
+/// Returns the name of the field in force, which is the message where none is.
 fn field_in(alloc: Global, field: Option<&str>) -> Result<Text, AllocError>
     ensures { IfOk result (λ text. text ≡ field_of (option_copied field.entry)) }
 {
@@ -32,7 +32,7 @@ pub(crate) fn everything(alloc: Global, field: Option<&str>) -> Result<Filter, A
     }
 }
 
-/// The phrase, or no value where it is empty.
+/// Returns the phrase, or no value where it is empty.
 pub(crate) fn phrased(
     alloc: Global,
     phrase: &str,

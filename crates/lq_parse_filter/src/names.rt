@@ -10,14 +10,14 @@ use lq_grammar::{Item, Role, Stop};
 use std::alloc::{AllocError, Global};
 use vl_row::Text;
 
-/// A field's name, which is the message's where it is empty.
+/// Returns a field's name, which is the message's where it is empty.
 pub fn field_named(alloc: Global, name: &str) -> Result<Text, AllocError>
     ensures { IfOk result (λ text. text ≡ name_of name.now) }
 {
     Text::try_of(alloc, if name.is_empty() { "_msg" } else { name })
 }
 
-/// A name that has one of these roles.
+/// Returns a name that has one of these roles.
 pub fn name<'t>(
     alloc: Global,
     tokens: &'t [Item],

@@ -26,7 +26,7 @@ pub(crate) enum Bound {
     MinusInfinite,
 }
 
-/// A number.
+/// Returns a number.
 #[tactic(auto, unfolding(lq_grammar::specs::LogsQL::num))]
 fn num<'t>(alloc: Global, tokens: &'t [Item]) -> Result<(i64, &'t [Item]), Stop>
     ensures { (depth : ℕ) → Gives (λ x. (x.0, x.1.now)) result (at depth num tokens.now) }
@@ -38,7 +38,7 @@ fn num<'t>(alloc: Global, tokens: &'t [Item]) -> Result<(i64, &'t [Item]), Stop>
     }
 }
 
-/// A number of at least 0.
+/// Returns a number of at least 0.
 #[tactic(auto, unfolding(lq_grammar::specs::LogsQL::size))]
 fn size<'t>(alloc: Global, tokens: &'t [Item]) -> Result<(u64, &'t [Item]), Stop>
     ensures { (depth : ℕ) → Gives (λ x. (x.0, x.1.now)) result (at depth size tokens.now) }
@@ -50,7 +50,7 @@ fn size<'t>(alloc: Global, tokens: &'t [Item]) -> Result<(u64, &'t [Item]), Stop
     }
 }
 
-/// A number of at least 0, or no end.
+/// Returns a number of at least 0, or no end.
 #[tactic(auto, unfolding(lq_grammar::specs::LogsQL::high_size))]
 fn high_size<'t>(alloc: Global, tokens: &'t [Item]) -> Result<(u64, &'t [Item]), Stop>
     ensures { (depth : ℕ) → Gives (λ x. (x.0, x.1.now)) result (at depth high_size tokens.now) }
@@ -65,7 +65,7 @@ fn high_size<'t>(alloc: Global, tokens: &'t [Item]) -> Result<(u64, &'t [Item]),
     }
 }
 
-/// The number that a text says, if it is one of at least 0.
+/// Returns the number that a text says, if it is one of at least 0.
 pub fn size_of(text: &str) -> Option<u64>
     ensures { from_option bad_number result ≡ size_value text.now }
 {
@@ -75,7 +75,7 @@ pub fn size_of(text: &str) -> Option<u64>
     }
 }
 
-/// A number, or no end.
+/// Returns a number, or no end.
 #[tactic(auto, unfolding(lq_grammar::specs::LogsQL::end))]
 fn end<'t>(alloc: Global, tokens: &'t [Item]) -> Result<(Bound, &'t [Item]), Stop>
     ensures { (depth : ℕ) → Gives (λ x. (end_of x.0, x.1.now)) result (at depth end tokens.now) }
@@ -131,7 +131,7 @@ pub(crate) fn less<'t>(
     Ok((make::below(alloc, number, field)?, rest))
 }
 
-/// Two sizes behind LEN_RANGE, or the word alone.
+/// Two sizes after LEN_RANGE, or just the word.
 #[tactic(auto, unfolding(lq_grammar::specs::LogsQL::len_range_end))]
 pub(crate) fn len_range_end<'t>(
     alloc: Global,
@@ -152,7 +152,7 @@ pub(crate) fn len_range_end<'t>(
     bare_end(alloc, tokens, word, field)
 }
 
-/// Two ends behind RANGE, or the word alone.
+/// Two ends after RANGE, or just the word.
 #[tactic(auto, unfolding(lq_grammar::specs::LogsQL::range_end))]
 pub(crate) fn range_end<'t>(
     alloc: Global,
@@ -192,7 +192,7 @@ fn ends<'t>(
     ))
 }
 
-/// The greatest number of a range, by its last end and the bracket behind it.
+/// Returns the greatest number of a range, by its last end and the bracket after it.
 #[tactic(auto, unfolding(lq_grammar::specs::LogsQL::last_end))]
 fn last_end<'t>(alloc: Global, tokens: &'t [Item]) -> Result<(i128, &'t [Item]), Stop>
     ensures { (depth : ℕ) → Gives (λ x. (x.0, x.1.now)) result
@@ -203,7 +203,7 @@ fn last_end<'t>(alloc: Global, tokens: &'t [Item]) -> Result<(i128, &'t [Item]),
     Ok((high_of(included, high), rest))
 }
 
-/// Whether the end before a closing bracket is included.
+/// Returns whether the end before a closing bracket is included.
 #[tactic(auto, unfolding(lq_grammar::specs::LogsQL::closing))]
 pub(crate) fn closing(tokens: &[Item]) -> Result<(bool, &[Item]), Stop>
     ensures { (depth : ℕ) → Gives (λ x. (x.0, x.1.now)) result (at depth closing tokens.now) }
@@ -215,7 +215,7 @@ pub(crate) fn closing(tokens: &[Item]) -> Result<(bool, &[Item]), Stop>
     Ok((false, rest))
 }
 
-/// The least number, where the end is included or not.
+/// Returns the least number, where the end is included or not.
 fn low_of(included: bool, end: Bound) -> i128
     ensures { result ≡ lowest_of included (end_of end) }
 {
@@ -227,7 +227,7 @@ fn low_of(included: bool, end: Bound) -> i128
     }
 }
 
-/// The greatest number, where the end is included or not.
+/// Returns the greatest number, where the end is included or not.
 fn high_of(included: bool, end: Bound) -> i128
     ensures { result ≡ highest_of included (end_of end) }
 {

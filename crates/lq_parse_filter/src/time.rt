@@ -16,7 +16,7 @@ use lq_grammar::{Item, Role, Stop};
 use std::alloc::Global;
 use time_text::{DurationFault, Span, read_bound, read_duration};
 
-/// A bound inside brackets.
+/// Returns a bound inside brackets.
 #[tactic(auto, unfolding(lq_grammar::specs::LogsQL::bound))]
 fn bound<'t>(alloc: Global, tokens: &'t [Item]) -> Result<(Span, &'t [Item]), Stop>
     ensures { (depth : ℕ) → Gives (λ x. (ends_of x.0, x.1.now)) result (at depth bound tokens.now) }
@@ -32,7 +32,7 @@ fn bound<'t>(alloc: Global, tokens: &'t [Item]) -> Result<(Span, &'t [Item]), St
     }
 }
 
-/// A duration up to now, or the interval of a bound.
+/// Returns a duration up to now, or the interval of a bound.
 #[tactic(auto, unfolding(lq_grammar::specs::LogsQL::lone_run))]
 fn lone_run<'t>(alloc: Global, tokens: &'t [Item]) -> Result<(Filter, &'t [Item]), Stop>
     ensures { (depth : ℕ) → Gives (λ x. (condition x.0, x.1.now)) result (at depth lone_run tokens.now) }
@@ -55,21 +55,21 @@ fn lone_run<'t>(alloc: Global, tokens: &'t [Item]) -> Result<(Filter, &'t [Item]
     }
 }
 
-/// The nanoseconds that a text says as a duration.
+/// Returns the nanoseconds that a text says as a duration.
 pub fn duration(text: &str) -> Result<i64, DurationFault>
     ensures { result ≡ duration_of text.now }
 {
     read_duration(text)
 }
 
-/// What a text names as a bound, if it is in range.
+/// Returns what a text names as a bound, if it is in range.
 fn bound_named(text: &str) -> Option<Span>
     ensures { option_map ends_of result ≡ bound_of text.now }
 {
     read_bound(text).ok()
 }
 
-/// The last moment of an interval, by its last bound and the bracket behind it.
+/// Returns the last moment of an interval, by its last bound and the bracket after it.
 #[tactic(auto, unfolding(lq_grammar::specs::LogsQL::last_bound))]
 fn last_bound<'t>(alloc: Global, tokens: &'t [Item]) -> Result<(i128, &'t [Item]), Stop>
     ensures { (depth : ℕ) → Gives (λ x. (x.0, x.1.now)) result
@@ -97,7 +97,7 @@ fn interval<'t>(
     Ok((Filter::Times { from, to }, rest))
 }
 
-/// A time.
+/// Returns a time.
 #[tactic(auto, unfolding(lq_grammar::specs::LogsQL::time))]
 pub(crate) fn time<'t>(alloc: Global, tokens: &'t [Item]) -> Result<(Filter, &'t [Item]), Stop>
     ensures { (depth : ℕ) → Gives (λ x. (condition x.0, x.1.now)) result (at depth time tokens.now) }
@@ -111,7 +111,7 @@ pub(crate) fn time<'t>(alloc: Global, tokens: &'t [Item]) -> Result<(Filter, &'t
     lone_run(alloc, tokens)
 }
 
-/// The first moment from a bound on, or behind it.
+/// Returns the first moment from a bound on, or after it.
 fn start_of(included: bool, span: Span) -> i128
     ensures { result ≡ first_of included (ends_of span) }
 {
@@ -122,7 +122,7 @@ fn start_of(included: bool, span: Span) -> i128
     }
 }
 
-/// The last moment up to a bound, or before it.
+/// Returns the last moment up to a bound, or before it.
 fn stop_of(included: bool, span: Span) -> i128
     ensures { result ≡ last_of included (ends_of span) }
 {

@@ -4,7 +4,7 @@ use lq_ast::{Call, Func, Pair, Pipe, SortPipe, StatKey, StatsPipe, UniqPipe};
 use std::alloc::AllocError;
 use vl_row::Text;
 
-/// Appends pipes, each behind a bar.
+/// Appends pipes, each after a bar.
 pub(crate) fn push_pipes(pipes: &[Pipe], out: &mut String) -> Result<(), AllocError> {
     for pipe in pipes {
         out.push_str(" | ")?;

@@ -152,7 +152,7 @@ fn how_text(how: How) -> &'static str {
     }
 }
 
-/// The text with control characters in the places of their pictures.
+/// Returns the text with control characters in the places of their pictures.
 pub fn with_controls(alloc: Global, text: &str) -> Result<String, AllocError> {
     let mut out = String::new(alloc);
     for c in text.chars() {

@@ -12,7 +12,7 @@ fn letters(alloc: Global, count: usize) -> Result<String, AllocError> {
     Ok(text)
 }
 
-/// The fault of a text, if it is no query.
+/// Returns the fault of a text, if it is not a query.
 fn fault(alloc: Global, text: &str) -> Option<QueryFault> {
     parse(alloc, text).err()
 }

@@ -11,7 +11,7 @@ use Rattle.std.proofs.lemmas.List.{length-map}
 use Rattle.log_model.specs.Field.{bytes_cmp, field_value, is_empty, set_field}
 use Rattle.log_model.specs.Order.{number_of, value_cmp}
 use Rattle.log_model.specs.Words.{occurs}
-use Rattle.word_tokens.specs.Prefix.{occurs_as_prefix}
+use Rattle.lq_ast.specs.Prefix.{occurs_as_prefix}
 use Rattle.lq_ast.specs.Condition.{Condition, Conditions}
 use Rattle.lq_ast.specs.Condition as is
 use Rattle.lq_ast.specs.Grouping.{all, asked, group_record, grouped, put, set_statistics, statistic_text, ◌>>=◌}

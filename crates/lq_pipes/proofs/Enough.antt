@@ -70,7 +70,7 @@ pub ordered_lists : (records : List Record) → AllByRecursion IsFieldList recor
 ordered_lists [] h = tt
 ordered_lists (r ∷ records) h = (h.0.ordered, ordered_lists records h.1)
 
--- ---- pipes that make records anew, and others
+-- ---- pipes that make records again, and others
 
 map_itself : {A : Type 0} (xs : List A) → map (λ x. x) xs ≡ xs
 map_itself [] = refl

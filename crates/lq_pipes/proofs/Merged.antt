@@ -36,7 +36,7 @@ not_both : (b : Bool) → b ≡ true → not b ≡ true → ⊥
 not_both true h g = false≢true g
 not_both false h g = false≢true h
 
--- a reserved name is no stored field's
+-- a reserved name is not a stored field's
 apart : (name : List ℕ) → IsTrue (is_reserved name) → (field : Field) → IsTrue (is_stored field)
     → bytes_cmp name field.0 ≢ Equal
 apart name reserved field stored e =
@@ -77,7 +77,7 @@ insert_past : (field : Field) (later new : List ℕ) (rest : List Field) → byt
 insert_past field later new rest above =
     ap (λ order. match_ordering order ((later, new) ∷ field ∷ rest) ((field.0, new) ∷ rest) (field ∷ insert_entry bytes_cmp rest later new)) above
 
--- what comes after a computed field is inserted behind it
+-- what comes after a computed field is inserted after it
 pub insert_behind : (name value later new : List ℕ) (rest : List Field) → bytes_cmp later name ≡ Greater
     → (fields : List Field) →
     insert_entry bytes_cmp (fields_before name fields ++ (name, value) ∷ rest) later new ≡ fields_before name fields ++ (name, value) ∷ insert_entry bytes_cmp rest later new

@@ -1,4 +1,4 @@
--- Records of some of their fields alone.
+-- Records of some of their fields only.
 use Rattle.std.proofs.Common.{◌≡◌, ℕ, Bool, true, false, not, ◌||◌, cond, List, [], ◌∷◌, ◌++◌}
 use Rattle.std.proofs.Common.{refl, sym, ap, ◌∙◌, filter, map, fold, bytes_eq, unwrap_or, arith}
 use Rattle.std.specs.BTreeMap.{insert_entry}

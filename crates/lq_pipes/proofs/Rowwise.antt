@@ -57,7 +57,7 @@ passes_more stages left later stage old new newer h is (made, none) = record {
   few = λ small. fewer stage new newer (2 ^ 32) (lit< tt) (h.few small) made;
 }
 
--- what stands first, and what behind it
+-- what stands first, and what after it
 pub head_left : {A B : Type 0} (f : A → B) (left : List A) (first : A) → 1 ≤ length left → first ≡ get_or left 0 first
     → map f left ≡ f first ∷ map f (take (length left - 1) (drop 1 left))
 head_left f [] first some at = absurd (omega (arith, some))
@@ -73,7 +73,7 @@ keys_covered (key ∷ keys) more covers =
     let names = map (λ key. key.0) keys in
     (covers_head key.0 names more covers, keys_covered keys more (covers_tail key.0 names more covers))
 
--- Where records of the keys alone are sorted, the records themselves stand.
+-- Where records of the keys only are sorted, the records themselves stand.
 pub rows_sorted : (s : Sorting) (records fewer : List Record) (places : List ℕ)
     → fewer ≡ map (narrowed (Some (map (λ key. key.0) s.keys))) records → places ≡ sorted_places s fewer
     → map (λ place. get_or records place []) places ≡ sorted s records
@@ -107,7 +107,7 @@ module _ {A : Type 0} (f : A → Record) (needs newer : Option (List (List ℕ))
   rest_is : drop (m + length (take k left)) xs ≡ drop k left
   rest_is = ap (λ n. drop (m + n) xs) piece_long ∙ drop_more m k xs ∙ ap (drop k) (sym left_whole)
 
-  -- the records of the rows that are left, and of those of them that come behind the next ones
+  -- the records of the rows that are left, and of those of them that come after the next ones
   pub next_piece : (records : List Record) → newer ≡ needs
       → records ≡ map (narrowed needs) (map f (take k left))
       → map (narrowed needs) (map f (drop m xs))

@@ -1,4 +1,4 @@
--- Walks over a list: what is said of its first elements, and of one more.
+-- Walks over a list: a fact of its first elements, and of one more.
 use Rattle.std.proofs.Common.{◌≡◌, ℕ, zero, suc, ◌+◌, ◌<◌, ◌≤◌, List, [], ◌∷◌, ◌++◌, drop, flat_map, fold, get_or}
 use Rattle.std.proofs.Common.{length, map, take, refl, sym, ap, ◌∙◌, add-one, arith}
 use Rattle.std.proofs.lemmas.List.{append-nil, drop_all, map-append}

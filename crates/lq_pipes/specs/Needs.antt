@@ -54,7 +54,7 @@ looked_at (does.stats grouping) =
 looked_at (does.keep condition) = asked_by condition
 looked_at (does.top ranking) = ranking.names
 
--- It makes its records of these fields alone.
+-- It makes its records of these fields only.
 abbrev pub makes_anew : Stage → Bool
 makes_anew (does.fields names) = true
 makes_anew (does.uniq distinct) = true
@@ -62,7 +62,7 @@ makes_anew (does.stats grouping) = true
 makes_anew (does.top ranking) = true
 makes_anew _ = false
 
--- the fields that matter to pipes; all, if none of them makes its records anew
+-- the fields that matter to pipes; all, if none of them makes its records again
 abbrev pub needed : List Stage → Option (List (List ℕ))
 needed [] = None
 needed (first ∷ others) =

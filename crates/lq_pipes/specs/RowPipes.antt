@@ -1,4 +1,4 @@
--- Pipes that leave records as they are, over rows that are no records yet.
+-- Pipes that leave records as they are, over rows that are not records yet.
 use Rattle.std.specs.Prelude.{◌≡◌, ◌<◌, ◌^◌, Bool, true, false, List, [], flat_map, length, Ok}
 use Rattle.lq_ast.specs.Patterns.{patterns_of_stage}
 use Rattle.lq_ast.specs.Pipes.{all_piped, piped}

@@ -9,7 +9,7 @@ pub enum PipeFault {
     /// The regular expression with this number, counted from 0 in the order of the pipes' text, is the first that
     /// cannot be read.
     RegexRefused { nth: u32 },
-    /// The total of the function of `stats` with this name is no 64-bit integer.
+    /// The total of the function of `stats` with this name is not a 64-bit integer.
     Overflow { name: Text },
     /// Memory is wanting.
     Memory,

@@ -7,7 +7,7 @@ use lq_filter::Inner;
 use std::alloc::{AllocError, Global};
 use vl_row::Recs;
 
-/// Keeps the first so many records.
+/// Keeps the first n records.
 pub(crate) fn limit(most: u64, r: Recs) -> Recs
     ensures { result ≡ take most r }
 {
@@ -16,7 +16,7 @@ pub(crate) fn limit(most: u64, r: Recs) -> Recs
     Recs::of(records)
 }
 
-/// Leaves out the first so many records.
+/// Leaves out the first n records.
 pub(crate) fn offset(first: u64, r: Recs) -> Recs
     ensures { result ≡ drop first r }
 {

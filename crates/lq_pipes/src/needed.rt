@@ -1,4 +1,4 @@
-//! Which fields of rows matter to pipes, and records of these fields alone.
+//! Which fields of rows matter to pipes, and records of these fields only.
 ghost use Rattle.std.specs.Prelude.{◌≡◌, [], ◌∷◌, ◌++◌, IfOk, List, OnOk, Some, flat_map, map, option_map};
 ghost use Rattle.std.specs.List.{AllByRecursion};
 ghost use Rattle.log_model.specs.Field.{IsFieldList};
@@ -32,8 +32,8 @@ impl Model for Needs {
 }
 
 impl Needs {
-    /// The fields that pipes look at, up to the first pipe that makes its records of those alone. All matter where
-    /// there is none.
+    /// Returns the fields that pipes look at, up to the first pipe that makes its records of those only. All matter
+    /// where there is none.
     pub(crate) fn of(alloc: Global, pipes: &[Pipe]) -> Result<Needs, AllocError>
         ensures names { IfOk result (λ needs. needs ≡ needed (map stage pipes.now)) }
         // the pipes make of records of these fields what they make of whole ones
@@ -51,7 +51,7 @@ impl Needs {
         Ok(Needs { names: None })
     }
 
-    /// The fields by which a `sort` compares.
+    /// Returns the fields by which a `sort` compares.
     pub(crate) fn of_sort(alloc: Global, sort: &SortPipe) -> Result<Needs, AllocError>
         ensures { IfOk result (λ needs. needs ≡ Some (map (λ key. key.0) (sorting sort.now).keys)) }
     {
@@ -60,7 +60,7 @@ impl Needs {
         Ok(Needs { names: Some(names) })
     }
 
-    /// The names, if not all fields matter.
+    /// Returns the names, if not all fields matter.
     pub(crate) fn names(&self) -> Option<&[Text]>
         ensures { option_map (λ names. names.now) result ≡ self.now }
     {
@@ -71,7 +71,7 @@ impl Needs {
     }
 }
 
-/// Whether a pipe makes its records of the fields alone that it looks at.
+/// Returns whether a pipe makes its records of only the fields that it looks at.
 fn makes_anew(pipe: &Pipe) -> bool
     ensures { result ≡ makes_anew (stage pipe.now) }
 {

@@ -32,7 +32,7 @@ fn text_of(alloc: Global, records: &[FieldList]) -> Result<String, AllocError>
     Ok(text)
 }
 
-/// The record as an object, in the memory of an empty buffer.
+/// Returns the record as an object, in the memory of an empty buffer.
 fn printed(line: Vec<u8>, r: &FieldList) -> Result<Vec<u8>, AllocError>
     requires { line.items ≡ [] }
     ensures text { IfOk result (λ line. line.items ≡ object_text r.now) }

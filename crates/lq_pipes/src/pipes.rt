@@ -14,9 +14,9 @@ use std::alloc::Global;
 use std::collections::VecDeque;
 use vl_row::Recs;
 
-/// The records that the pipes make of others, one pipe after another. All their regular expressions are read first:
-/// `RegexRefused` comes only where the one with that number is the first that cannot be read, and `Overflow` exactly
-/// where the first total that is no 64-bit integer is that of the function with this name.
+/// Returns the records that the pipes make of others, one pipe after another. All their regular expressions are read
+/// first: `RegexRefused` comes only where the one with that number is the first that cannot be read, and `Overflow`
+/// exactly where the first total that is not a 64-bit integer is that of the function with this name.
 pub fn apply(alloc: Global, pipes: &[Pipe], r: Recs) -> Result<Recs, PipeFault>
     requires few { length r < 2 ^ 32 }
     ensures ok { IfOk result (λ made. all_piped (map stage pipes.now) r ≡ Ok made) }
@@ -27,7 +27,7 @@ pub fn apply(alloc: Global, pipes: &[Pipe], r: Recs) -> Result<Recs, PipeFault>
     run_all(alloc, steps, r)
 }
 
-/// The pipes with their regular expressions read.
+/// Returns the pipes with their regular expressions read.
 pub(crate) fn steps<'p>(alloc: Global, pipes: &'p [Pipe]) -> Result<VecDeque<Step<'p>>, PipeFault>
     ensures same { IfOk result (λ steps. map stage_of steps.items ≡ map stage pipes.entry.now) }
     ensures fresh { IfOk result (λ steps. AllByRecursion IsFresh steps.items) }
@@ -43,7 +43,7 @@ pub(crate) fn steps<'p>(alloc: Global, pipes: &'p [Pipe]) -> Result<VecDeque<Ste
     Ok(steps)
 }
 
-/// The records that these pipes make of others.
+/// Returns the records that these pipes make of others.
 pub(crate) fn run_all(alloc: Global, steps: VecDeque<Step<'_>>, r: Recs) -> Result<Recs, PipeFault>
     requires few { length r < 2 ^ 32 }
     requires fresh { AllByRecursion IsFresh steps.items }

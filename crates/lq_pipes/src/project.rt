@@ -31,7 +31,7 @@ impl<'r> RowRecords<'r> {
         })
     }
 
-    /// The next records, if any are left.
+    /// Returns the next records, if any are left.
     pub(crate) fn next(&mut self, alloc: Global) -> Result<Option<Recs>, AllocError>
         ensures { IfOk result (MakesNext self.old self.new) }
     {
@@ -54,7 +54,7 @@ impl<'r> RowRecords<'r> {
     }
 }
 
-/// The records of these rows, of the fields alone that matter.
+/// Returns the records of these rows, of only the fields that matter.
 pub(crate) fn records_of(
     alloc: Global,
     projector: &mut Projector<'_>,

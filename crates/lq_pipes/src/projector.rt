@@ -1,4 +1,4 @@
-//! Records of rows, of the fields alone that matter.
+//! Records of rows, of only the fields that matter.
 ghost use Rattle.std.specs.Prelude.{◌≡◌, IfOk, OnOk, bytes_eq};
 ghost use Rattle.log_model.specs.Moment.{moment_text};
 ghost use Rattle.log_model.specs.Field.{IsFieldList, field_value, set_field};
@@ -14,7 +14,7 @@ use std::alloc::{AllocError, Global};
 use time_text::write_moment;
 use vl_row::{FieldList, Row, Stream, Text};
 
-/// Makes records of rows, of the fields alone that matter. It keeps the text and the id of the last row's stream, since
+/// Makes records of rows, of only the fields that matter. It keeps the text and the id of the last row's stream, since
 /// the next row is mostly of the same one.
 #[derive(Drop)]
 pub(crate) struct Projector<'n> {
@@ -30,7 +30,7 @@ impl<'n> Projector<'n> {
         Ok(Projector { needs, stream })
     }
 
-    /// The fields that matter of the row's record.
+    /// Returns the fields that matter of the row's record.
     pub(crate) fn record(&mut self, alloc: Global, row: &Row) -> Result<FieldList, AllocError>
         ensures value { IfOk result (λ fields. fields ≡ narrowed (projected self.old) (record_of row.now)) }
         ensures same { projected self.new ≡ projected self.old }
@@ -53,7 +53,7 @@ pub(crate) fn record_law(row: &Row)
     let _fields = row.fields();
 }
 
-/// The fields of these names of the row's record.
+/// Returns the fields of these names of the row's record.
 fn narrow_record(
     alloc: Global,
     row: &Row,
@@ -101,7 +101,7 @@ fn is_same(name: &str, other: &str) -> bool
     name == other
 }
 
-/// The text of the row's moment.
+/// Returns the text of the row's moment.
 fn moment_of(alloc: Global, row: &Row) -> Result<Text, AllocError>
     ensures { IfOk result (λ text. text ≡ moment_text row.now.moment) }
 {

@@ -34,7 +34,7 @@ impl Model for Printer {
 }
 
 impl Printer {
-    /// A printer that has printed no row yet: it keeps the stream without labels.
+    /// Returns a printer that has printed no row yet: it keeps the stream without labels.
     pub fn new(alloc: Global) -> Result<Printer, AllocError>
         ensures { IfOk result (λ printer. printer ≡ []) }
     {
@@ -55,7 +55,7 @@ impl Printer {
     }
 }
 
-/// The row's record as a line.
+/// Returns the row's record as a line.
 // It has a buffer of its own, since a writer zeroes room ahead in proportion to what its buffer holds.
 fn line(alloc: Global, row: &Row, stream: &PrintedStream) -> Result<String, AllocError>
     requires { stream.now ≡ row.now.labels }

@@ -1,4 +1,4 @@
-//! The pipes that leave records as they are, over rows that are no records yet: `limit`, `offset` and `sort`.
+//! The pipes that leave records as they are, over rows that are not records yet: `limit`, `offset` and `sort`.
 ghost use Rattle.std.specs.Prelude.{◌≡◌, ◌<◌, [], IfOk, drop, length, map, slice_index_or};
 ghost use Rattle.std.specs.List.{All};
 ghost use Rattle.log_model.specs.Row.{record_of};
@@ -14,7 +14,7 @@ use lq_order::sorted_places;
 use std::alloc::{AllocError, Global};
 use vl_row::Row;
 
-/// Runs the first pipes, as long as they leave records as they are, over rows. The pipes behind them are the result.
+/// Runs the first pipes, as long as they leave records as they are, over rows. The pipes after them are the result.
 pub(crate) fn pass_rows<'p>(
     alloc: Global,
     pipes: &'p [Pipe],
@@ -47,14 +47,14 @@ fn pass(alloc: Global, pipe: &Pipe, rows: &mut Vec<&Row>) -> Result<bool, AllocE
     Ok(true)
 }
 
-/// The rows behind the first so many.
+/// Returns the rows after the first n.
 fn behind<'a, 'r>(first: u64, rows: &'a [&'r Row]) -> &'a [&'r Row]
     ensures { result.now ≡ drop first rows.entry.now }
 {
     &rows[rows.len().min(first as usize)..]
 }
 
-/// The rows whose records `sort` keeps, in its order. Records are made of its keys alone.
+/// Returns the rows whose records `sort` keeps, in its order. Records are made of its keys only.
 fn sorted_rows<'r>(
     alloc: Global,
     sort: &SortPipe,
@@ -70,7 +70,7 @@ fn sorted_rows<'r>(
     rows_at(alloc, rows, places.as_slice())
 }
 
-/// The rows at these places.
+/// Returns the rows at these places.
 fn rows_at<'r>(
     alloc: Global,
     rows: &[&'r Row],

@@ -10,7 +10,7 @@ use vl_row::{FieldList, Row, Text};
 /// How many fields of a record are computed.
 const COMPUTED: usize = 3;
 
-/// The row's fields, and `_time`, `_stream` and `_stream_id`.
+/// Returns the row's fields, and `_time`, `_stream` and `_stream_id`.
 pub fn rec_of(alloc: Global, row: &Row) -> Result<FieldList, AllocError>
     ensures { IfOk result (λ fields. fields ≡ record_of row.now) }
 {

@@ -4,7 +4,7 @@ ghost use Rattle.std.specs.Prelude.{◌≤◌, length};
 use crate::projector::Projector;
 use vl_row::Row;
 
-/// The records of rows, of the fields alone that matter, of which some are still to be made.
+/// The records of rows, of only the fields that matter, of which some are still to be made.
 #[derive(Drop)]
 pub(crate) struct RowRecords<'r> {
     pub(crate) projector: Projector<'r>,

@@ -27,9 +27,9 @@ use std::alloc::{AllocError, Global};
 use std::collections::VecDeque;
 use vl_row::{Recs, Row, Text};
 
-/// The records that the pipes make of those of these rows, with the faults of `apply`. Records are made late: `limit`,
-/// `offset` and `sort` that come first run over rows, a `stats`, `uniq` or `top` behind them takes a few records at a
-/// time, and records have the fields alone that matter to the pipes.
+/// Returns the records that the pipes make of those of these rows, with the faults of `apply`. Records are made late:
+/// `limit`, `offset` and `sort` that come first run over rows, a `stats`, `uniq` or `top` after them takes a few
+/// records at a time, and records have only the fields that matter to the pipes.
 pub fn apply_rows(alloc: Global, pipes: &[Pipe], rows: Vec<&Row>) -> Result<Recs, PipeFault>
     requires few { length rows.items < 2 ^ 32 }
     ensures ok { IfOk result (λ made.
@@ -55,7 +55,7 @@ fn rows_law(rows: &[&Row])
     }
 }
 
-/// The records that these pipes make of those of rows.
+/// Returns the records that these pipes make of those of rows.
 fn run_rows(
     alloc: Global,
     steps: VecDeque<Step<'_>>,
@@ -77,7 +77,7 @@ fn run_rows(
 }
 
 impl<'p> Step<'p> {
-    /// The records that the pipe makes of those of rows.
+    /// Returns the records that the pipe makes of those of rows.
     fn run_rows(self, alloc: Global, rows: RowRecords<'_>) -> Result<Recs, PipeFault>
         requires fresh { IsFresh self }
         requires few { length (records_left rows) < 2 ^ 32 }
@@ -99,7 +99,7 @@ impl<'p> Step<'p> {
     }
 }
 
-/// The statistics of the records of rows.
+/// Returns the statistics of the records of rows.
 fn statistics_of(
     alloc: Global,
     pipe: &StatsPipe,
@@ -120,7 +120,7 @@ fn statistics_of(
     Ok(made)
 }
 
-/// How many of the records of rows have each tuple of these fields.
+/// Returns how many of the records of rows have each tuple of these fields.
 fn tally_of<'p>(
     alloc: Global,
     names: &'p [Text],

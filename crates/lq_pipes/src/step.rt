@@ -61,7 +61,7 @@ impl<'p> Step<'p> {
         }
     }
 
-    /// The records that the pipe makes of others.
+    /// Returns the records that the pipe makes of others.
     pub(crate) fn run(self, alloc: Global, r: Recs) -> Result<Recs, PipeFault>
         requires fresh { IsFresh self }
         requires few { length r < 2 ^ 32 }
@@ -84,7 +84,7 @@ impl<'p> Step<'p> {
     }
 }
 
-/// The statistics of these records.
+/// Returns the statistics of these records.
 fn statistics(alloc: Global, pipe: &StatsPipe, partial: Partial, r: Recs) -> Result<Recs, PipeFault>
     requires fresh { StandsFor partial (grouping pipe.now) [] }
     requires few { length r < 2 ^ 32 }

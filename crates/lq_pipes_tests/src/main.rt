@@ -7,7 +7,7 @@
 //! one printer, those of the plain program, and those of the rows' records. They are from Python's `json`, `hashlib`
 //! and `datetime`.
 //!
-//! A case of the second part is a line: pipes with `|` between them, and behind them records, with tabs between all. A
+//! A case of the second part is a line: pipes with `|` between them, and after them records, with tabs between all. A
 //! pipe is its name and its parts in words. A record is its fields as `name=value`, with `&` between them. The answer
 //! repeats the pipes, and has the lines of the records that they make, or the fault.
 //!

@@ -5,14 +5,14 @@
 //! - `uniq by=a,b hits limit=1` and `top by=a,b n=1`
 //! - `stats by=a by=_time:60000000000 count>n sum:x>s?a=1`, with a step in nanoseconds
 //! - `filter a=x`, `filter a!x` and `filter a~x`, for a field that is the text, one that is not, and one that the
-//!   pattern matches; a function is asked of the records for which what stands behind its `?` holds
+//!   pattern matches; a function is asked of the records for which what stands after its `?` holds
 use lq_ast::{
     Call, Filter, Func, Pair, Pipe, SortKey, SortPipe, StatKey, StatsPipe, TopPipe, UniqPipe,
 };
 use std::alloc::{AllocError, Global};
 use vl_row::{FieldList, Items, Text};
 
-/// The pipes with `|` between them.
+/// Returns the pipes with `|` between them.
 pub fn pipes_of(alloc: Global, text: &str) -> Result<Vec<Pipe>, AllocError> {
     let mut pipes = Vec::new(alloc);
     for part in text.split('|') {
@@ -95,7 +95,7 @@ fn top_of(alloc: Global, parts: &str) -> Result<TopPipe, AllocError> {
     })
 }
 
-/// What stands behind these letters in one of the words.
+/// Returns what stands after these letters in one of the words.
 fn part<'a>(parts: &'a str, letters: &str) -> Option<&'a str> {
     for word in parts.split(' ') {
         if let Some(value) = word.strip_prefix(letters) {
@@ -189,7 +189,7 @@ fn exact_of(alloc: Global, field: &str, text: &str) -> Result<Filter, AllocError
     Ok(Filter::Exact { field, text })
 }
 
-/// The record of fields as `name=value`, with `&` between them.
+/// Returns the record of fields as `name=value`, with `&` between them.
 pub fn record_of(alloc: Global, fields: &str) -> Result<FieldList, AllocError> {
     let mut record = FieldList::new(alloc);
     for field in fields.split('&') {

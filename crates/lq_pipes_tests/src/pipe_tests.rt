@@ -5,7 +5,7 @@ use lq_pipes::{PipeFault, apply, lines};
 use std::alloc::{AllocError, Global};
 use vl_row::{FieldList, Recs, Text};
 
-/// The lines of the records that the pipes of a case make of those of the case, or why there are none.
+/// Returns the lines of the records that the pipes of a case make of those of the case, or why there are none.
 pub fn answer(alloc: Global, case: &str) -> Result<Text, AllocError> {
     let mut parts = case.split('\t');
     let pipes = pipes_of(alloc, parts.next().unwrap_or(""))?;
@@ -16,7 +16,7 @@ pub fn answer(alloc: Global, case: &str) -> Result<Text, AllocError> {
     made(alloc, &pipes, records)
 }
 
-/// The lines of the records that these pipes make of others, or why there are none.
+/// Returns the lines of the records that these pipes make of others, or why there are none.
 pub fn made(alloc: Global, pipes: &[Pipe], records: Vec<FieldList>) -> Result<Text, AllocError> {
     if records.len() > 1000 {
         return Text::try_of(alloc, "too many records\n");
@@ -24,7 +24,7 @@ pub fn made(alloc: Global, pipes: &[Pipe], records: Vec<FieldList>) -> Result<Te
     shown(alloc, apply(alloc, pipes, Recs::of(records)))
 }
 
-/// The lines of these records, or why there are none.
+/// Returns the lines of these records, or why there are none.
 pub fn shown(alloc: Global, made: Result<Recs, PipeFault>) -> Result<Text, AllocError> {
     let mut text = Text::new();
     match made {

@@ -18,7 +18,7 @@ pub(crate) fn write_row(alloc: Global, row: &Row, out: &mut Vec<u8>) -> Result<(
     out.extend_from_slice(line.as_bytes())
 }
 
-/// The row's fields, and the computed ones set among them.
+/// Returns the row's fields, and the computed ones set among them.
 fn record(alloc: Global, row: &Row) -> Result<FieldList, AllocError>
     ensures { IfOk result (λ fields. fields ≡ record_of row.now) }
 {
@@ -35,7 +35,7 @@ fn record(alloc: Global, row: &Row) -> Result<FieldList, AllocError>
     Ok(record)
 }
 
-/// The fields as a line.
+/// Returns the fields as a line.
 fn line(alloc: Global, fields: &[Field]) -> Result<String, AllocError>
     ensures { IfOk result (λ line. string_bytes line ≡ line_text fields.now) }
 {

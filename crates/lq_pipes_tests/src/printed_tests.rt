@@ -44,7 +44,7 @@ pub fn rows_of(alloc: Global, cases: &str) -> Result<Vec<Row>, AllocError> {
     Ok(rows)
 }
 
-/// The row of a case. None where it is no case.
+/// Returns the row of a case. None where it is not a case.
 fn row_of(alloc: Global, case: &str) -> Result<Option<Row>, AllocError> {
     let Some((time, labelled)) = case.split_once('\t') else {
         return Ok(None);

@@ -1,4 +1,4 @@
-//! Pipes over rows, and over their records. Behind `5x` the rows are taken five times, which are more than become
+//! Pipes over rows, and over their records. After `5x` the rows are taken five times, which are more than become
 //! records at a time.
 use crate::notation_tests::pipes_of;
 use crate::pipe_tests::{made, shown};
@@ -7,7 +7,8 @@ use lq_pipes::{apply_rows, rec_of};
 use std::alloc::{AllocError, Global};
 use vl_row::{FieldList, Row, Text};
 
-/// The lines of what these pipes make of the rows. The lines that they make of the rows' records are to be the same.
+/// Returns the lines of what these pipes make of the rows. The lines that they make of the rows' records are to be the
+/// same.
 pub fn answer_of_rows(alloc: Global, pipes: &str, rows: &[Row]) -> Result<Text, AllocError> {
     let (times, pipes) = match pipes.strip_prefix("5x ") {
         Some(pipes) => (5, pipes),

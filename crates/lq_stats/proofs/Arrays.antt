@@ -6,7 +6,7 @@ use Rattle.std.specs.List.{join_with_byte}
 use Rattle.json.specs.Print.{quoted}
 use Rattle.lq_ast.specs.Statistics.{array_text}
 
--- each behind a comma
+-- each after a comma
 abbrev pub later_items : List (List ℕ) → List ℕ
 later_items [] = []
 later_items (text ∷ texts) = (44 ∷ quoted text) ++ later_items texts

@@ -34,7 +34,7 @@ sum_of_more : (ns : List ℤ) (n : ℤ) → sum_of (ns ++ n ∷ []) ≡ Some (un
 sum_of_more [] n = refl
 sum_of_more (m ∷ ms) n = ap (λ (z : ℤ). Some z) (fold_push (λ sum k. sum +ℤ k) (pos 0) (m ∷ ms) n)
 
--- the numbers of a list lie within so many times 2^63
+-- the numbers of a list lie within this many times 2^63
 within_from : (a : ℤ) (m : ℕ) (ns : List ℤ) → AllByRecursion (FitsSigned w64) ns
     → neg_ℤ (pos (m * 2 ^ 63)) ≤ℤ a → a ≤ℤ pos (m * 2 ^ 63)
     → (neg_ℤ (pos ((m + length ns) * 2 ^ 63)) ≤ℤ fold (λ sum k. sum +ℤ k) a ns)

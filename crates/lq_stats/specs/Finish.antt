@@ -20,7 +20,7 @@ use Rattle.lq_stats.specs.declared.measure.Measure.TheVariants.{Sum, Min, Max, U
 use Rattle.lq_stats.specs.declared.state.State.{State}
 use Rattle.lq_stats.specs.declared.state.State.TheVariants.{Count, CountEmpty, CountUniq, OfValues}
 
--- empty where there is no sum, and no text where it is no 64-bit integer
+-- empty where there is no sum, and no text where it is not a 64-bit integer
 abbrev pub total_text : Option ℤ → Option (List ℕ)
 total_text None = Some []
 total_text (Some sum) =
@@ -39,7 +39,7 @@ state_text (CountEmpty number) = Some (decimal number)
 state_text (CountUniq texts) = Some (decimal (count_of texts))
 state_text (OfValues measure) = measure_text measure
 
--- The values are set from left to right. The first that is no text gives its name.
+-- The values are set from left to right. The first that is not a text gives its name.
 abbrev pub set_states : List Statistic → List State → Record → Result Record (List ℕ)
 set_states [] states r = Ok r
 set_states (s ∷ ss) [] r = Ok r
@@ -54,7 +54,7 @@ abbrev pub made_record : List (List ℕ) → List Statistic → Group (Bor State
 made_record names statistics group =
     set_states statistics group.kept.now.list.items (put_fields [] (zip names (group_tuple group)))
 
--- The fault is want of memory, or the first function that is named where there is no record.
+-- The fault is out of memory, or the first function that is named where there is no record.
 abbrev pub IsFault : {A : Type 0} → Result A (List ℕ) → StatFault → Type 0
 IsFault outcome (Overflow name) = outcome ≡ Err name
 IsFault outcome Memory = Unit {0}

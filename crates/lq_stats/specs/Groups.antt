@@ -66,7 +66,7 @@ TakeRecord keys statistics old new r =
     (more : List Tuple) (records : List Record) → length records < 2 ^ 32 → AreGroups keys statistics old more records
     → AreGroups keys statistics new more (records ++ r ∷ [])
 
--- The new groups are those of these records too, if with them there are no more than 2^32.
+-- The new groups are those of these records too, if with them there are at most 2^32.
 abbrev pub TakeRecords : List GroupBy → List Statistic → Groups → Groups → List Record → Type 0
 TakeRecords keys statistics old new taken =
     (more : List Tuple) (records : List Record) → length records + length taken ≤ 2 ^ 32

@@ -6,7 +6,7 @@ ghost use Rattle.lq_ast.specs.Statistics.{array_text};
 use std::alloc::{AllocError, Global};
 use stream_label::push_quoted;
 
-/// The JSON array of some texts; no text where there are none.
+/// Returns the JSON array of some texts; no text where there are none.
 pub(crate) fn array_text(alloc: Global, texts: &[&str]) -> Result<String, AllocError>
     ensures { IfOk result (λ text. string_bytes text ≡ array_text (map (λ text. text.now) texts.now)) }
 {

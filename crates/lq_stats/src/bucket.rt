@@ -17,7 +17,7 @@ pub(crate) struct Bucket {
 }
 
 impl Bucket {
-    /// The bucket whose first moment this is.
+    /// Returns the bucket whose first moment this is.
     pub(crate) fn at(alloc: Global, first: i64) -> Result<Bucket, AllocError>
         requires { pos 0 ≤ℤ first }
         ensures { IfOk result (λ bucket. bucket.first ≡ first) }
@@ -27,7 +27,7 @@ impl Bucket {
         Ok(Bucket { first, text })
     }
 
-    /// The first moment of the bucket in which the moment lies that a text says; empty where it says none.
+    /// Returns the first moment of the bucket in which the moment lies that a text says; empty where it says none.
     pub(crate) fn text_of<'a>(
         &'a mut self,
         alloc: Global,
@@ -43,7 +43,7 @@ impl Bucket {
         }
     }
 
-    /// The text of the moment, which is the first of a bucket.
+    /// Returns the text of the moment, which is the first of a bucket.
     fn text_at(&mut self, alloc: Global, first: i64) -> Result<&str, AllocError>
         requires { pos 0 ≤ℤ first }
         ensures { IfOk result (λ text. text.now ≡ moment_text (unsigned_abs first)) }
@@ -55,7 +55,7 @@ impl Bucket {
     }
 }
 
-/// The first moment of the bucket of so many nanoseconds in which a moment lies.
+/// Returns the first moment of the bucket of this many nanoseconds in which a moment lies.
 fn first_moment(moment: i64, step: i64) -> i64
     requires { pos 0 ≤ℤ moment }
     ensures { result ≡ pos (unsigned_abs moment - unsigned_abs moment % unsigned_abs step) }

@@ -4,7 +4,7 @@ use vl_row::Text;
 /// Why statistics give no records.
 #[derive(Drop)]
 pub enum StatFault {
-    /// The total of the function of this name is no 64-bit integer.
+    /// The total of the function of this name is not a 64-bit integer.
     Overflow { name: Text },
     /// Memory is wanting.
     Memory,

@@ -22,7 +22,7 @@ use lq_tuple::{Group, in_tuple_order, put_field, tuple_record};
 use std::alloc::{AllocError, Global};
 use vl_row::{FieldList, Recs, Text};
 
-/// The records of the groups in tuple order, where the keys have these names.
+/// Returns the records of the groups in tuple order, where the keys have these names.
 pub(crate) fn records(
     alloc: Global,
     names: &[&str],
@@ -46,7 +46,7 @@ pub(crate) fn records(
     Ok(Recs::of(records))
 }
 
-/// The record of a group: its tuple, and the value of each function.
+/// Returns the record of a group: its tuple, and the value of each function.
 fn record_of(
     alloc: Global,
     names: &[&str],
@@ -77,7 +77,7 @@ fn record_of(
 }
 
 impl State {
-    /// The text of the function's value; none where a sum is no 64-bit integer.
+    /// Returns the text of the function's value; none where a sum is not a 64-bit integer.
     fn text(&self, alloc: Global) -> Result<Option<Text>, AllocError>
         ensures { IfOk result (λ text. text ≡ state_text self.now) }
     {
@@ -90,7 +90,7 @@ impl State {
 }
 
 impl Measure {
-    /// The text of the function's value; none where a sum is no 64-bit integer.
+    /// Returns the text of the function's value; none where a sum is not a 64-bit integer.
     fn text(&self, alloc: Global) -> Result<Option<Text>, AllocError>
         ensures { IfOk result (λ text. text ≡ measure_text self.now) }
     {
@@ -102,7 +102,7 @@ impl Measure {
     }
 }
 
-/// The text of a sum, empty where there is none; no text where it is no 64-bit integer.
+/// Returns the text of a sum, empty where there is none; no text where it is not a 64-bit integer.
 fn sum_text(alloc: Global, sum: Option<i128>) -> Result<Option<Text>, AllocError>
     ensures { IfOk result (λ text. text ≡ total_text sum) }
 {
@@ -129,7 +129,7 @@ fn signed_decimal(alloc: Global, number: i64) -> Result<Text, AllocError>
     Text::try_of(alloc, buffer.format(number))
 }
 
-/// The JSON array of some texts in value order.
+/// Returns the JSON array of some texts in value order.
 fn words_text(alloc: Global, words: &[Text]) -> Result<Text, AllocError>
     ensures { IfOk result (λ text. text ≡ array_text (sorted_by value_cmp words.now)) }
 {

@@ -25,7 +25,7 @@ impl<'f> FunctionScan<'f> {
         FunctionScan { function, only }
     }
 
-    /// Whether the function is asked of the record.
+    /// Returns whether the function is asked of the record.
     pub(crate) fn is_asked(&mut self, fields: &FieldList) -> Result<bool, AllocError>
         ensures value { IfOk result (λ asked. asked ≡ is_asked (scanned_statistic self.old) fields.now) }
         ensures same { scanned_statistic self.new ≡ scanned_statistic self.old }

@@ -18,7 +18,7 @@ use vl_row::Text;
 
 impl Function {
     /// Prepares a function, whose first pattern has the number `nth`, and raises that by the number of its patterns.
-    /// 2^32 names are answered as want of memory.
+    /// 2^32 names are answered as out of memory.
     fn of(alloc: Global, func: &Func, nth: &mut u32) -> Result<Function, PrepareFault>
         ensures same { IfOk result (λ function. statistic_of function ≡ statistic func.now) }
         ensures counted { IsOk result → nth.new ≡ nth.old + length (patterns_of_statistic (statistic func.now)) }

@@ -21,7 +21,7 @@ pub(crate) struct States {
 }
 
 impl States {
-    /// The states of functions over no records.
+    /// Returns the states of functions over no records.
     fn of(alloc: Global, scans: &[FunctionScan]) -> Result<States, AllocError>
         ensures { IfOk result (λ states. AreStates (map scanned_statistic scans.now) states.list.items []) }
     {
@@ -67,7 +67,7 @@ fn add_to(
     state.add(scratch, scan.function.names.as_slice(), fields)
 }
 
-/// The groups of some records. Of each tuple its text is kept alone, and the states that have the number of that text.
+/// The groups of some records. Of each tuple its text is kept only, and the states that have the number of that text.
 #[derive(Drop)]
 pub(crate) struct Groups {
     pub(crate) places: Places,
@@ -124,7 +124,7 @@ impl Groups {
         Ok(())
     }
 
-    /// Where the states of a record's tuple stand; new ones are added for a new tuple.
+    /// Returns where the states of a record's tuple stand; new ones are added for a new tuple.
     pub(crate) fn place(
         &mut self,
         scratch: &mut Scratch,

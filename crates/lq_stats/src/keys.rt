@@ -10,7 +10,7 @@ use lq_ast::StatKey;
 use std::alloc::{AllocError, Global};
 use vl_row::FieldList;
 
-/// The keys of a pipe.
+/// Returns the keys of a pipe.
 pub(crate) fn keys(alloc: Global, keys: &[StatKey]) -> Result<Vec<Key>, AllocError>
     ensures { IfOk result (λ made. map grouped_by made.items ≡ map group_by keys.now) }
 {
@@ -30,7 +30,7 @@ fn key_of(alloc: Global, key: &StatKey) -> Result<Key, AllocError>
     })
 }
 
-/// The names of these keys.
+/// Returns the names of these keys.
 pub(crate) fn key_names<'a>(alloc: Global, keys: &'a [Key]) -> Result<Vec<&'a str>, AllocError>
     ensures { IfOk result (λ names. map (λ name. name.now) names.items
         ≡ map (λ key. key.0) (map grouped_by keys.entry.now)) }
@@ -42,7 +42,7 @@ pub(crate) fn key_names<'a>(alloc: Global, keys: &'a [Key]) -> Result<Vec<&'a st
     Ok(names)
 }
 
-/// The value of a key.
+/// Returns the value of a key.
 pub(crate) fn key_value<'a>(
     alloc: Global,
     bucket: &'a mut Bucket,

@@ -42,7 +42,7 @@ impl Measure {
     }
 }
 
-/// The sum with the number that a text says, if it says one.
+/// Returns the sum with the number that a text says, if it says one.
 fn with_number(sum: Option<i128>, value: &str) -> Option<i128>
     ensures { result ≡ spec.with_number sum value.now }
 {

@@ -8,7 +8,7 @@ use crate::keyed::KeyedText;
 use std::alloc::{AllocError, Global};
 use vl_row::{Text, ValueKey};
 
-/// The texts in value order.
+/// Returns the texts in value order.
 pub(crate) fn in_value_order<'a>(
     alloc: Global,
     texts: &'a [Text],

@@ -40,9 +40,9 @@ pub struct Partial {
 }
 
 impl Partial {
-    /// The statistics of no records. The regular expressions of the functions' conditions are read: `RegexRefused`
-    /// comes only where the one with that number is the first that cannot be; numbers count from 0 within the pipe, in
-    /// the order of the text.
+    /// Returns the statistics of no records. The regular expressions of the functions' conditions are read:
+    /// `RegexRefused` comes only where the one with that number is the first that cannot be; numbers count from 0
+    /// within the pipe, in the order of the text.
     pub fn of(alloc: Global, p: &StatsPipe) -> Result<Partial, PrepareFault>
         ensures same { IfOk result (λ partial. StandsFor partial (grouping p.now) []) }
         ensures readable { IfOk result (λ _. AllByRecursion CanBeRead (patterns_of_grouping (grouping p.now))) }
@@ -52,9 +52,9 @@ impl Partial {
         Partial::of_numbered(alloc, p, &mut nth)
     }
 
-    /// The statistics of no records, where the regular expressions of the functions' conditions are numbered on from
-    /// `nth`: each is read, and `nth` rises by how many there are. `RegexRefused` comes only where the one with that
-    /// number is the first that cannot be read. After a fault `nth` is as it was.
+    /// Returns the statistics of no records, where the regular expressions of the functions' conditions are numbered on
+    /// from `nth`: each is read, and `nth` rises by how many there are. `RegexRefused` comes only where the one with
+    /// that number is the first that cannot be read. After a fault `nth` is as it was.
     pub fn of_numbered(alloc: Global, p: &StatsPipe, nth: &mut u32) -> Result<Partial, PrepareFault>
         ensures same { IfOk result (λ partial. StandsFor partial (grouping p.now) []) }
         ensures counted { IsOk result → nth.new ≡ nth.old + length (patterns_of_grouping (grouping p.now)) }
@@ -77,7 +77,7 @@ impl Partial {
         })
     }
 
-    /// Takes one more record. After want of memory the statistics may only be dropped.
+    /// Takes one more record. After out of memory the statistics may only be dropped.
     pub fn add(&mut self, alloc: Global, r: &FieldList) -> Result<(), AllocError>
         requires few { rows self.old < 2 ^ 32 }
         ensures { OnOk result ((g : Grouping) (records : List Record) → StandsFor self.old g records
@@ -86,7 +86,7 @@ impl Partial {
         self.add_all(alloc, slice::from_ref(r))
     }
 
-    /// Takes more records. After want of memory the statistics may only be dropped.
+    /// Takes more records. After out of memory the statistics may only be dropped.
     pub fn add_all(&mut self, alloc: Global, records: &[FieldList]) -> Result<(), AllocError>
         requires few { rows self.old + length records.now ≤ 2 ^ 32 }
         ensures { OnOk result ((g : Grouping) (before : List Record) → StandsFor self.old g before
@@ -102,8 +102,8 @@ impl Partial {
         Ok(())
     }
 
-    /// A record for each group in tuple order, without keys always one. `Overflow` names the first function of the
-    /// first group whose total is no 64-bit integer.
+    /// Returns a record for each group in tuple order, without keys always one. `Overflow` names the first function of
+    /// the first group whose total is not a 64-bit integer.
     pub fn finish(self, alloc: Global) -> Result<Recs, StatFault>
         ensures made { IfOk result (λ made. (g : Grouping) (records : List Record) → StandsFor self g records
             → grouped g records ≡ Ok made) }
@@ -120,7 +120,7 @@ impl Partial {
     }
 }
 
-/// The groups of no records: without keys there is one.
+/// Returns the groups of no records: without keys there is one.
 fn groups_before(
     alloc: Global,
     scratch: &mut Scratch,

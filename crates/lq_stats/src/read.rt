@@ -8,7 +8,7 @@ use crate::groups::States;
 use lq_tuple::{Group, read_tuple};
 use std::alloc::{AllocError, Global};
 
-/// These states, each with the tuple of so many values that has the text at its place.
+/// Returns these states, each with the tuple of this many values that has the text at its place.
 pub(crate) fn read_groups<'s>(
     alloc: Global,
     texts: &[&str],

@@ -30,7 +30,8 @@ impl Scratch {
         })
     }
 
-    /// The text of the tuple of these keys. It is written here, or is the value of the key where there is one alone.
+    /// Returns the text of the tuple of these keys. It is written here, or is the value of the key where there is one
+    /// only.
     pub(crate) fn key_text<'a>(
         &'a mut self,
         keys: &[Key],
@@ -47,7 +48,7 @@ impl Scratch {
         Ok(self.text.as_str())
     }
 
-    /// Writes the values of the keys, each behind its length.
+    /// Writes the values of the keys, each after its length.
     fn write_keys(&mut self, keys: &[Key], fields: &FieldList) -> Result<(), AllocError>
         ensures text { OnOk result (string_bytes self.new.text
             ≡ flat_map part (key_tuple (map grouped_by keys.now) fields.now)) }

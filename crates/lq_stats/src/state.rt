@@ -29,7 +29,7 @@ pub(crate) enum State {
 }
 
 impl State {
-    /// The state of a function over no records.
+    /// Returns the state of a function over no records.
     pub(crate) fn of(alloc: Global, call: Call) -> State
         ensures call { state_call result ≡ call }
         ensures none { (names : List (List ℕ)) → AreTaken names result [] }
@@ -71,21 +71,21 @@ impl State {
     }
 }
 
-/// The number, or one more where a record counts. No more than 2^32 records are counted.
+/// Returns the number, or one more where a record counts. No more than 2^32 records are counted.
 fn with_one(number: u64, counts: bool) -> u64
     ensures { result ≡ min (number + (if counts then 1 else 0)) (2 ^ 64 - 1) }
 {
     number.saturating_add(u64::from(counts))
 }
 
-/// Whether one of these fields is not empty, or there are none.
+/// Returns whether one of these fields is not empty, or there are none.
 fn is_counted(names: &[Text], fields: &FieldList) -> bool
     ensures { result ≡ (is_nil names.now || has_some names.now fields.now) }
 {
     names.is_empty() || has_some(names, fields)
 }
 
-/// Whether one of these fields is not empty.
+/// Returns whether one of these fields is not empty.
 fn has_some(names: &[Text], fields: &FieldList) -> bool
     ensures { result ≡ has_some names.now fields.now }
 {

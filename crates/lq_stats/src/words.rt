@@ -14,7 +14,7 @@ pub(crate) struct Words {
 }
 
 impl Words {
-    /// The words of no texts. This allocates nothing.
+    /// Returns the words of no texts. This allocates nothing.
     pub(crate) fn new(alloc: Global) -> Words
         ensures { AreWords result [] }
     {

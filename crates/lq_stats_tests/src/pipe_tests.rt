@@ -5,7 +5,7 @@ use lq_stats::{Partial, StatFault};
 use std::alloc::{AllocError, Global};
 use vl_row::{FieldList, Items, Recs, Text};
 
-/// The records that the pipe of a case makes of those of the case.
+/// Returns the records that the pipe of a case makes of those of the case.
 pub fn answer(alloc: Global, case: &str) -> Result<String, AllocError> {
     let (pipe, records) = case.split_once('\t').unwrap_or((case, ""));
     let pipe = pipe_of(alloc, pipe)?;

@@ -3,7 +3,7 @@
 //! The program answers a table. A case is a line: names with commas between them, a tab, and the fields of a record as
 //! `name=value`, with `&` between them. The answer is the text of the tuple of these names, the number of that text
 //! among those of all lines so far, the values that are read back from it, each in brackets, and `empty` where all of
-//! them are. Behind the answers stand the texts in the order of their numbers, and how many there are. The answers are
+//! them are. After the answers stand the texts in the order of their numbers, and how many there are. The answers are
 //! those of a Python program of its own.
 #![tactic(auto)]
 

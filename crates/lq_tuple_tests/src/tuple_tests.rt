@@ -3,7 +3,8 @@ use lq_tuple::{Places, Texts, is_wholly_empty, read_tuple, tuple_text};
 use std::alloc::{AllocError, Global};
 use vl_row::{FieldList, Text};
 
-/// The text of the tuple of a case, its number, the values that are read back, and whether the tuple is wholly empty.
+/// Returns the text of the tuple of a case, its number, the values that are read back, and whether the tuple is wholly
+/// empty.
 pub fn answer(
     alloc: Global,
     case: &str,

@@ -97,7 +97,7 @@ held-parts condition now parts i part rows before after is same held pushed =
     pushed ∙ ap (λ rs. before ++ rows_that_hold condition now rs) same
     ∙ ap (λ b. b ++ rows_that_hold condition now (rows_in part)) held ∙ sym (held-part condition now parts i part is)
 
--- the rows that hold among the first ones and one more, which holds too, are no more than all that hold
+-- the rows that hold among the first ones and one more, which holds too, are at most all that hold
 module _ (condition : Condition) (now : ℤ) (rows : List Row) (k : ℕ) (row : Row) where
   held-more : k < length rows → row ≡ get_or rows k row → holds now condition row ≡ true
       → length (rows_that_hold condition now (take k rows)) + 1 ≤ length (rows_that_hold condition now rows)

@@ -7,10 +7,10 @@ use Rattle.lq_ast.specs.Patterns.{CanBeRead, Pattern, all_patterns, patterns_of,
 use Rattle.lq_filter.specs.Refusal.{IsRefusal}
 use Rattle.lq_filter.specs.declared.fault.PrepareFault.{PrepareFault}
 use Rattle.lq_filter.specs.declared.fault.PrepareFault.TheVariants as refusals
-use Rattle.lq_grammar.specs.Query.{IsQueryText}
-use Rattle.lq_grammar.specs.declared.fault.QueryFault.{QueryFault}
-use Rattle.lq_grammar.specs.declared.fault.QueryFault.TheVariants.{Lex, Syntax, TooDeep, BadNumber, BadTime, BadDuration}
-use Rattle.lq_grammar.specs.declared.fault.QueryFault.TheVariants.{Memory}
+use Rattle.lq_parse.specs.Query.{IsQueryText}
+use Rattle.lq_parse.specs.QueryFault.{QueryFault}
+use Rattle.lq_parse.specs.QueryFault.TheVariants.{Lex, Syntax, TooDeep, BadNumber, BadTime, BadDuration}
+use Rattle.lq_parse.specs.QueryFault.TheVariants.{Memory}
 use Rattle.query_run.specs.Asked.{IsNoReadableQuery, refused_by, refused_pattern}
 use Rattle.query_run.specs.declared.query.QueryRefusal.TheVariants as outcomes
 
@@ -45,7 +45,7 @@ other_fault : (Q : Type 0) (c : Question) (fault : QueryFault) → IsOther fault
 other_fault Q c fault other finds =
     subst IsOk (sym (finds (λ same. subst (IsFault IsOther) same other))) tt
 
--- A text that spells a query has no fault but want of memory.
+-- A text that spells a query has no fault but out of memory.
 pub only_memory : (Q : Type 0) (c : Question) (fault : QueryFault) → FindsQuery Q c fault
     → refused_by fault ≡ outcomes.Memory
 only_memory Q c (Lex fault) finds = absurd (other_fault Q c (Lex fault) tt finds)

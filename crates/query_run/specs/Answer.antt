@@ -18,7 +18,7 @@ pub record IsAnswerOver (query : Question) (now : ℤ) (rows : List Row) (text :
   pub evaluated : evaluate query now rows ≡ records found
   pub printed : text ≡ lines_text found
 
--- why there is no answer over them; want of memory is free
+-- why the answer is missing over them; `Memory` may always be returned
 abbrev pub FailsOver : Question → ℤ → List Row → RunFault → Type 0
 FailsOver query now rows ManyRows = evaluate query now rows ≡ many_rows
 FailsOver query now rows (Overflow name) = evaluate query now rows ≡ overflow name

@@ -8,9 +8,9 @@ use Rattle.lq_filter.specs.Refusal.{IsFirstUnreadable}
 use Rattle.lq_filter.specs.Tree.{condition_of}
 use Rattle.lq_filter.specs.declared.fault.PrepareFault.{PrepareFault}
 use Rattle.lq_filter.specs.declared.fault.PrepareFault.TheVariants as preparing
-use Rattle.lq_grammar.specs.Query.{IsQueryText, QueryOf}
-use Rattle.lq_grammar.specs.declared.fault.QueryFault.{QueryFault}
-use Rattle.lq_grammar.specs.declared.fault.QueryFault.TheVariants as faults
+use Rattle.lq_parse.specs.Query.{IsQueryText, QueryOf}
+use Rattle.lq_parse.specs.QueryFault.{QueryFault}
+use Rattle.lq_parse.specs.QueryFault.TheVariants as faults
 use Rattle.query_run.specs.declared.query.QueryRefusal.{QueryRefusal}
 use Rattle.query_run.specs.declared.query.QueryRefusal.TheVariants.{Unspelled, Pattern, Memory}
 use Rattle.query_run.specs.declared.search.Search.{Search}
@@ -37,7 +37,7 @@ abbrev pub HasUnreadablePattern : List ℕ → ℕ → Type 0
 HasUnreadablePattern text nth =
     (query : Question) × IsQueryText text query × IsFirstUnreadable (all_patterns query) nth
 
--- why the text is refused; want of memory is free
+-- why the text is refused; `Memory` may always be returned
 abbrev pub Refuses : List ℕ → QueryRefusal → Type 0
 Refuses text (Unspelled fault) = IsUnspelled text fault
 Refuses text (Pattern nth) = HasUnreadablePattern text nth

@@ -1,2 +1,9 @@
 pub mod Answer
 pub mod Asked
+pub use Rattle.lq_ast.specs.Evaluation
+pub use Rattle.lq_parse.specs.Faults
+pub use Rattle.lq_ast.specs.Patterns
+pub use Rattle.lq_parse.specs.Query
+pub use Rattle.lq_parse.specs.QueryFault
+pub use Rattle.lq_ast.specs.Question
+pub use Rattle.lq_ast.specs.Records

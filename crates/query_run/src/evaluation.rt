@@ -24,12 +24,12 @@ use vl_row::{Recs, Row, RowList, Text};
 /// How many rows are too many for an answer, if they hold.
 const ROW_LIMIT: usize = 4_294_967_296;
 
-/// Why there is no answer.
+/// Why the answer is missing.
 #[derive(Drop)]
 pub enum RunFault {
     /// 2^32 rows hold, or more.
     ManyRows,
-    /// The total of the function of `stats` with this name is no 64-bit integer.
+    /// The total of the function of `stats` with this name is not a 64-bit integer.
     Overflow { name: Text },
     /// Memory ran out.
     Memory,
@@ -55,8 +55,8 @@ impl<T: Drop> From<AllocFailed<T>> for RunFault {
     }
 }
 
-/// The answer to the query at the moment `now`, in nanoseconds since 1970: the lines of the records that its pipes make
-/// of those rows that hold, over all parts of the look in their order.
+/// Returns the answer to the query at the moment `now`, in nanoseconds since 1970: the lines of the records that its
+/// pipes make of those rows that hold, over all parts of the look in their order.
 pub fn answer(
     alloc: Global,
     search: &Search,
@@ -72,7 +72,7 @@ pub fn answer(
     piped_lines(alloc, search.pipes.as_slice(), rows)
 }
 
-/// The rows that hold at the moment `now`, over all parts in their order.
+/// Returns the rows that hold at the moment `now`, over all parts in their order.
 fn held_rows<'s>(
     alloc: Global,
     filter: &Prepared,
@@ -118,7 +118,7 @@ fn push_rows<'s>(
     Ok(())
 }
 
-/// The lines of what the pipes make of the records of these rows.
+/// Returns the lines of what the pipes make of the records of these rows.
 fn piped_lines(alloc: Global, pipes: &[Pipe], rows: Vec<&Row>) -> Result<Text, RunFault>
     requires few { length rows.items < row_limit }
     requires readable { AllByRecursion CanBeRead (flat_map patterns_of_stage (map stage pipes.now)) }
@@ -134,7 +134,7 @@ fn piped_lines(alloc: Global, pipes: &[Pipe], rows: Vec<&Row>) -> Result<Text, R
     Ok(text)
 }
 
-/// The lines of the records of these rows, which are printed without being made.
+/// Returns the lines of the records of these rows, which are printed without being made.
 fn lines_of(alloc: Global, rows: &[&Row]) -> Result<Text, AllocError>
     ensures { IfOk result (λ text. text ≡ lines_text (map (λ row. record_of row.now) rows.now)) }
 {
@@ -146,7 +146,7 @@ fn lines_of(alloc: Global, rows: &[&Row]) -> Result<Text, AllocError>
     Ok(text)
 }
 
-/// What the pipes make of the records of these rows.
+/// Returns what the pipes make of the records of these rows.
 fn made_of(alloc: Global, pipes: &[Pipe], rows: Vec<&Row>) -> Result<Recs, RunFault>
     requires few { length rows.items < row_limit }
     requires readable { AllByRecursion CanBeRead (flat_map patterns_of_stage (map stage pipes.now)) }

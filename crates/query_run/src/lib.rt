@@ -6,5 +6,6 @@ mod query;
 mod search;
 
 pub use evaluation::{RunFault, answer};
+pub use lq_parse::{QueryFault, query_law};
 pub use query::{QueryRefusal, read_query};
 pub use search::Search;

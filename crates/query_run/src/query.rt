@@ -2,7 +2,7 @@
 ghost use Rattle.std.specs.Prelude.{◌≡◌, ◌≢◌, Err, IfErr, IfOk, IsErr};
 ghost use Rattle.std.specs.List.{AllByRecursion};
 ghost use Rattle.lq_ast.specs.Patterns.{CanBeRead, all_patterns};
-ghost use Rattle.lq_grammar.specs.Query.{IsQueryText};
+ghost use Rattle.lq_parse.specs.Query.{IsQueryText};
 ghost use Rattle.query_run.specs.Asked.{HasReadablePipes, IsNoReadableQuery, IsReadableQuery, Refuses, asked_by};
 ghost use Rattle.query_run.specs.declared.query.QueryRefusal.TheVariants.{Memory, Unspelled};
 
@@ -14,7 +14,7 @@ use std::alloc::Global;
 /// Why a query is not asked.
 #[derive(Clone, Copy, Debug, PartialEq, Eq)]
 pub enum QueryRefusal {
-    /// The text spells no query, for this fault, which is never want of memory.
+    /// The text spells no query, for this fault, which is never out of memory.
     Unspelled(QueryFault),
     /// The regular expression with this number, counted from 0 in the order of the text, is the first that cannot be
     /// read.
@@ -49,7 +49,7 @@ impl From<PrepareFault> for QueryRefusal {
     }
 }
 
-/// Reads the text and prepares its query, all of its patterns too. Want of memory is free.
+/// Reads the text and prepares its query, all of its patterns too. `Memory` may always be returned.
 pub fn read_query(alloc: Global, text: &str) -> Result<Search, QueryRefusal>
     ensures read { IfOk result (λ search. IsQueryText text.now (asked_by search)) }
     ensures pipes { IfOk result HasReadablePipes }

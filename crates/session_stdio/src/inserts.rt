@@ -18,7 +18,7 @@ const ROUNDS: u32 = 100;
 #[derive(Drop)]
 struct Caller {
     pass: Pass,
-    /// Whether all was taken in.
+    /// Whether all was read.
     is_done: bool,
 }
 
@@ -38,7 +38,8 @@ impl Caller {
     }
 }
 
-/// So many callers behind the first, each with a pass that is split from its own, or fewer where no more can be split.
+/// Returns this many callers after the first, each with a pass that is split from its own, or fewer where no more can
+/// be split.
 fn callers_of(
     alloc: Global,
     desk: &Desk,
@@ -65,7 +66,7 @@ fn callers_of(
     Ok(callers)
 }
 
-/// Inserts the lines in so many threads beside this one, as far as there are passes, and says whether all was taken in.
+/// Inserts the lines in this many threads beside this one, as far as there are passes, and says whether all was read.
 pub(crate) fn insert_all<R: AllocGlobal + Threads + Wait + Sync>(
     rt: &R,
     desk: &Desk,

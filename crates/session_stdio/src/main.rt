@@ -60,7 +60,7 @@ fn main(rt: HostRuntime) -> io::Result<()> {
     }
 }
 
-/// What these words ask for.
+/// Returns what these words ask for.
 fn task_of(words: &[String]) -> Task {
     match words.first().map(|word| word.as_str()) {
         Some("syslog") => Task::Syslog,

@@ -1,4 +1,4 @@
--- Parameters one behind another, elements one behind another, and structured data.
+-- Parameters one after another, elements one after another, and structured data.
 use Rattle.std.proofs.Common.{◌≡◌, ℕ, ◌<◌, true, false, List, [], ◌∷◌, ◌++◌, length, map, drop, get_or}
 use Rattle.std.proofs.Common.{Option, Some, None, refl, sym, ap, subst, arith, ◌∙◌}
 use Rattle.std.specs.Prelude.{flat_map}
@@ -144,7 +144,7 @@ module _ (id text rest : List ℕ) (old new : List Field) (h : ParamsSoFar id te
 
 -- ---- elements
 
--- the id of an element, and the parameters behind it
+-- the id of an element, and the parameters after it
 element_reads : (text rest : List ℕ) (element : Element) → SpellsElement text element rest
     → (behind : List ℕ) × (name_at text ≡ found element.id behind) × SpellsParams behind element.params rest
 element_reads text rest element h =
@@ -196,7 +196,7 @@ module _ (text : List ℕ) (old new : List Field) where
   pub element_none : None ≡ name_at text → FindsAny (SpellsElement text) element_fields old new None
   element_none none = λ element end spells. absurd (none-some _ (none ∙ (element_reads text end element spells).1))
 
--- ---- elements one behind another
+-- ---- elements one after another
 
 -- So far these elements were read, and another one begins. Whatever elements the text has, the others are left.
 pub record ElementsSoFar (text inside : List ℕ) (old new : List Field) : Type 0 where

@@ -143,7 +143,7 @@ no_whole : (why : Step) (message more : List ℕ) → (why ≡ whole message mor
     → step ≡ whole message more → ⊥
 no_whole why message more other step is same = other (sym is ∙ same)
 
--- a reason is no frame
+-- a reason is not a frame
 reason_none : (stop : Stop) (rest : List ℕ) → step_at rest ≡ why_step stop.why → BeginsWithNone rest
 reason_none stop rest e = none_from_step rest (λ message more same. by_reason stop.why message more (sym e ∙ same))
   where
@@ -265,7 +265,7 @@ kept_short rest h = by_frame h.frame h.is_frame (omega (
         )
     by_frame (ended line) is less = omega (arith, less, length-append line (10 ∷ []), is.few)
 
--- what can go on is no frame and not at fault
+-- what can go on is not a frame and not at fault
 pub goes_on_again : (rest : List ℕ) → CanGoOn rest → step_at rest ≡ short
 goes_on_again rest h = by_step (step_at rest) refl
   where

@@ -41,7 +41,7 @@ digits_reach bytes len within each =
       | inr reach ↦ reach
     ]
 
--- the first digits of a number are no more than it is
+-- the first digits of a number are at most the number
 pub front-le-number : (bytes : List ℕ) (len : ℕ) → len ≤ digits_len bytes → length_of (take len bytes) ≤ number_at bytes
 front-le-number bytes len reach =
     let front = take-take len (digits_len bytes) bytes reach in

@@ -23,7 +23,7 @@ use Rattle.syslog_in.proofs.Headers.{time_part, pri_fits, parts_fit}
 use Rattle.syslog_in.proofs.NamesRead.{names_from}
 use Rattle.syslog_in.proofs.Standing.{behind_end}
 
--- ---- a part with a blank behind it
+-- ---- a part with a blank after it
 
 blank_behind : (after rest : List ℕ) → Behind after rest → 0 < length rest → after ≡ 32 ∷ rest
 blank_behind [] rest h some = absurd (omega (arith, ap length h))
@@ -95,7 +95,7 @@ header_spelled text priority time texts rest h some =
       refl,
     )
 
--- a part that is spelled with a blank behind it stands there
+-- a part that is spelled with a blank after it stands there
 stands_spelled : (IsSo : List ℕ → Type 0) (part rest : List ℕ) → IsSo part → Stands IsSo (part ++ 32 ∷ rest) rest
 stands_spelled IsSo part rest so = record {
   part = part;
@@ -218,7 +218,7 @@ message_parts text time fields h = (
       (msg_again h.msg)),
 )
 
--- ---- why bytes are no message
+-- ---- why bytes are not a message
 
 pub header_fits : (text : List ℕ) (priority : ℕ) (time : Option ℤ) (texts : NameTexts) (rest : List ℕ)
     → HeaderAt text priority time texts rest → length rest ≤ length text

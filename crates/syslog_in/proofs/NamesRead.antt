@@ -1,4 +1,4 @@
--- Names that stand one behind another.
+-- Names that stand one after another.
 use Rattle.std.proofs.Common.{◌≡◌, ℕ, List, [], ◌∷◌, ◌++◌, length, refl, sym, ap, subst, ◌∙◌, Result, Ok, Err}
 use Rattle.std.specs.Prelude.{IfErr}
 use Rattle.std.specs.List.{AllByRecursion}
@@ -37,7 +37,7 @@ as_name most text name rest h = record {
   behind = h.behind;
 }
 
--- why there are no names, handed on
+-- why the names are missing, handed on
 pub handed_on : {X : Type 0} (result : Result X ℕ) (text : List ℕ) (left : ℕ) → LacksNameIn text left
     → IsErrAnd result (λ e. e ≡ left) → IfErr result (λ e. LacksNameIn text e)
 handed_on (Ok x) text left lacks same = tt
@@ -181,7 +181,7 @@ are_name_parts : AllByRecursion is_name_part names
 unfolding is_name_part
 are_name_parts = (tt, (tt, (tt, (tt, tt))))
 
--- where a list of names stands, none of them is missing behind those before it
+-- where a list of names stands, none of them is missing after those before it
 none_missing : (all before after : List Part) (part : Part) (text rest middle : List ℕ) → all ≡ before ++ part ∷ after
     → AllByRecursion is_name_part all → AreParts all text rest → AreParts before text middle
     → ((more : List ℕ) → Stands (IsPart part) middle more → ⊥) → ⊥

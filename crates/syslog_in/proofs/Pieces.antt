@@ -1,4 +1,4 @@
--- A piece of a stream behind what is kept of an unfinished frame.
+-- A piece of a stream after what is kept of an unfinished frame.
 use Rattle.std.proofs.Common.{◌≡◌, ℕ, ◌+◌, ◌-◌, ◌≤◌, List, [], ◌++◌, length, take, drop}
 use Rattle.std.proofs.Common.{refl, sym, ap, subst, arith, ◌∙◌, inl, inr}
 use Rattle.std.proofs.Math.Seq.{take-append-add}
@@ -27,7 +27,7 @@ grown start kept new piece used more kept_is new_is =
     ∙ ap (λ (t : List ℕ). t ++ take more (drop used piece)) kept_is
     ∙ append_assoc start (take used piece) (take more (drop used piece)) ∙ ap (λ (t : List ℕ). start ++ t) parts
 
--- Where no frame was whole, what follows one that became whole is of the bytes that came to it.
+-- Where no frame was whole, what follows one that became whole is of the bytes added to it.
 pub rest_within : (kept more message rest : List ℕ) → step_at kept ≡ short → step_at (kept ++ more) ≡ whole message rest
     → length rest ≤ length more
 rest_within kept more message rest open_is e =

@@ -15,7 +15,7 @@ all_taken test (byte ∷ bytes) = by_case (test byte) refl (all_taken test bytes
     by_case true is more = rw (one-add (prefix_len test bytes)) (and_from _ _ is more)
     by_case false is more = refl
 
--- the byte behind a run does not pass
+-- the byte after a run does not pass
 pub stops : (test : ℕ → Bool) (bytes rest : List ℕ) (byte : ℕ) → drop (prefix_len test bytes) bytes ≡ byte ∷ rest
     → test byte ≡ false
 stops test [] rest byte e = absurd cc
@@ -34,7 +34,7 @@ run_again test (byte ∷ run) rest all =
     cond-true (test byte) (1 + prefix_len test (run ++ rest)) 0 parts.0
     ∙ omega (arith, run_again test run rest parts.1)
 
--- a run, and behind it a byte that does not pass
+-- a run, and after it a byte that does not pass
 pub run_then : (test : ℕ → Bool) (run rest : List ℕ) (byte : ℕ) → list_all test run ≡ true → test byte ≡ false
     → prefix_len test (run ++ byte ∷ rest) ≡ length run
 run_then test run rest byte all stop =

@@ -103,7 +103,7 @@ lacks_name most text not_so rest h =
 visible_run : (text : List ℕ) → list_all is_no_blank (take (prefix_len is_visible text) text) ≡ true
 visible_run text = visible_no_blanks (take (prefix_len is_visible text) text) (all_taken is_visible text)
 
--- where a blank or the end comes behind them, they are the part at the start
+-- where a blank or the end comes after them, they are the part at the start
 pub visible_first : (text after rest : List ℕ) → after ≡ drop (prefix_len is_visible text) text → Behind after rest
     → (take (prefix_len is_visible text) text ≡ first_part text) × (rest ≡ behind_part text)
 visible_first text after rest is behind =
@@ -121,7 +121,7 @@ visible_then : (part after rest : List ℕ) → list_all is_visible part ≡ tru
 visible_then part [] rest all h = omega (arith, run_again is_visible part [] all)
 visible_then part (byte ∷ more) rest all h = rw h.0 (run_then is_visible part more 32 all refl)
 
--- behind a part that is visible comes a blank, or the end
+-- after a part that is visible comes a blank, or the end
 pub visible_ends : (text : List ℕ) → list_all is_visible (first_part text) ≡ true
     → is_end (drop (prefix_len is_visible text) text) ≡ true
 visible_ends text all =

@@ -167,7 +167,7 @@ whole_takes (byte ∷ bytes) message rest e =
 
 -- ---- frames are read again
 
--- digits of a length, and behind them no digit
+-- digits of a length, and after them no digit
 pub length_again : (digits rest : List ℕ) → AreLengthDigits digits → digits_len (digits ++ rest) ≡ length digits
     → length_of digits ≤ frame_limit
     → length_at (digits ++ rest) ≡ Some (length digits, length_of digits)

@@ -170,7 +170,7 @@ long_again bytes (long_line line more h beyond spelled) =
     ∙ step_line_some text (omega (arith, length-append line more)) (no_length_first line more (omega arith) h.first)
     ∙ rw (lt-ltb frame_limit (line_len text) (omega (arith, len))) refl
 
--- ---- more bytes behind
+-- ---- more bytes after
 
 pub bad_more : (bytes more : List ℕ) (place : ℕ) → HasBadLength bytes place → HasBadLength (bytes ++ more) place
 bad_more bytes more place h = record {

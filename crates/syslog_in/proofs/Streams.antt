@@ -1,4 +1,4 @@
--- Whole frames one behind another, and what is left of a stream.
+-- Whole frames one after another, and what is left of a stream.
 use Rattle.std.proofs.Common.{◌≡◌, ℕ, ◌≤◌, ◌<◌, List, [], ◌∷◌, ◌++◌, length}
 use Rattle.std.proofs.Common.{refl, sym, ap, arith, ◌∙◌}
 use Rattle.std.specs.List.{AllByRecursion, flat_map}
@@ -22,7 +22,7 @@ frame_shorter bytes message rest e =
     let at = whole_takes bytes message rest e in
     omega (arith, ap length at.spelled, length-append (source at.frame) rest, source-some at.frame)
 
--- ---- frames one behind another
+-- ---- frames one after another
 
 pub no_frames : (bytes : List ℕ) → BeginsWithFrames bytes [] bytes
 no_frames bytes = record { frames = []; each = tt; spelled = refl; messages_are = refl }
@@ -53,7 +53,7 @@ more_frames bytes middle rest messages others first then = record {
       ∙ sym (flat_map-append (λ (frame : Frame). unless_empty (message_of frame)) first.frames then.frames);
 }
 
--- the same frames, with more bytes behind them
+-- the same frames, with more bytes after them
 pub frames_behind : (bytes rest more : List ℕ) (messages : List (List ℕ)) → BeginsWithFrames bytes messages rest
     → BeginsWithFrames (bytes ++ more) messages (rest ++ more)
 frames_behind bytes rest more messages h = record {

@@ -80,7 +80,7 @@ taken bytes (span ∷ spans) (suc count) inside =
     let parts = and_parts (is_inside bytes span) _ inside in
     and_from _ _ parts.0 (taken bytes spans count parts.1)
 
--- bytes that are no text behind the others
+-- bytes that are not a text after the others
 pub unused : (bytes text more : List ℕ) (spans others : List FrameSpan) → more ≡ bytes ++ text → others ≡ spans
     → are_inside bytes spans ≡ true
     → (texts_at more others ≡ texts_at bytes spans) × (are_inside more others ≡ true)

@@ -61,7 +61,7 @@ fraction_clock fraction nanos (inr f) =
     ap (list_all is_clock_byte) f.spelled
     ∙ and_from true (list_all is_clock_byte f.places) refl (digits_clock f.places f.digits.each)
 
--- what stands behind the mark, up to the offset
+-- what stands after the mark, up to the offset
 abbrev clock_of : (text : List ℕ) (moment : ℤ) → IsDateTime text moment → List ℕ
 clock_of text moment d =
     two_digits d.hour ++ (58 ∷ (two_digits d.minute ++ (58 ∷ (two_digits d.second ++ d.fraction))))

@@ -27,7 +27,7 @@ put_nil : (o : Found) → put [] o ≡ o
 put_nil None = refl
 put_nil (Some x) = refl
 
--- what a value is behind the end of a run
+-- what a value is after the end of a run
 abbrev after_run : Ending → Found
 after_run (quote rest) = Some ([], rest)
 after_run (escape byte rest) = put (escaped_text byte) (value_at rest)
@@ -59,7 +59,7 @@ unfolding value_from
 behind_is [] = refl
 behind_is (byte ∷ rest) = refl
 
--- where a byte is special, nothing is passed over
+-- where a byte is special, nothing is skipped
 value_special : (byte : ℕ) (rest : List ℕ) → is_plain byte ≡ false
     → value_at (byte ∷ rest) ≡ after_run (ending_at (byte ∷ rest))
 unfolding value_from
@@ -224,7 +224,7 @@ one_more c bytes text rest is h = record {
   text_is = ap (λ (t : List ℕ). character_text c ++ t) h.text_is;
 }
 
--- a byte behind a backslash, as the character that both are
+-- a byte after a backslash, as the character that both are
 abbrev escape_of : ℕ → Bool → Character
 escape_of byte true = escaped byte
 escape_of byte false = backslash byte
@@ -238,7 +238,7 @@ plain_is : (byte : ℕ) → byte == 34 ≡ false → byte == 92 ≡ false → by
 plain_is byte q b c =
     not_from_false _ (or_from ((byte == 34) || (byte == 92)) (byte == 93) (or_from (byte == 34) (byte == 92) q b) c)
 
--- behind a backslash, and not
+-- after a backslash, and not
 takes : (behind : Bool) (bytes text rest : List ℕ) → value_from behind bytes ≡ found_of text rest
     → SpellsValue (cond behind (92 ∷ bytes) bytes) text rest
 unfolding value_from

@@ -14,7 +14,7 @@ is_no_blank byte = not (byte == 32)
 abbrev pub part_len : List ℕ → ℕ
 part_len text = prefix_len is_no_blank text
 
--- the bytes up to the first blank, and those behind it
+-- the bytes up to the first blank, and those after it
 abbrev pub first_part : List ℕ → List ℕ
 first_part text = take (part_len text) text
 
@@ -52,7 +52,7 @@ value_from false (byte ∷ rest) =
     else (if byte == 93 then None
     else (if byte == 92 then value_from true rest else put (byte ∷ []) (value_from false rest)))
 
--- the text of a value behind its opening quotation mark, and what follows the closing one
+-- the text of a value after its opening quotation mark, and what follows the closing one
 abbrev pub value_at : List ℕ → Option (List ℕ × List ℕ)
 value_at bytes = value_from false bytes
 
@@ -96,7 +96,7 @@ abbrev pub FindsAny : {X : Type 0} → (X → List ℕ → Type 0) → (X → Li
 FindsAny {X} Spells fields old new found =
     (x : X) (rest : List ℕ) → Spells x rest → (found ≡ Some rest) × (new ≡ set_all old (fields x))
 
--- a parameter behind the blank before it
+-- a parameter after the blank before it
 pub record SpellsParam (text : List ℕ) (param : Param) (rest : List ℕ) : Type 0 where
   pub is_param : IsParam param
   pub spelled : 32 ∷ text ≡ param_source param ++ rest
@@ -104,7 +104,7 @@ pub record SpellsParam (text : List ℕ) (param : Param) (rest : List ℕ) : Typ
 abbrev pub param_fields : List ℕ → Param → List Field
 param_fields id param = param_field id param ∷ []
 
--- parameters, each behind a blank, and the closing bracket
+-- parameters, each after a blank, and the closing bracket
 pub record SpellsParams (text : List ℕ) (params : List Param) (rest : List ℕ) : Type 0 where
   pub are_params : AllByRecursion IsParam params
   pub spelled : text ≡ flat_map param_source params ++ 93 ∷ rest
@@ -112,7 +112,7 @@ pub record SpellsParams (text : List ℕ) (params : List Param) (rest : List ℕ
 abbrev pub params_fields : List ℕ → List Param → List Field
 params_fields id params = map (param_field id) params
 
--- an element behind its opening bracket
+-- an element after its opening bracket
 pub record SpellsElement (text : List ℕ) (element : Element) (rest : List ℕ) : Type 0 where
   pub is_element : IsElement element
   pub spelled : 91 ∷ text ≡ element_source element ++ rest
@@ -124,7 +124,7 @@ abbrev pub IsNoBracket : List ℕ → Type 0
 IsNoBracket [] = Unit {0}
 IsNoBracket (byte ∷ bytes) = byte ≡ 91 → ⊥
 
--- elements of which the first is behind its opening bracket, and no further one
+-- elements of which the first is after its opening bracket, and no further one
 pub record SpellsElements (text : List ℕ) (elements : List Element) (rest : List ℕ) : Type 0 where
   pub are_elements : AllByRecursion IsElement elements
   pub spelled : 91 ∷ text ≡ flat_map element_source elements ++ rest

@@ -38,7 +38,7 @@ pub record Completes (fed piece : List ℕ) (old new : List (List ℕ)) (rest : 
   pub is_after : AreFrames (fed ++ piece) (before ++ more) rest
   pub given : new ≡ old ++ more
 
--- the place of a byte that stands so far behind the start of the rest
+-- the place of a byte that stands so far after the start of the rest
 abbrev pub place_in : List ℕ → List ℕ → ℕ → ℕ
 place_in bytes rest behind = place (length bytes - length rest + behind)
 

@@ -12,7 +12,7 @@ frame_limit = 65_536
 
 -- ---- frames
 
--- A message behind the digits of its length and a blank, or a line that ends at a line feed.
+-- A message after the digits of its length and a blank, or a line that ends at a line feed.
 pub data Frame : Type 0 where
   counted : List ℕ → List ℕ → Frame
   ended : List ℕ → Frame
@@ -33,7 +33,7 @@ length_of digits = digits_value 10 digits
 abbrev pub is_no_feed : ℕ → Bool
 is_no_feed byte = not (byte == 10)
 
--- bytes without a line feed that are no length
+-- bytes without a line feed that are not a length
 pub record IsLine (line : List ℕ) : Type 0 where
   pub first : IsFalse (begins_length line)
   pub each : IsTrue (list_all is_no_feed line)
@@ -56,7 +56,7 @@ abbrev pub source : Frame → List ℕ
 source (counted digits message) = digits ++ 32 ∷ message
 source (ended line) = line ++ 10 ∷ []
 
--- a carriage return right before the line feed is no part of the message
+-- a carriage return right before the line feed is not part of the message
 abbrev pub without_return : List ℕ → List ℕ
 without_return line = if slice_index line (length line - 1) == 13 then take (length line - 1) line else line
 
@@ -64,7 +64,7 @@ abbrev pub message_of : Frame → List ℕ
 message_of (counted digits message) = message
 message_of (ended line) = without_return line
 
--- an empty message is passed over
+-- an empty message is skipped
 abbrev pub unless_empty : List ℕ → List (List ℕ)
 unless_empty [] = []
 unless_empty (byte ∷ bytes) = (byte ∷ bytes) ∷ []

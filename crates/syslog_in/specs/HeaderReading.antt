@@ -10,7 +10,7 @@ use Rattle.syslog_in.specs.Message.{IsTime}
 abbrev pub IsNamed : ℕ → List ℕ → List ℕ → Type 0
 IsNamed most name text = IsName most text × (text ≡ name)
 
--- These names stand one behind another.
+-- These names stand one after another.
 pub record AreNames (text : List ℕ) (texts : NameTexts) (rest : List ℕ) : Type 0 where
   pub first : List ℕ
   pub second : List ℕ
@@ -20,7 +20,7 @@ pub record AreNames (text : List ℕ) (texts : NameTexts) (rest : List ℕ) : Ty
   pub proc_id : Stands (IsNamed 128 texts.proc_id) second third
   pub msg_id : Stands (IsNamed 32 texts.msg_id) third rest
 
--- One of the names is missing where so many bytes are left.
+-- One of the names is missing where this many bytes are left.
 pub record LacksNameIn (text : List ℕ) (left : ℕ) : Type 0 where
   pub before : List Part
   pub part : Part
@@ -31,7 +31,7 @@ pub record LacksNameIn (text : List ℕ) (left : ℕ) : Type 0 where
   pub lacks : (more : List ℕ) → Stands (IsPart part) rest more → ⊥
   pub left_is : left ≡ length rest
 
--- A header with this number of PRI, this moment and these names, and what stands behind it.
+-- A header with this number of PRI, this moment and these names, and what stands after it.
 pub record HeaderAt (text : List ℕ) (priority : ℕ) (time : Option ℤ) (texts : NameTexts) (rest : List ℕ) : Type 0 where
   pub first : List ℕ
   pub second : List ℕ
@@ -49,7 +49,7 @@ abbrev pub past : ℕ → List ℕ → Option (List ℕ)
 past byte [] = None
 past byte (first ∷ rest) = if first == byte then Some rest else None
 
--- so many digits are a number from 0 to 191 without zeros ahead
+-- this many digits are a number from 0 to 191 without zeros ahead
 abbrev pub is_priority : ℕ → ℕ → List ℕ → Bool
 is_priority digits number inside =
     nat_le 1 digits && (((digits == 1) || not (slice_index inside 0 == 48)) && nat_le number 191)

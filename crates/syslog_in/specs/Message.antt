@@ -45,7 +45,7 @@ abbrev pub IsTime : List ℕ → Option ℤ → Type 0
 IsTime text None = text ≡ nil
 IsTime text (Some moment) = IsTimestamp text moment
 
--- one to so many visible bytes; NILVALUE is one of these
+-- one to this many visible bytes; NILVALUE is one of these
 pub record IsName (most : ℕ) (text : List ℕ) : Type 0 where
   pub some : 0 < length text
   pub few : length text ≤ most
@@ -92,7 +92,7 @@ header_source header rest =
 abbrev pub is_special : ℕ → Bool
 is_special byte = (byte == 34) || (byte == 92) || (byte == 93)
 
--- A byte, a special one behind a backslash, or a backslash before a byte that is not special.
+-- A byte, a special one after a backslash, or a backslash before a byte that is not special.
 pub data Character : Type 0 where
   plain : ℕ → Character
   escaped : ℕ → Character

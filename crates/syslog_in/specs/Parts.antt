@@ -6,7 +6,7 @@ use Rattle.syslog_in.specs.declared.fault.MessageFault.{MessageFault}
 use Rattle.syslog_in.specs.declared.fault.MessageFault.TheVariants.{BadPri, BadVersion, BadTime, BadHeader, BadData}
 use Rattle.syslog_in.specs.declared.fault.MessageFault.TheVariants.{Memory}
 
--- the parts between PRI and STRUCTURED-DATA, each with a blank behind it
+-- the parts between PRI and STRUCTURED-DATA, each with a blank after it
 pub data Part : Type 0 where
   version : Part
   timestamp : Part
@@ -36,7 +36,7 @@ pub record Stands (IsSo : List ℕ → Type 0) (text rest : List ℕ) : Type 0 w
   pub spelled : text ≡ part ++ after
   pub behind : Behind after rest
 
--- Parts stand one behind another.
+-- Parts stand one after another.
 abbrev pub AreParts : List Part → List ℕ → List ℕ → Type 0
 AreParts [] text rest = text ≡ rest
 AreParts (part ∷ parts) text rest = (middle : List ℕ) × Stands (IsPart part) text middle × AreParts parts middle rest
@@ -48,7 +48,7 @@ pub record BeginsWithPri (text rest : List ℕ) : Type 0 where
   pub is_priority : IsPriority digits priority
   pub spelled : text ≡ 60 ∷ (digits ++ 62 ∷ rest)
 
--- The parts before stand behind PRI, and this one does not follow them, at this place.
+-- The parts before stand after PRI, and this one does not follow them, at this place.
 pub record LacksPart (text : List ℕ) (before : List Part) (part : Part) (at : ℕ) : Type 0 where
   pub start : List ℕ
   pub rest : List ℕ
@@ -85,7 +85,7 @@ pub record LacksData (text : List ℕ) (at : ℕ) : Type 0 where
   pub lacks : BeginsWithData rest → ⊥
   pub at_is : at ≡ length text - length rest
 
--- Each fault names the first part from the left that is not in the grammar. Want of memory says nothing of the bytes.
+-- Each fault names the first part from the left that is not in the grammar. Out of memory says nothing of the bytes.
 abbrev pub IsMessageFault : MessageFault → List ℕ → Type 0
 IsMessageFault BadPri text = (rest : List ℕ) → BeginsWithPri text rest → ⊥
 IsMessageFault BadVersion text = (at : ℕ) × LacksPart text [] version at

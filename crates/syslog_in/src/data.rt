@@ -48,7 +48,7 @@ fn name_len(text: &[u8]) -> usize
     text.iter().take_while(|byte| is_name_byte(**byte)).count()
 }
 
-/// The name at the start, and what follows it.
+/// Returns the name at the start, and what follows it.
 #[tactic(auto, unfolding(crate::specs::DataReading::name_at))]
 fn name_at(text: &[u8]) -> Option<(&str, &[u8])>
     ensures { option_map (λ x. (x.0.now, x.1.now)) result ≡ name_at text.now }
@@ -61,7 +61,7 @@ fn name_at(text: &[u8]) -> Option<(&str, &[u8])>
     Some((unsafe { std::str::from_utf8_unchecked(name) }, rest))
 }
 
-/// How many bytes stand for themselves, up to the first quotation mark, backslash or bracket.
+/// Returns how many bytes stand for themselves, up to the first quotation mark, backslash or bracket.
 fn plain_len(text: &[u8]) -> usize
     ensures { result ≡ prefix_len is_plain text.now }
 {
@@ -76,7 +76,7 @@ fn plain_len(text: &[u8]) -> usize
 enum RunEnd<'a> {
     /// The quotation mark, and what follows it.
     Quote(&'a [u8]),
-    /// A backslash, the byte behind it, and what follows both.
+    /// A backslash, the byte after it, and what follows both.
     Escape(u8, &'a [u8]),
     /// What may not stand in a value.
     Nothing,
@@ -109,7 +109,7 @@ fn push_escaped(byte: u8, out: &mut Vec<u8>) -> Result<(), AllocError>
     Ok(())
 }
 
-/// Appends the value behind its opening quotation mark, and gives what follows the closing one.
+/// Appends the value after its opening quotation mark, and gives what follows the closing one.
 fn value<'a>(text: &'a [u8], out: &mut Vec<u8>) -> Result<Option<&'a [u8]>, AllocError>
     ensures { IfOk result (λ found. GivesValue (value_at text.now) out.old.items out.new.items
         (option_map (λ rest. rest.now) found)) }
@@ -129,7 +129,7 @@ fn value<'a>(text: &'a [u8], out: &mut Vec<u8>) -> Result<Option<&'a [u8]>, Allo
     }
 }
 
-/// The name of a parameter's field. Most are short, and take no memory of their own.
+/// Returns the name of a parameter's field. Most are short, and take no memory of their own.
 fn field_name(alloc: Global, id: &str, name: &str) -> Result<Text, AllocError>
     ensures { IfOk result (λ field. field ≡ id.now ++ 46 ∷ name.now) }
 {
@@ -139,7 +139,7 @@ fn field_name(alloc: Global, id: &str, name: &str) -> Result<Text, AllocError>
     Ok(field)
 }
 
-/// Sets the field of this name to the value behind its opening quotation mark, and gives what follows the closing one.
+/// Sets the field of this name to the value after its opening quotation mark, and gives what follows the closing one.
 /// A value with a backslash is put together in `room`, any other is taken from where it stands.
 fn set_value<'a>(
     alloc: Global,
@@ -165,7 +165,7 @@ fn set_value<'a>(
     Ok(Some(rest))
 }
 
-/// Sets the field of the parameter behind a blank, and gives what follows it.
+/// Sets the field of the parameter after a blank, and gives what follows it.
 fn set_param<'a>(
     alloc: Global,
     id: &str,
@@ -216,7 +216,7 @@ fn set_params<'a>(
     }
 }
 
-/// Sets the fields of the element behind its opening bracket, and gives what follows the closing one.
+/// Sets the fields of the element after its opening bracket, and gives what follows the closing one.
 fn set_element<'a>(
     alloc: Global,
     text: &'a [u8],
@@ -234,7 +234,7 @@ fn set_element<'a>(
     }
 }
 
-/// Sets the fields of all elements, of which the first is behind its opening bracket, and gives what follows them.
+/// Sets the fields of all elements, of which the first is after its opening bracket, and gives what follows them.
 fn set_elements<'a>(
     alloc: Global,
     text: &'a [u8],

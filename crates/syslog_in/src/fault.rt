@@ -1,4 +1,4 @@
-//! Why a stream gives no more messages, and why bytes are no message.
+//! Why a stream gives no more messages, and why bytes are not a message.
 ghost use Rattle.std.specs.Prelude.{◌≡◌};
 ghost use Rattle.syslog_in.specs.declared.fault.FrameFault.TheVariants.{Memory};
 ghost use Rattle.syslog_in.specs.declared.fault.MessageFault.TheVariants as faults;
@@ -50,8 +50,8 @@ impl From<AllocError> for FrameFault {
     }
 }
 
-/// Why bytes are no message: the first part from the left that is not in the grammar (RFC 5424, section 6). `at` is the
-/// place where that part starts, or the number of all bytes where the message ends before it.
+/// Why bytes are not a message: the first part from the left that is not in the grammar (RFC 5424, section 6). `at` is
+/// the place where that part starts, or the number of all bytes where the message ends before it.
 #[derive(Clone, Copy, Debug, PartialEq, Eq)]
 pub enum MessageFault {
     /// No PRI of 0 to 191 in angle brackets.

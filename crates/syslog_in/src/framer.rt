@@ -27,7 +27,7 @@ impl StreamEnd {
     }
 }
 
-/// Cuts a stream into its messages, however it comes in pieces. It keeps the unfinished frame alone.
+/// Cuts a stream into its messages, however it comes in pieces. It keeps the unfinished frame only.
 #[derive(Drop)]
 pub struct Framer {
     start: u64,
@@ -50,7 +50,7 @@ impl Model for Framer {
 impl Framer {
     ghost use Rattle.syslog_in.specs.Framer.{HasTaken, Completes, IsFeedFault, Ends, IsCut, end_after, place};
 
-    /// A framer at the start of a stream. This allocates nothing.
+    /// Returns a framer at the start of a stream. This allocates nothing.
     pub fn new(alloc: Global) -> Framer
         ensures fresh { HasTaken result [] }
         // Bytes are whole frames and a rest in one way, so that cuttings make no difference.

@@ -1,4 +1,4 @@
-//! Messages, one behind another in one buffer.
+//! Messages, one after another in one buffer.
 ghost use Rattle.std.specs.Prelude.{◌≡◌, ◌<◌, ◌++◌, ◌∷◌, [], length, take, slice_get, Some, OnOk, OnErr, IsTrue, ◌↔◌};
 
 use std::alloc::{AllocError, Global};
@@ -41,21 +41,21 @@ impl Frames {
         }
     }
 
-    /// How many texts there are.
+    /// Returns how many texts there are.
     pub fn len(&self) -> usize
         ensures { result ≡ length self.now }
     {
         self.spans.len()
     }
 
-    /// Whether there is no text.
+    /// Returns whether there are no texts.
     pub fn is_empty(&self) -> bool
         ensures { IsTrue result ↔ (self.now ≡ []) }
     {
         self.spans.is_empty()
     }
 
-    /// The text at this place, counted from 0.
+    /// Returns the text at this place, counted from 0.
     pub fn at(&self, i: usize) -> &[u8]
         requires { i < length self.now }
         ensures { slice_get self.now i ≡ Some result.now }
@@ -78,7 +78,7 @@ impl Frames {
         }
     }
 
-    /// Keeps the first texts, so many of them.
+    /// Keeps the first texts, this many of them.
     pub(crate) fn truncate(&mut self, count: usize)
         ensures { self.new ≡ take count self.old }
     {

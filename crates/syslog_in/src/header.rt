@@ -30,7 +30,7 @@ pub(crate) struct Header<'a> {
     pub(crate) names: Names<'a>,
 }
 
-/// Whether so many digits, which say this number, are a number from 0 to 191 without zeros ahead.
+/// Returns whether this many digits, which say this number, are a number from 0 to 191 without zeros ahead.
 fn is_priority(digits: usize, number: usize, inside: &[u8]) -> bool
     requires { digits ≤ length inside.now }
     ensures { result ≡ is_priority digits number inside.now }
@@ -38,7 +38,7 @@ fn is_priority(digits: usize, number: usize, inside: &[u8]) -> bool
     digits >= 1 && (digits == 1 || inside[0] != b'0') && number <= 191
 }
 
-/// The number of PRI, and what follows it.
+/// Returns the number of PRI, and what follows it.
 #[tactic(auto, unfolding(crate::specs::HeaderReading::priority_at))]
 pub(crate) fn priority(text: &[u8]) -> Option<(u8, &[u8])>
     ensures { option_map (λ x. (x.0, x.1.now)) result ≡ priority_at text.now }
@@ -58,7 +58,7 @@ pub(crate) fn priority(text: &[u8]) -> Option<(u8, &[u8])>
     }
 }
 
-/// What stands behind the version.
+/// Returns what stands after the version.
 pub(crate) fn past_version(text: &[u8]) -> Option<&[u8]>
     ensures some { IfSome result (λ rest. Stands (IsPart version) text.now rest.now) }
     ensures rest { IfSome result (λ rest. rest.now ≡ behind_part text.now) }
@@ -77,14 +77,14 @@ fn ends_with_offset(text: &[u8]) -> bool
     matches!(text, [.., b'Z'] | [.., b'+' | b'-', _, _, _, _, _])
 }
 
-/// Whether the text has a `T` where RFC 3339 has a mark, and ends with an offset.
+/// Returns whether the text has a `T` where RFC 3339 has a mark, and ends with an offset.
 fn has_form(text: &[u8]) -> bool
     ensures { result ≡ has_form text.now }
 {
     text.len() > 10 && text[10] == b'T' && ends_with_offset(text)
 }
 
-/// The moment of a timestamp that is not nil.
+/// Returns the moment of a timestamp that is not nil.
 fn moment(part: &[u8]) -> Option<i64>
     ensures some { IfSome result (λ moment. IsTimestamp part.now moment) }
     ensures only { IfSome result (λ moment. (other : ℤ) → IsTimestamp part.now other → other ≡ moment) }
@@ -109,7 +109,7 @@ fn is_nil(part: &[u8]) -> bool
     matches!(part, [b'-'])
 }
 
-/// The moment of the timestamp, unless it is nil, and what stands behind it.
+/// Returns the moment of the timestamp, unless it is nil, and what stands after it.
 pub(crate) fn time(text: &[u8]) -> Option<(Option<i64>, &[u8])>
     ensures some { IfSome result (λ x. Stands (λ part. IsTime part x.0) text.now x.1.now) }
     ensures only { IfSome result (λ x. (time : Option ℤ) (rest : List ℕ)
@@ -126,7 +126,7 @@ pub(crate) fn time(text: &[u8]) -> Option<(Option<i64>, &[u8])>
     }
 }
 
-/// The names, and what stands behind them; or how many bytes are left where one of them is missing.
+/// Returns the names, and what stands after them; or how many bytes are left where one of them is missing.
 pub(crate) fn read_names(text: &[u8]) -> Result<(Names<'_>, &[u8]), usize>
     ensures names { IfOk result (λ x. AreNames text.now (texts_of x.0) x.1.now) }
     ensures only { IfOk result (λ x. (texts : NameTexts) (rest : List ℕ) → AreNames text.now texts rest
@@ -146,7 +146,7 @@ pub(crate) fn read_names(text: &[u8]) -> Result<(Names<'_>, &[u8]), usize>
     Ok((names, rest))
 }
 
-/// The header of a message, and what stands behind it.
+/// Returns the header of a message, and what stands after it.
 pub(crate) fn read_header(m: &[u8]) -> Result<(Header<'_>, &[u8]), MessageFault>
     ensures some { IfOk result (λ x. HeaderAt m.now x.0.priority x.0.time (texts_of x.0.names) x.1.now) }
     ensures only { IfOk result (λ x. (priority : ℕ) (time : Option ℤ) (texts : NameTexts) (rest : List ℕ)

@@ -25,7 +25,7 @@ pub struct SyslogRow {
     pub fields: FieldList,
 }
 
-/// The name, or nothing where it is nil.
+/// Returns the name, or nothing where it is nil.
 fn unless_nil(name: &str) -> &str
     ensures { result.now ≡ unless_nil name.now }
 {
@@ -52,7 +52,7 @@ fn set_header(
     fields.set(alloc, "severity", digits.format(priority % 8))
 }
 
-/// The message proper, of what follows structured data: without the blank, and without the mark of UTF-8.
+/// Returns the message proper, of what follows structured data: without the blank, and without the mark of UTF-8.
 fn text_of(rest: &[u8]) -> &[u8]
     ensures { result.now ≡ msg_bytes (msg_at rest.now) }
 {
@@ -63,14 +63,14 @@ fn text_of(rest: &[u8]) -> &[u8]
     }
 }
 
-/// The moment and the fields of a message (RFC 5424, section 6). Fields that are nil or empty are left out, and of
-/// parameters with one name the later counts. Bytes that are no UTF-8 become U+FFFD.
+/// Returns the moment and the fields of a message (RFC 5424, section 6). Fields that are nil or empty are left out, and
+/// of parameters with one name the later counts. Bytes that are no UTF-8 become U+FFFD.
 pub fn read_message(alloc: Global, m: &[u8]) -> Result<SyslogRow, MessageFault>
     ensures read { IfOk result (λ row. IsMessage m.now row.time row.fields) }
     // Bytes are one message at most.
     ensures only { IfOk result (λ row. (time : Option ℤ) (fields : List Pair) → IsMessage m.now time fields
         → (time ≡ row.time) × (fields ≡ row.fields)) }
-    // What is refused is no message, unless memory ran out.
+    // What is refused is not a message, unless memory ran out.
     ensures none { IfErr result (λ fault. fault ≢ MessageFault.Memory
         → (time : Option ℤ) (fields : List Pair) → IsMessage m.now time fields → ⊥) }
     ensures fault { IfErr result (λ fault. IsMessageFault fault m.now) }

@@ -9,7 +9,7 @@ ghost use Rattle.syslog_in.specs.Parts.{Behind, Stands};
 
 use memchr::memchr;
 
-/// The bytes up to the first blank, and those behind it.
+/// Returns the bytes up to the first blank, and those after it.
 pub(crate) fn cut(text: &[u8]) -> (&[u8], &[u8])
     ensures part { result.0.now ≡ first_part text.now }
     ensures rest { result.1.now ≡ behind_part text.now }
@@ -20,7 +20,7 @@ pub(crate) fn cut(text: &[u8]) -> (&[u8], &[u8])
     }
 }
 
-/// What follows the byte, if the bytes begin with it.
+/// Returns what follows the byte, if the bytes begin with it.
 pub(crate) fn past(bytes: &[u8], byte: u8) -> Option<&[u8]>
     ensures { option_map (λ rest. rest.now) result ≡ past byte bytes.now }
 {
@@ -42,7 +42,7 @@ fn are_visible(bytes: &[u8]) -> bool
     bytes.iter().all(|byte| is_visible(*byte))
 }
 
-/// The bytes as a text, if they are visible ones.
+/// Returns the bytes as a text, if they are visible ones.
 pub(crate) fn visible(bytes: &[u8]) -> Option<&str>
     ensures some { IfSome result (λ text. text.now ≡ bytes.now) }
     ensures visible { IfSome result (λ _. IsTrue (list_all is_visible bytes.now)) }
@@ -54,14 +54,14 @@ pub(crate) fn visible(bytes: &[u8]) -> Option<&str>
     Some(unsafe { std::str::from_utf8_unchecked(bytes) })
 }
 
-/// How many visible bytes come first.
+/// Returns how many visible bytes come first.
 fn visible_len(text: &[u8]) -> usize
     ensures { result ≡ prefix_len is_visible text.now }
 {
     text.iter().take_while(|byte| is_visible(**byte)).count()
 }
 
-/// What follows a blank, or the end.
+/// Returns what follows a blank, or the end.
 fn behind(after: &[u8]) -> Option<&[u8]>
     ensures some { IfSome result (λ rest. Behind after.now rest.now) }
     ensures none { IfNone result (IsFalse (is_end after.now)) }
@@ -73,7 +73,7 @@ fn behind(after: &[u8]) -> Option<&[u8]>
     }
 }
 
-/// The bytes up to the first blank, if they are visible ones, and those behind it.
+/// Returns the bytes up to the first blank, if they are visible ones, and those after it.
 fn visible_part(text: &[u8]) -> Option<(&str, &[u8])>
     ensures part { IfSome result (λ x. x.0.now ≡ first_part text.now) }
     ensures visible { IfSome result (λ _. IsTrue (list_all is_visible (first_part text.now))) }
@@ -87,8 +87,8 @@ fn visible_part(text: &[u8]) -> Option<(&str, &[u8])>
     Some((unsafe { std::str::from_utf8_unchecked(part) }, rest))
 }
 
-/// The name of at most so many bytes that stands at the start, and what stands behind it; or how many bytes are left
-/// there.
+/// Returns the name of at most this many bytes that stands at the start, and what stands after it; or how many bytes
+/// are left there.
 pub(crate) fn name(text: &[u8], most: usize) -> Result<(&str, &[u8]), usize>
     ensures stands { IfOk result (λ x. Stands (IsName most) text.now x.1.now) }
     ensures name { IfOk result (λ x. x.0.now ≡ first_part text.now) }

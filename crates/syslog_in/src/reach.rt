@@ -1,4 +1,4 @@
-//! Reading the frames of a piece, behind what is kept of an unfinished one.
+//! Reading the frames of a piece, after what is kept of an unfinished one.
 ghost use Rattle.std.specs.Prelude.{◌≡◌, ◌<◌, ◌≤◌, ◌++◌, List, ℕ, length, take, vec_len, OnOk, OnErr, IfOk};
 ghost use Rattle.syslog_in.specs.Framing.{BeginsWithFrames, unless_empty};
 ghost use Rattle.syslog_in.specs.Reading.{Reads, short, step_at, why_step};
@@ -12,7 +12,7 @@ use std::alloc::{AllocError, Global};
 pub(crate) enum Why {
     /// More bytes are needed.
     Short,
-    /// The length has a wrong byte, so far behind the frame's start.
+    /// The length has a wrong byte, so far after the frame's start.
     BadLength { behind: usize },
     TooLong,
 }
@@ -59,7 +59,7 @@ fn read_whole<'a>(bytes: &'a [u8], out: &mut Frames) -> Result<(&'a [u8], Why), 
     }
 }
 
-/// The same, where what follows is kept in place of what was kept, if more bytes can make it a frame.
+/// Returns the same, where what follows is kept in place of what was kept, if more bytes can make it a frame.
 fn read_piece(
     alloc: Global,
     kept: &mut Vec<u8>,
@@ -81,7 +81,7 @@ fn read_piece(
     })
 }
 
-/// How many bytes more are surely of the frame that was begun.
+/// Returns how many bytes more are surely of the frame that was begun.
 fn wanted(kept: &[u8], piece: &[u8]) -> usize
     requires { 0 < length piece.now }
     ensures some { 0 < result }
@@ -119,7 +119,7 @@ fn complete(kept: &mut Vec<u8>, piece: &[u8]) -> Result<usize, AllocError>
     Ok(used)
 }
 
-/// Reads a piece behind what is kept of an unfinished frame, which may be nothing.
+/// Reads a piece after what is kept of an unfinished frame, which may be nothing.
 pub(crate) fn read_on(
     alloc: Global,
     kept: &mut Vec<u8>,
@@ -153,7 +153,7 @@ pub(crate) fn read_on(
     }
 }
 
-/// A stop in the frame that was begun.
+/// Returns a stop in the frame that was begun.
 fn begun(why: Why) -> Stop
     ensures passed { result.passed ≡ 0 }
     ensures why { result.why ≡ why }

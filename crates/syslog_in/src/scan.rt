@@ -21,7 +21,7 @@ pub(crate) enum Scan<'a> {
     TooLong,
 }
 
-/// How many digits the bytes begin with, and what they say. Nothing if that is beyond the limit of a frame.
+/// Returns how many digits the bytes begin with, and what they say. Nothing if that is beyond the limit of a frame.
 #[tactic(auto, unfolding(crate::specs::Reading::length_at))]
 pub(crate) fn length_at(bytes: &[u8]) -> Option<(usize, usize)>
     ensures value { result ≡ length_at bytes.now }
@@ -40,7 +40,7 @@ pub(crate) fn length_at(bytes: &[u8]) -> Option<(usize, usize)>
     Some((bytes.len(), value))
 }
 
-/// How many bytes come before the first line feed, or all of them.
+/// Returns how many bytes come before the first line feed, or all of them.
 pub(crate) fn line_len(bytes: &[u8]) -> usize
     ensures value { result ≡ line_len bytes.now }
     ensures bound { result ≤ length bytes.now }
@@ -51,7 +51,7 @@ pub(crate) fn line_len(bytes: &[u8]) -> usize
     }
 }
 
-/// A line without the carriage return at its end.
+/// Returns a line without the carriage return at its end.
 fn without_return(line: &[u8]) -> &[u8]
     ensures { result.now ≡ without_return line.now }
 {
@@ -96,7 +96,7 @@ fn line_at(bytes: &[u8]) -> Scan<'_>
     }
 }
 
-/// Whether the bytes begin with a digit from 1 to 9, and so with a length.
+/// Returns whether the bytes begin with a digit from 1 to 9, and so with a length.
 pub(crate) fn begins_length(bytes: &[u8]) -> bool
     ensures { result ≡ begins_length bytes.now }
 {

@@ -1,8 +1,8 @@
-//! Reads a case on each line and writes what it comes to. Behind `message ` stands a message: it writes its moment and
-//! its fields, or why there is none. Behind `frames ` stand the pieces of a stream, and a point where the input ends:
+//! Reads a case on each line and writes its result. After `message ` stands a message: it writes its moment and
+//! its fields, or why there is none. After `frames ` stand the pieces of a stream, and a point where the input ends:
 //! it writes for each of them the messages that come, and the fault if there is one.
 //!
-//! A byte that is no visible ASCII stands as `\0a;`, and so many of one as `\61x65536;`.
+//! A byte that is not visible ASCII is written as `\0a;`, and n of the same as `\61x65536;`.
 //!
 //! The answers in `stdout` are not the program's own: they come from a second reading of the same rules in Python.
 #![tactic(auto)]

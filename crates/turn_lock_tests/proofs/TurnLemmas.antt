@@ -14,12 +14,12 @@ use Rattle.turn_lock.proofs.Laws.{length-whats, each_stranger, numbers-found, mi
 use Rattle.turn_lock_tests.specs.Log.{last_of}
 use Rattle.turn_lock_tests.specs.OneTurn.{GoesOn, StandsAt}
 
--- each of strangers' entries is this one or a stranger's
+-- each of other callers' entries is this one or another caller's
 strangers_too : (passes : ℕ) (ns : List ℕ) (own : Entry ℕ) (es : List (Entry ℕ)) → AreStrangers passes ns es
     → All (λ e. (e ≡ own) ⊎ IsStranger passes ns e) es
 strangers_too passes ns own es s = λ k d lt. inr (each_stranger passes ns es s k d lt)
 
--- A turn without a commit adds strangers' entries alone.
+-- A turn without a commit adds other callers' entries only.
 pub goes_on-found : (own : Entry ℕ) (p q r : PassState ℕ) → Finds p q → r ≡ after_turn q → GoesOn own p r
 goes_on-found own p q r f e =
     let c = f.knows in
@@ -36,7 +36,7 @@ last-committed x y p q r f e same =
     ap (λ s. s.seen) e ∙ ap (λ ns. q.seen ++ made (maker_of ns) y ∷ []) (numbers-found p q f) ∙ ap
     (λ z. q.seen ++ made (maker_of p.numbers) z ∷ []) same
 
--- A turn with a commit adds strangers' entries and the pass's own.
+-- A turn with a commit adds other callers' entries and the pass's own.
 pub goes_on-committed : (x y : ℕ) (p q r : PassState ℕ) → Finds p q → r ≡ after_turn (committed y q) → y ≡ x
     → GoesOn (made (maker_of p.numbers) x) p r
 goes_on-committed x y p q r f e same =

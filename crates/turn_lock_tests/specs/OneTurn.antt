@@ -4,7 +4,7 @@ use Rattle.turn_lock.specs.declared.view.Entry.{Entry}
 use Rattle.turn_lock.specs.Passes.{PassState}
 use Rattle.turn_lock.specs.Entries.{IsStranger}
 
--- What is seen begins with what was seen before. Each further entry is this one, or a stranger's.
+-- What is seen begins with what was seen before. Each further entry is this one, or another caller's.
 pub record GoesOn (own : Entry ℕ) (old new : PassState ℕ) : Type 0 where
   pub rest : List (Entry ℕ)
   pub begins : new.seen ≡ old.seen ++ rest
@@ -18,7 +18,7 @@ pub record TakesOneTurn (old new : PassState ℕ) : Type 0 where
   pub draws : new.draws ≡ old.draws
   pub may_settle : new.may_settle ≡ old.may_settle
 
--- The mark is no lower, and that of a pass that may settle is as before.
+-- The mark is not lower, and that of a pass that may settle is as before.
 pub record KeepsMark (old new : PassState ℕ) : Type 0 where
   pub rises : old.mark ≤ new.mark
   pub stays : 0 < old.may_settle → new.mark ≡ old.mark

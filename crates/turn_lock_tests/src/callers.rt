@@ -10,7 +10,7 @@ use std::alloc::{AllocError, Global};
 use std::sync::Wait;
 use turn_lock::{Pass, SplitFault, TurnLock};
 
-/// A lock over no number.
+/// Returns a lock over no number.
 pub fn fresh<R>(
     rt: &R,
     alloc: Global,
@@ -23,7 +23,7 @@ pub fn fresh<R>(
     TurnLock::new(rt, alloc, Log::empty(alloc), passes)
 }
 
-/// Why the pass of a lock with one number is not split.
+/// Returns why the pass of a lock with one number is not split.
 pub fn fault_of_one<R>(rt: &R, alloc: Global) -> Result<SplitFault, AllocError>
     ensures { IfOk result (λ fault. fault ≡ SplitFault.Spent 1) }
 {

@@ -9,7 +9,7 @@ use turn_lock::Stands;
 /// How many numbers a log has room for beyond the settled ones.
 const ROOM: u64 = 8_000;
 
-/// Numbers, of which the first so many are settled.
+/// Numbers, of which the first n are settled.
 #[derive(Drop)]
 pub struct Log {
     pub items: Vec<u64>,
@@ -64,7 +64,7 @@ impl Stands for Log {
 }
 
 impl Log {
-    /// A log of no number.
+    /// Returns a log of no number.
     pub fn empty(alloc: Global) -> Log
         ensures { (result.items.items ≡ []) × (result.settled ≡ 0) }
     {

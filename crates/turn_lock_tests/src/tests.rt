@@ -64,7 +64,7 @@ fn found_in_order<R: Wait>(rt: &R, lock: &TurnLock<Log>, pass: &mut Pass<Log>) -
     found
 }
 
-// The log has no room for a number more.
+// Returns the log has no room for a number more.
 fn is_full<R: Wait>(rt: &R, lock: &TurnLock<Log>, pass: &mut Pass<Log>) -> bool
     requires { IsPassOf lock.now pass.old }
 {

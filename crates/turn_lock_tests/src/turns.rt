@@ -27,7 +27,7 @@ pub fn insert<R: Wait>(
     ensures turn { TakesOneTurn pass.old pass.new }
     ensures mark { KeepsMark pass.old pass.new }
 
-    // What was seen goes on. Each further entry is the given number, which this pass made, or a stranger's.
+    // What was seen goes on. Each further entry is the given number, which this pass made, or another caller's.
     ensures adds { GoesOn (made (maker_of pass.old.numbers) number) pass.old pass.new }
 
     // The given number is the last. It is the one place more of the pass's own.
@@ -53,7 +53,7 @@ pub fn insert<R: Wait>(
     }
 }
 
-/// How many numbers there are, and how many of them are settled.
+/// Returns how many numbers there are, and how many of them are settled.
 pub fn status<R: Wait>(rt: &R, lock: &TurnLock<Log>, pass: &mut Pass<Log>) -> (u64, u64)
     requires { IsPassOf lock.now pass.old }
     ensures lock { IsPassOf lock.now pass.new }

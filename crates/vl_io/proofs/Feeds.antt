@@ -32,7 +32,7 @@ first_feed (x ∷ xs) (suc i) within feed before =
     let rest = first_feed xs i (omega arith) feed (λ k below. before (suc k) (omega arith)) in
     (skip x (take (suc i) xs) (before 0 (omega arith)) ∙ rest.0, ap (λ l. x ∷ l) rest.1)
 
--- so many lines end there, and so many are missing
+-- this many lines end there, and this many are missing
 pub record Counts (bytes : List ℕ) (lines end missing : ℕ) : Type 0 where
   pub within : end ≤ length bytes
   pub counted : count_by is_feed (take end bytes) + missing ≡ lines
@@ -87,7 +87,7 @@ counts_all bytes lines end missing some before none =
     let ends = before.ends (omega arith) in
     record { feeds = omega (arith, before.counted); front = ends.0; ends = ends.1 }
 
--- lines behind lines
+-- lines after lines
 pub lines_after : (bytes : List ℕ) (seen end missing lines : ℕ) → count_by is_feed (take seen bytes) + missing ≡ lines
     → seen ≤ length bytes
     → end ≤ length (drop seen bytes) → AreLines missing (take end (drop seen bytes)) → (seen + end ≤ length bytes)

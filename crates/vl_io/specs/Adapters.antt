@@ -1,4 +1,4 @@
--- What stands behind the forms over std's readers, writers and listeners.
+-- What stands after the forms over std's readers, writers and listeners.
 use Rattle.std.specs.Prelude.{ℕ, Bool, is_some}
 use Rattle.vl_io.specs.declared.adapters.InputSource.{InputSource}
 use Rattle.vl_io.specs.declared.adapters.OutputSink.{OutputSink}

@@ -39,7 +39,7 @@ Took sink text = Appends sink.bytes_before sink.bytes_after text
 abbrev pub IsUntold : Change → Type 0
 IsUntold sink = sink.bytes_after ≡ sink.bytes_before
 
--- The sink took `sure`, and of the text behind it a proper prefix alone, since it failed.
+-- The sink took `sure`, and of the text after it a proper prefix only, since it failed.
 pub record IsCut (sink : Change) (sure text : List ℕ) : Type 0 where
   pub len : ℕ
   pub proper : len < length text

@@ -6,7 +6,7 @@ use Rattle.vl_io.specs.Bytes.{Consumes, IsAtEnd}
 abbrev pub is_feed : ℕ → Bool
 is_feed byte = byte == 10
 
--- so many lines, each with its line feed
+-- this many lines, each with its line feed
 pub record AreLines (count : ℕ) (bytes : List ℕ) : Type 0 where
   pub feeds : count_by is_feed bytes ≡ count
   pub front : List ℕ
@@ -20,7 +20,7 @@ AreFewer lines bytes = count_by is_feed bytes < lines
 abbrev pub piece_len : ℕ
 piece_len = 65_536
 
--- Where so many lines end. Behind that lie no more bytes than these. Without an answer there are fewer lines, and the
+-- Where this many lines end. After that lie no more bytes than these. Without an answer there are fewer lines, and the
 -- source has no more.
 abbrev pub IsLinesEnd : ℕ → ℕ → List ℕ → Option (List ℕ) → Option ℕ → Type 0
 IsLinesEnd lines most bytes left place =
@@ -36,12 +36,12 @@ pub record Reading : Type 0 where
   -- how many bytes came before the group
   pub passed : ℕ
   pub group : List ℕ
-  -- what was read behind the group
+  -- what was read after the group
   pub ahead : List ℕ
   -- whether the source ended
   pub ended : Bool
 
--- so many bytes the source gave
+-- this many bytes the source gave
 abbrev pub bytes_read : Reading → ℕ
 bytes_read reading = reading.passed + length reading.group + length reading.ahead
 
@@ -60,13 +60,13 @@ IsGroup reading =
     ⊎ ((0 < length reading.group) × AreFewer reading.lines reading.group
     × (reading.ahead ≡ []) × (reading.ended ≡ true))
 
--- A piece was read behind the group, but not all lines of another one.
+-- A piece was read after the group, but not all lines of another one.
 pub record FallsShort (old : Reading) (left_old left_new : Option (List ℕ)) : Type 0 where
   pub piece : List ℕ
   pub consumed : Consumes left_old left_new piece
   pub fewer : AreFewer old.lines (old.ahead ++ piece)
 
--- All that may be read was read behind the group, but not all lines of another one, and the source gave one byte more.
+-- All that may be read was read after the group, but not all lines of another one, and the source gave one byte more.
 pub record IsTooLong (old : Reading) (left_old left_new : Option (List ℕ)) : Type 0 where
   pub piece : List ℕ
   pub more : List ℕ

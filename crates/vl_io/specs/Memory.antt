@@ -16,7 +16,7 @@ pub record SourceState : Type 0 where
   pub calls : ℕ
   pub faults : ℕ
 
--- how many bytes a read into so much room gives: past the list of pieces only the room limits it
+-- how many bytes a read into this much room gives: past the list of pieces only the room limits it
 abbrev pub read_count : SourceState → ℕ → ℕ
 read_count source room = min (min (slice_index_or source.pieces source.calls room) room) (length source.left)
 
@@ -36,7 +36,7 @@ pub record ClockState : Type 0 where
 abbrev pub moment_at : List ℤ → ℕ → ℤ
 moment_at moments call = slice_index_or moments (min call (length moments - 1)) (pos 0)
 
--- the moments that so many calls gave
+-- the moments that this many calls gave
 abbrev pub moments_of : List ℤ → ℕ → List ℕ
 moments_of moments zero = []
 moments_of moments (suc calls) = moments_of moments calls ++ unsigned_abs (moment_at moments calls) ∷ []

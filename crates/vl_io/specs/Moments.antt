@@ -1,5 +1,5 @@
 -- The moments that a clock gives, in nanoseconds since the start of 1970.
--- A clock may tell which it gave so far. It may stop telling, and does not begin anew.
+-- A clock may tell which it gave so far. It may stop telling, and does not begin again.
 use Rattle.std.specs.Prelude.{◌≡◌, ℕ, ◌^◌, ◌<◌, ℤ, pos, unsigned_abs, List, [], ◌∷◌, ◌++◌, Option, None, Some, ⊤}
 
 -- t is in 0..2^63

@@ -21,7 +21,7 @@ pub struct InputSource<R> {
 }
 
 impl<R: Read> InputSource<R> {
-    /// A source that gives what the reader has left.
+    /// Returns a source that gives what the reader has left.
     pub fn new(reader: R) -> InputSource<R>
         ensures reader { reader_of result ≡ reader }
         ensures faults { read_faults result ≡ 0 }
@@ -60,7 +60,7 @@ pub struct OutputSink<W> {
 }
 
 impl<W: Write> OutputSink<W> {
-    /// A sink that writes to the writer, and never flushes it.
+    /// Returns a sink that writes to the writer, and never flushes it.
     pub fn new(writer: W) -> OutputSink<W>
         ensures writer { writer_of result ≡ writer }
         ensures faults { write_faults result ≡ 0 }
@@ -74,7 +74,7 @@ impl<W: Write> Sink for OutputSink<W> {
 
     ghost faults = { write_faults };
 
-    /// A writer that takes no byte of a piece that has some failed.
+    /// Returns a writer that takes no byte of a piece that has some failed.
     fn write(&mut self, piece: &[u8]) -> Result<usize, Failed>
         ensures bound { TakesSome result piece.now }
         ensures bytes { WriteAppends None None result piece.now }
@@ -103,7 +103,7 @@ pub struct SystemClock<R> {
 }
 
 impl<R: SystemTimer> SystemClock<R> {
-    /// The clock of this runtime.
+    /// Returns the clock of this runtime.
     pub fn new(rt: R) -> SystemClock<R>
         ensures { ⟦<SystemClock<R> as Clock>⟧.moments result ≡ None }
     {

@@ -12,13 +12,13 @@ use memchr::memchr;
 use std::alloc::{AllocError, Global};
 use std::marker::Model;
 
-/// Reads a source in groups of so many lines, in large pieces. The last group has what is left.
+/// Reads a source in groups of this many lines, in large pieces. The last group has what is left.
 #[derive(Drop)]
 pub struct GroupReader {
     lines: usize,
     limit: usize,
     passed: usize,
-    /// The group, and what was read behind it.
+    /// The group, and what was read after it.
     bytes: Vec<u8>,
     /// Where the group ends.
     end: usize,
@@ -46,7 +46,8 @@ impl Model for GroupReader {
 }
 
 impl GroupReader {
-    /// A reader that has read nothing yet. It gives groups of so many lines, and takes in no more than `limit` bytes.
+    /// Returns a reader that has read nothing yet. It gives groups of this many lines, and reads no more than `limit`
+    /// bytes.
     pub fn of(alloc: Global, lines: usize, limit: usize) -> Result<GroupReader, AllocError>
         requires { 0 < lines }
         ensures { IfOk result (λ reader. reader ≡ record {
@@ -69,7 +70,7 @@ impl GroupReader {
         })
     }
 
-    /// The group that was read last, with its line feeds. There is none before the first call of `advance`.
+    /// Returns the group that was read last, with its line feeds. There is none before the first call of `advance`.
     pub fn group(&self) -> &[u8]
         ensures { result.now ≡ self.now.group }
     {
@@ -83,7 +84,7 @@ impl GroupReader {
         ensures group { result ≡ Ok true → IsGroup self.new }
         ensures over { result ≡ Ok false → IsOver self.new }
 
-        // No more than one piece was read behind the group.
+        // No more than one piece was read after the group.
         ensures ahead { OnOk result (length self.new.ahead ≤ max (length self.old.ahead) piece_len) }
 
         // The source is at its end, and is not asked again.
@@ -125,7 +126,7 @@ impl GroupReader {
     }
 }
 
-/// Reads until there are so many lines, and says where they end. Where the source ends before, the answer is `None`.
+/// Reads until there are this many lines, and says where they end. Where the source ends before, the answer is `None`.
 fn read_lines<S: Source>(
     source: &mut S,
     piece: &mut [u8],
@@ -163,7 +164,7 @@ fn read_lines<S: Source>(
     }
 }
 
-/// Where so many lines end, or how many are missing.
+/// Returns where this many lines end, or how many are missing.
 fn lines_end(bytes: &[u8], lines: usize) -> Result<usize, usize>
     requires { 0 < lines }
     ensures ok { IfOk result (λ end. (end ≤ length bytes.now) × AreLines lines (take end bytes.now)) }

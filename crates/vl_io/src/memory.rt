@@ -43,7 +43,7 @@ impl Model for MemSource {
 }
 
 impl MemSource {
-    /// A source that gives these bytes. Read k, counted from 0, gives at most `pieces[k]` bytes, and
+    /// Returns a source that gives these bytes. Read k, counted from 0, gives at most `pieces[k]` bytes, and
     /// past the list's end as many as fit. The reads whose numbers are in `failing` fail.
     pub fn of(
         alloc: Global,
@@ -135,7 +135,7 @@ impl Model for MemSink {
 }
 
 impl MemSink {
-    /// A sink with nothing written. The writes whose numbers, counted from 0, are in `failing` fail.
+    /// Returns a sink with nothing written. The writes whose numbers, counted from 0, are in `failing` fail.
     pub fn of(alloc: Global, failing: &[u64]) -> Result<MemSink, AllocError>
         ensures { IfOk result (λ sink. sink ≡ record {
           written = [];
@@ -152,7 +152,7 @@ impl MemSink {
         })
     }
 
-    /// What was written.
+    /// Returns what was written.
     pub fn bytes(&self) -> &[u8]
         ensures { result.now ≡ self.now.written }
     {
@@ -165,7 +165,7 @@ impl Sink for MemSink {
 
     ghost faults = { λ s. s.faults };
 
-    /// Writes the whole piece. Want of memory counts as a fault.
+    /// Writes the whole piece. Out of memory counts as a fault.
     fn write(&mut self, piece: &[u8]) -> Result<usize, Failed>
         ensures bound { TakesSome result piece.now }
         ensures bytes { WriteAppends (Some self.old.written) (Some self.new.written) result piece.now }
@@ -208,7 +208,7 @@ impl Model for MemClock {
 }
 
 impl MemClock {
-    /// A clock that gives these moments in turn, and then the last again.
+    /// Returns a clock that gives these moments in turn, and then the last again.
     pub fn of(alloc: Global, moments: &[i64]) -> Result<MemClock, AllocError>
         requires not_empty { 0 < length moments.now }
         requires in_range { All IsMoment moments.now }

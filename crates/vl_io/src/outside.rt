@@ -61,7 +61,7 @@ pub trait Clock {
     // The moments that `now` gave so far, where the clock tells them.
     ghost moments: { Self → Option (List ℕ) };
 
-    /// The moment in nanoseconds since the start of 1970, in `0..2^63`.
+    /// Returns the moment in nanoseconds since the start of 1970, in `0..2^63`.
     fn now(&mut self) -> i64
         ensures in_range { IsMoment result }
         ensures told { Tells (moments self.old) (moments self.new) result };
@@ -110,8 +110,8 @@ pub trait Doors {
     // How often the doors failed.
     ghost faults: { Self → ℕ };
 
-    /// The next visit, which is then one less that is left. `None` says that no visit is left. A call that fails
-    /// takes none. The visit that was given before is over: a call may first bring its connection to an end, as
+    /// Returns the next visit, which is then one less that is left. `None` says that no visit is left. A call that
+    /// fails takes none. The visit that was given before is over: a call may first bring its connection to an end, as
     /// `TcpDoors` does.
     fn next(&mut self) -> Result<Option<Visit<Self::S, Self::K, Self::C>>, Failed>
         ensures visits { NextGives (left self.old) (left self.new) result }

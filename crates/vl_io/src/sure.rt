@@ -27,7 +27,7 @@ impl Model for SureSource {
 }
 
 impl SureSource {
-    /// A source that gives these bytes. Read k, counted from 0, gives at most `pieces[k]` bytes, and
+    /// Returns a source that gives these bytes. Read k, counted from 0, gives at most `pieces[k]` bytes, and
     /// past the list's end as many as fit.
     pub fn of(alloc: Global, bytes: &[u8], pieces: &[usize]) -> Result<SureSource, AllocError>
         requires { All (λ piece. 0 < piece) pieces.now }
@@ -71,7 +71,7 @@ impl Source for SureSource {
 pub struct SureSink;
 
 impl SureSink {
-    /// A sink that never fails.
+    /// Returns a sink that never fails.
     pub fn new() -> SureSink
         ensures { ⟦<SureSink as Sink>⟧.written result ≡ None }
     {

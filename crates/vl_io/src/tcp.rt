@@ -53,8 +53,8 @@ impl<R: SystemTimer + Copy> TcpDoors<R> {
         }
     }
 
-    /// So many doors that share one listener at the address, `HOST:PORT`. Where nobody can listen there, they fail at
-    /// each call.
+    /// Returns this many doors that share one listener at the address, `HOST:PORT`. Where no one can listen there, they
+    /// fail at each call.
     pub fn listen(
         rt: R,
         alloc: Global,
@@ -114,8 +114,8 @@ impl<R: SystemTimer + Copy + Drop> Doors for TcpDoors<R> {
     }
 }
 
-/// The next connection that can be served, and a handle on it for when its visit is over. One that its peer gave up
-/// before is passed over. There is none where the listener fails.
+/// Returns the next connection that can be served, and a handle on it for when its visit is over. One that its peer
+/// gave up before is skipped. There is none where the listener fails.
 fn accepted<R: SystemTimer + Copy>(
     rt: R,
     listener: &TcpListener,
@@ -141,7 +141,7 @@ fn accepted<R: SystemTimer + Copy>(
     None
 }
 
-/// A lingering close: sends no more, and passes over what the peer still sends, until it closes, is silent for a
+/// Closes with lingering: sends no more, and ignores what the peer still sends, until it closes, is silent for a
 /// second or has had its time.
 fn linger<R: SystemTimer>(rt: &R, mut stream: TcpStream) -> io::Result<()> {
     stream.shutdown(Shutdown::Write)?;
@@ -157,7 +157,7 @@ fn linger<R: SystemTimer>(rt: &R, mut stream: TcpStream) -> io::Result<()> {
     Ok(())
 }
 
-/// The visit over a connection. What is written to it is sent at once.
+/// Returns the visit over a connection. What is written to it is sent at once.
 fn visit_over<R: SystemTimer + Copy>(
     rt: R,
     stream: TcpStream,

@@ -32,7 +32,7 @@ pub enum ReadFault {
     Failed,
     /// More bytes came than are allowed.
     Long,
-    /// There is no memory for the bytes.
+    /// Memory ran out for the bytes.
     Memory,
 }
 

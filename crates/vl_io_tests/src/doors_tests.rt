@@ -29,7 +29,7 @@ fn doors_of(
     MemDoors::of(alloc, visits, failing)
 }
 
-/// What doors answer: the front of what the next visitor sends, `none` or `failed`.
+/// Returns what doors answer: the front of what the next visitor sends, `none` or `failed`.
 fn answer<'a, D: Doors>(doors: &mut D, buf: &'a mut [u8]) -> &'a [u8] {
     match doors.next() {
         Ok(Some(mut visit)) => match visit.source.read(buf) {

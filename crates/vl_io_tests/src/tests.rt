@@ -49,7 +49,7 @@ impl Read for BrokenReader {
     }
 }
 
-/// What a read gave, and `failed` where it failed.
+/// Returns what a read gave, and `failed` where it failed.
 fn given<'a, S: Source>(source: &mut S, buf: &'a mut [u8]) -> &'a [u8] {
     match source.read(buf) {
         Ok(count) => &buf[..count],
@@ -57,7 +57,7 @@ fn given<'a, S: Source>(source: &mut S, buf: &'a mut [u8]) -> &'a [u8] {
     }
 }
 
-/// Whether a source gives these pieces in turn, into so much room.
+/// Returns whether a source gives these pieces in turn, into this much room.
 fn gives<S: Source>(source: &mut S, room: usize, pieces: &[&str]) -> bool {
     let mut buffer = [0; 4];
     let room = room.min(4);
@@ -79,7 +79,7 @@ fn a_source_gives_its_bytes_in_pieces(rt: HostRuntime) -> Result<(), Fail> {
     Ok(())
 }
 
-/// Whether a writer that fails after so many calls is given the piece so, and this front of it is written.
+/// Returns whether a writer that fails after this many calls is given the piece so, and this front of it is written.
 fn writes(
     alloc: Global,
     calls_left: u32,
@@ -96,7 +96,7 @@ fn writes(
     Ok(answer == want && taken.as_slice() == front.as_bytes())
 }
 
-/// Whether a sink in memory fails at its second call alone, and keeps what it was given at the others.
+/// Returns whether a sink in memory fails at its second call only, and keeps what it was given at the others.
 fn keeps(alloc: Global) -> Result<bool, AllocError> {
     let mut sink = MemSink::of(alloc, &[1])?;
     let first = put_all(&mut sink, b"one,").is_ok() && put_all(&mut sink, b"").is_ok();
@@ -131,7 +131,7 @@ fn a_clock_gives_its_moments_and_then_the_last(rt: HostRuntime) -> Result<(), Fa
     Ok(())
 }
 
-/// Whether a source is read in these groups of two lines, up to so many bytes, and then so ended.
+/// Returns whether a source is read in these groups of two lines, up to this many bytes, and then so ended.
 fn reads(
     alloc: Global,
     source: &mut MemSource,

@@ -8,7 +8,7 @@ use Rattle.ingest_row.specs.Ingest.{Options}
 use Rattle.ingest_row.specs.Intake.{Outcome, rows_read}
 use Rattle.vl_session.specs.Insert.{HasInsertOutcome, insert_effect}
 use Rattle.vl_session.specs.Insertion.{accepted}
-use Rattle.log_desk.specs.Seen.{Caller, Gains, Seen}
+use Rattle.lone_desk.specs.Seen.{Caller, Gains, Seen}
 use Rattle.vl_session.specs.Seen.{Has}
 use Rattle.vl_session.specs.declared.insert.Insertion.{Insertion}
 use Rattle.lone_desk.proofs.Laws.{batches-gained}
@@ -57,7 +57,7 @@ module _ (caller : Caller) (alone : IsAlone caller) (options : Options) (now : �
         },
   )
 
--- A group was taken in.
+-- A group was read.
 pub takes : (arrival : Arrival) (body : List ℕ) (old new : Seen) (insertion : Insertion)
     → (inserts : InsertsAlone arrival.options arrival.moment body old new insertion) → TakesGroup arrival body inserts.2.outcomes old new
 takes arrival body old new insertion (caller, alone, inserts) = record {

@@ -1,10 +1,10 @@
--- Why a group is not taken in.
+-- Why a group is not read.
 use Rattle.std.proofs.Common.{◌≡◌, ℕ, ◌+◌, ◌-◌, ◌^◌, ◌<◌, ◌≤◌, List, length, min, ap, arith}
 use Rattle.log_model.specs.Core.{held_limit}
 use Rattle.log_model.specs.Line.{lines_of}
 use Rattle.log_model.specs.Row.{Batch, Row, batch_weight}
 use Rattle.ingest_row.specs.Intake.{rows_read}
-use Rattle.log_desk.specs.Seen.{Caller, Seen}
+use Rattle.lone_desk.specs.Seen.{Caller, Seen}
 use Rattle.vl_session.specs.Insert.{full, large, spent}
 use Rattle.vl_session.specs.Insertion.{IsRefusal}
 use Rattle.vl_session.specs.Seen.{IsFull}

@@ -1,4 +1,4 @@
--- Whole lines, and what comes behind them.
+-- Whole lines, and what comes after them.
 use Rattle.std.proofs.Common.{◌≡◌, inl, inr, ℕ, ◌+◌, ◌<◌, ◌≤◌, true, false, cond, eqb, List, [], ◌∷◌, ◌++◌, length, refl, ap, sym, subst, ◌∙◌, arith}
 use Rattle.std.proofs.lemmas.List.Sums.{sum_by-cons}
 use Rattle.std.specs.Prelude.{count_by}
@@ -73,7 +73,7 @@ length-lines_of-ended (x ∷ front) =
     ≡ cond t 1 0 + count_by is_feed (front ++ 10 ∷ [])) [ true ↦ feed | false ↦ other ]
     ∙ sym whole
 
--- so many whole lines
+-- this many whole lines
 pub length-lines_of : (count : ℕ) (bytes : List ℕ) → AreLines count bytes → length (lines_of bytes) ≡ count
 length-lines_of count bytes are =
     ap (λ bs. length (lines_of bs)) are.ends ∙ length-lines_of-ended are.front ∙ ap (count_by is_feed) (sym are.ends)

@@ -12,7 +12,7 @@ use Rattle.log_model.specs.Line.{lines_of}
 use Rattle.log_model.specs.Row.{batch_limit, batch_weight}
 use Rattle.log_model.proofs.Lines.{lines_le, lines_of-none}
 use Rattle.ingest_row.specs.Intake.{Outcome, rows_read}
-use Rattle.log_desk.specs.Seen.{Seen}
+use Rattle.lone_desk.specs.Seen.{Seen}
 use Rattle.vl_pipe.specs.Groups.{Arrival, AreGroups, BeginsWith, CanBeHeld, EndsLine, HasOutcome, HaveOutcomes, batches_of, outcomes_in, refusals_from, refusals_of}
 use Rattle.vl_pipe.specs.Program as model
 use Rattle.vl_pipe.specs.Program.{AreFew, HaveNoGroup, IsBeyond}
@@ -174,7 +174,7 @@ fits_more shelf groups group fits light held = record {
   light = AllByRecursion-more (λ g. batch_weight (rows_read g) ≤ batch_limit) groups group fits.light light;
 }
 
--- whole groups, and whatever comes behind them
+-- whole groups, and whatever comes after them
 begins_whole : (arrival : Arrival) (source : Change) (taken rest : List ℕ) (groups : List (List Outcome)) → Gave source
     (taken ++ rest) → length taken ≤ input_limit → EndsLine taken → AreWhole groups
     → HaveOutcomes arrival taken (outcomes_in groups) → BeginsWith arrival source groups
@@ -188,7 +188,7 @@ begins_whole arrival source taken rest groups gave within ends whole given = rec
   grouped = AreGroups-whole groups ((rest ≡ []) × IsSpent source) whole;
 }
 
--- what was read behind the groups, where the next one is of these bytes
+-- what was read after the groups, where the next one is of these bytes
 behind : (taken group ahead before piece : List ℕ) → group ++ ahead ≡ before ++ piece → (taken ++ before) ++ piece
     ≡ taken ++ (group ++ ahead)
 behind taken group ahead before piece e = append_assoc taken before piece ∙ ap (λ l. taken ++ l) (sym e)
@@ -494,7 +494,7 @@ module _ (arrival : Arrival) (left0 left1 left2 : Option (List ℕ)) (s0 s1 s2 :
   both_none [] ys e = (refl, sym e)
   both_none (x ∷ xs) ys e = cc
 
-  -- the input is taken in whole
+  -- the input is read whole
   pub loaded : (l : Until) → (next : Reading) → Advanced left1 left2 reader next → IsOver next
       → (reader.ended ≡ false → next.ended ≡ true → IsAtEnd left2 × (next.ahead ≡ [])) →
       (reader.ended ≡ true → left2 ≡ left1)

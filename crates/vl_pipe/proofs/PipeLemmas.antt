@@ -6,10 +6,10 @@ use Rattle.vl_io.specs.Lines.{is_feed}
 use Rattle.std.specs.Prelude.{count_by}
 use Rattle.vl_io.proofs.Laws.{Appends-trans, Rose-earlier}
 use Rattle.log_model.specs.History.{rows_of}
-use Rattle.lq_ast.specs.Question.{Question}
-use Rattle.lq_ast.specs.Evaluation.{evaluate}
+use Rattle.query_run.specs.Question.{Question}
+use Rattle.query_run.specs.Evaluation.{evaluate}
 use Rattle.query_run.specs.Asked.{IsReadableQuery}
-use Rattle.log_desk.specs.Seen.{Seen}
+use Rattle.lone_desk.specs.Seen.{Seen}
 use Rattle.vl_pipe.specs.Groups.{Arrival, refusals_of}
 use Rattle.vl_pipe.specs.Program as model
 use Rattle.vl_pipe.specs.Program.{AreFew, IsAnswer, IsTakenIn, overflow_text, overflowing, said_of_query, stop_text}
@@ -123,7 +123,7 @@ module _ (text : List ℕ) (arrival : Arrival) (source output errors : Change) (
       named = l.named;
     }
 
-    -- why there is no answer
+    -- why the answer is missing
     pub unanswered : IsReadableQuery text → (interrupt : Interrupt) → HasNoLines text arrival.moment seen.history interrupt
         → ForText text (λ query. StopsPipe query arrival source output errors interrupt)
     unanswered readable Unreadable h = absurd h
@@ -137,7 +137,7 @@ module _ (text : List ℕ) (arrival : Arrival) (source output errors : Change) (
     unanswered readable NoMemory h = (readable.0, readable.1, stops_loaded arrival source errors seen l)
 
 module _ (arrival : Arrival) (source : Change) (err0 err1 err2 : Option (List ℕ)) (f0 f1 f2 : ℕ) where
-  -- what is said after the names
+  -- what is reported after the names
   told_after : (named text : List ℕ) → f0 ≤ f1 → Appends err0 err1 named → IsTold (change err1 err2 f1 f2) [] text
       → IsTold (change err0 err2 f0 f2) named text
   told_after named text stays written (inl whole) = inl (Appends-trans err0 err1 err2 named text written whole)

@@ -5,7 +5,7 @@ use Rattle.log_model.specs.Line.{lines_of}
 use Rattle.log_model.proofs.Lines.{lines_le}
 use Rattle.ingest_row.specs.Intake.{Outcome, passed_over, read, refused, refused_from}
 use Rattle.ingest_row.specs.declared.body.LineFault.{LineFault}
-use Rattle.log_desk.specs.Seen.{Seen}
+use Rattle.lone_desk.specs.Seen.{Seen}
 use Rattle.vl_pipe.specs.Groups.{Arrival, HasOutcome, names_after, refusal_text, refusals_from}
 use Rattle.vl_pipe.specs.Load.{RefusesGroup, StopsGroup}
 use Rattle.vl_pipe.specs.declared.interrupt.Interrupt.{Interrupt}
@@ -52,7 +52,7 @@ pub names : (before : ℕ) (outcomes : List Outcome) (told : List LineFault) →
     → names_after before told ≡ refusals_from (before + 1) outcomes
 names before outcomes told are = ap (names_after before) are ∙ names_from before 1 outcomes
 
--- A group is not taken in, and nothing was named.
+-- A group is not read, and nothing was named.
 pub stops_refused : (arrival : Arrival) (body : List ℕ) (before : ℕ) (old new : Seen) (written : Option (List ℕ))
     (faults_before faults_after : ℕ) (interrupt : Interrupt) → RefusesGroup arrival body old interrupt
     → StopsGroup arrival body before old new (record {

@@ -1,5 +1,5 @@
--- A body that the contract refuses: one that names the refused lines of all groups only at the end of the input. Where the
--- error stream fails at an early name, more lies behind its group than one read gives, and no status says so.
+-- A body that the contract refuses: one that names the refused lines of all groups only at the end of the input. Where
+-- the error stream fails at an early name, more lies after its group than one read gives, and no status says so.
 use Rattle.std.proofs.Common.{◌<◌, length, arith}
 use Rattle.vl_io.specs.Change.{Change}
 use Rattle.vl_io.specs.Lines.{piece_len}

@@ -2,7 +2,7 @@
 use Rattle.std.specs.Prelude.{ℕ, ◌+◌, ◌≤◌, List, [], ◌∷◌, ◌++◌, length}
 use Rattle.vl_io.specs.Change.{Change, Gave, IsCut, IsSpent, IsTold, IsUntold, Took}
 use Rattle.vl_io.specs.Lines.{piece_len}
-use Rattle.lq_ast.specs.Question.{Question}
+use Rattle.query_run.specs.Question.{Question}
 use Rattle.ingest_row.specs.Intake.{Outcome}
 use Rattle.vl_pipe.specs.Groups.{Arrival, BeginsWith, CanBeHeld, outcomes_in, refusals_from, refusals_of}
 use Rattle.vl_pipe.specs.Program.{IsAnswer, Overflow, Overflows, Stop, StopsBehind}
@@ -42,7 +42,7 @@ pub record IsUnanswered (query : Question) (arrival : Arrival) (source errors : 
   pub overflows : Overflows query arrival input refusals cause
   pub said : IsTold errors refusals (said_of_query (overflow_text cause))
 
--- The error stream failed while the refused lines of a group were named, right after it was taken in.
+-- The error stream failed while the refused lines of a group were named, right after it was read.
 pub record IsNamingFault (arrival : Arrival) (source errors : Change) : Type 0 where
   pub groups : List (List Outcome)
   pub group : List Outcome
@@ -56,7 +56,7 @@ pub record IsNamingCut (arrival : Arrival) (source output errors : Change) : Typ
   pub fault : IsNamingFault arrival source errors
   pub unwritten : IsUntold output
 
--- Groups were taken in and their refused lines named. Then the run stopped, and says why.
+-- Groups were read and their refused lines named. Then the run stopped, and says why.
 pub record IsStopped (arrival : Arrival) (source errors : Change) (stop : Stop) : Type 0 where
   pub groups : List (List Outcome)
   pub behind : StopsBehind arrival source groups stop

@@ -77,7 +77,7 @@ EndsLine bytes = (bytes ≡ []) ⊎ ((text : List ℕ) × (bytes ≡ text ++ 10 
 -- an input may lack its line feed.
 pub record BeginsWith (arrival : Arrival) (source : Change) (groups : List (List Outcome)) : Type 0 where
   pub taken : List ℕ
-  -- what it gave behind them
+  -- what it gave after them
   pub rest : List ℕ
   pub gave : Gave source (taken ++ rest)
   pub within : length taken ≤ input_limit
@@ -85,6 +85,6 @@ pub record BeginsWith (arrival : Arrival) (source : Change) (groups : List (List
   pub given : HaveOutcomes arrival taken (outcomes_in groups)
   pub grouped : AreGroups groups ((rest ≡ []) × IsSpent source)
 
--- the names of these lines, where so many came before
+-- the names of these lines, where this many came before
 abbrev pub names_after : ℕ → List LineFault → List ℕ
 names_after before faults = flat_map (λ fault. refusal_text (before + fault.line) fault.kind) faults

@@ -5,3 +5,7 @@ pub mod Load
 pub mod Pipe
 pub mod Program
 pub mod Refused
+pub use Rattle.query_run.specs.Asked
+pub use Rattle.query_run.specs.Query
+pub use Rattle.query_run.specs.declared.query.QueryRefusal
+pub use Rattle.query_run.specs.Question

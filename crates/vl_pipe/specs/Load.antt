@@ -5,7 +5,7 @@ use Rattle.log_model.specs.Core.{held_limit}
 use Rattle.log_model.specs.History.{batches_in}
 use Rattle.log_model.specs.Row.{Batch, Row, batch_limit, batch_weight}
 use Rattle.ingest_row.specs.Intake.{Outcome, rows_read}
-use Rattle.log_desk.specs.Seen.{Seen}
+use Rattle.lone_desk.specs.Seen.{Seen}
 use Rattle.vl_session.specs.Seen.{batches_of_rows}
 use Rattle.vl_pipe.specs.Groups.{Arrival, BeginsWith, CanBeHeld, HaveOutcomes, batches_of, refusals_from, refusals_of}
 use Rattle.vl_pipe.specs.Program as model
@@ -23,14 +23,14 @@ pub record IsHeld (seen : Seen) (batches : List Batch) : Type 0 where
   pub few : length batches ≤ held_limit
   pub settled : seen.settled ≡ 0
 
--- why these rows are not taken in, by what has been seen then
+-- why these rows are not read, by what has been seen then
 abbrev pub IsTooMuch : Seen → List Row → Limit → Type 0
 IsTooMuch seen rows Long = ⊥
 IsTooMuch seen rows (Large weight) = (weight ≡ batch_weight rows) × (batch_limit < weight)
 IsTooMuch seen rows Full =
     (length seen.history ≡ seen.settled + held_limit) × (0 < length rows) × (batch_weight rows ≤ batch_limit)
 
--- why a group is not taken in
+-- why a group is not read
 abbrev pub RefusesGroup : Arrival → List ℕ → Seen → Interrupt → Type 0
 RefusesGroup arrival body seen Unreadable = ⊥
 RefusesGroup arrival body seen Unwritable = ⊥
@@ -45,13 +45,13 @@ AddsRows old new rows =
     (batch_weight rows ≤ batch_limit)
     × ((batches : List Batch) → IsHeld old batches → IsHeld new (batches ++ batches_of_rows rows))
 
--- a group whose lines have these outcomes was taken in
+-- a group whose lines have these outcomes was read
 pub record TakesGroup (arrival : Arrival) (body : List ℕ) (group : List Outcome)
     (old new : Seen) : Type 0 where
   pub intake : HaveOutcomes arrival body group
   pub adds : AddsRows old new (rows_read group)
 
--- why the run stops at a group, where so many lines came before
+-- why the run stops at a group, where this many lines came before
 abbrev pub StopsGroup : Arrival → List ℕ → ℕ → Seen → Seen → Change → Interrupt → Type 0
 StopsGroup arrival body before old new errors Unreadable = ⊥
 StopsGroup arrival body before old new errors Unwritable =
@@ -71,7 +71,7 @@ pub record IsLoaded (arrival : Arrival) (source errors : Change) (seen : Seen) :
   pub holding : IsHeld seen (batches_of groups)
   pub named : Took errors (refusals_of groups)
 
--- Groups were taken in and their refused lines named. Then the run stopped, and did not say yet why.
+-- Groups were read and their refused lines named. Then the run stopped, and did not say yet why.
 pub record StopsUntold (arrival : Arrival) (source errors : Change) (stop : model.Stop) : Type 0 where
   pub groups : List (List Outcome)
   pub behind : StopsBehind arrival source groups stop

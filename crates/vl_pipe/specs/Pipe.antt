@@ -3,9 +3,9 @@ use Rattle.std.specs.Prelude.{◌≡◌, ◌⊎◌, ℕ, List, []}
 use Rattle.vl_io.specs.Change.{Change, Gave, IsSpent, IsTold, IsUntold, Took}
 use Rattle.log_model.specs.History.{History}
 use Rattle.log_model.specs.Print.{lines_text}
-use Rattle.lq_ast.specs.Question.{Question}
-use Rattle.lq_ast.specs.Records.{Record}
-use Rattle.lq_grammar.specs.Query.{IsQueryText}
+use Rattle.query_run.specs.Question.{Question}
+use Rattle.query_run.specs.Records.{Record}
+use Rattle.query_run.specs.Query.{IsQueryText}
 use Rattle.query_run.specs.Asked.{IsNoReadableQuery, IsReadableQuery, Refuses}
 use Rattle.query_run.specs.declared.query.QueryRefusal.{QueryRefusal}
 use Rattle.query_run.specs.declared.query.QueryRefusal.TheVariants.{Memory}
@@ -32,7 +32,7 @@ abbrev pub HasLines : List ℕ → ℕ → History → List ℕ → Type 0
 HasLines text now history lines =
     (records : List Record) × HasQueryOutcome text now history (found records) × (lines ≡ lines_text records)
 
--- It has none, for this reason. Want of memory is free.
+-- It has none, for this reason. `Memory` may always be returned.
 abbrev pub HasNoLines : List ℕ → ℕ → History → Interrupt → Type 0
 HasNoLines text now history Unreadable = ⊥
 HasNoLines text now history Unwritable = ⊥
@@ -41,7 +41,7 @@ HasNoLines text now history (NoAnswer overflow) = Evaluates text now history (ov
 HasNoLines text now history NoMemory = Unit {0}
 
 -- The source gave an input to its end, and its refused lines are named. The evaluation over it overflows, and nothing
--- is said of that yet.
+-- is written about that yet.
 pub record OverflowsUntold (query : Question) (arrival : Arrival) (source errors : Change) (cause : model.Overflow)
     : Type 0 where
   pub input : List ℕ
@@ -62,7 +62,7 @@ StopsPipe query arrival source output errors (NoAnswer overflow) =
     OverflowsUntold query arrival source errors (overflow_of overflow) × StopsLoad arrival source errors NoMemory
 StopsPipe query arrival source output errors NoMemory = StopsLoad arrival source errors NoMemory
 
--- What is said of an interrupt, and the status that it gives. That a stream can't be written to is not said.
+-- The error text of an interrupt, and its status. A stream that can't be written to has no text.
 abbrev pub ReportsInterrupt : Change → Interrupt → Status → Type 0
 ReportsInterrupt errors Unwritable status =
     (status ≡ statuses.WriteFault) × IsUntold errors
@@ -114,7 +114,7 @@ pub record EndsReadable (run : PipeRun) (status : Status) : Type 0 where
 pub record EndsRefused (run : PipeRun) (status : Status) : Type 0 where
   pub refusal : QueryRefusal
   pub refused : Refuses run.asked.query refusal
-  -- one that can be asked is refused for want of memory alone
+  -- one that can be asked is refused only because memory ran out
   pub free : IsReadableQuery run.asked.query → refusal ≡ Memory
   pub unread : IsUnread run.source
   pub said : ReportsRefused run.errors refusal status

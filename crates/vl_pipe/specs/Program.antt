@@ -1,4 +1,4 @@
--- What a query over an input comes to: its answer, and the texts that are written where there is none.
+-- The result of a query over an input: its answer, and the texts that are written where there is none.
 use Rattle.std.specs.Prelude.{◌≡◌, ℕ, ◌-◌, ◌⊎◌, ◌<◌, ◌≤◌, List, [], ◌∷◌, ◌++◌, length, take, codes, pos}
 use Rattle.std.specs.Prelude.{decimal}
 use Rattle.vl_io.specs.Change.{Change, HasFailed}
@@ -8,11 +8,11 @@ use Rattle.log_model.specs.History.{History, batches_in, rows_of}
 use Rattle.log_model.specs.Field.{Field}
 use Rattle.log_model.specs.Print.{lines_text}
 use Rattle.log_model.specs.Row.{batch_limit, batch_weight}
-use Rattle.lq_ast.specs.Evaluation as evaluation
-use Rattle.lq_ast.specs.Evaluation.{evaluate, records}
-use Rattle.lq_ast.specs.Question.{Question}
-use Rattle.lq_grammar.specs.Faults.{fault_text}
-use Rattle.lq_grammar.specs.declared.fault.QueryFault.{QueryFault}
+use Rattle.query_run.specs.Evaluation as evaluation
+use Rattle.query_run.specs.Evaluation.{evaluate, records}
+use Rattle.query_run.specs.Question.{Question}
+use Rattle.query_run.specs.Faults.{fault_text}
+use Rattle.query_run.specs.QueryFault.{QueryFault}
 use Rattle.ingest_row.specs.Intake.{Outcome, rows_read}
 use Rattle.query_run.specs.Asked.{HasUnreadablePattern, IsUnspelled}
 use Rattle.vl_status.specs.Said.{no_memory_text}
@@ -20,7 +20,7 @@ use Rattle.vl_pipe.specs.Groups.{Arrival, AreGroups, BeginsWith, CanBeHeld, Have
 use Rattle.vl_pipe.specs.Groups.{outcomes_in, refusals_of}
 
 -- The lines of the input become the batches of this history, whoever made its entries, and `refusals` names the lines
--- that are no rows.
+-- that are not rows.
 pub record IsTakenIn (arrival : Arrival) (input refusals : List ℕ) (history : History) : Type 0 where
   pub within : length input ≤ input_limit
   pub groups : List (List Outcome)
@@ -42,7 +42,7 @@ pub record IsAnswer (query : Question) (arrival : Arrival) (input answer refusal
 pub data Overflow : Type 0 where
   -- 2^32 rows hold, or more
   many_rows : Overflow
-  -- the total of the function of `stats` with this name is no 64-bit integer
+  -- the total of the function of `stats` with this name is not a 64-bit integer
   total : List ℕ → Overflow
 
 abbrev pub overflowing : Overflow → evaluation.Outcome
@@ -59,7 +59,7 @@ pub record Overflows (query : Question) (arrival : Arrival) (input refusals : Li
 pub data Limit : Type 0 where
   -- it has too many bytes
   long : Limit
-  -- the rows of a group weigh so much, which is too much for a batch
+  -- the rows of a group weigh this much, which is too much for a batch
   large : ℕ → Limit
   -- a group has rows, and as many batches as can be held came before it
   full : Limit
@@ -74,7 +74,7 @@ pub data Stop : Type 0 where
 abbrev pub HaveNoGroup : List ℕ → Type 0
 HaveNoGroup bytes = AreFewer 1000 bytes
 
--- These bytes are no more than a group and what one read gives.
+-- These bytes are at most a group and what one read gives.
 pub record AreFew (bytes : List ℕ) : Type 0 where
   pub group : List ℕ
   pub ahead : List ℕ
@@ -82,7 +82,7 @@ pub record AreFew (bytes : List ℕ) : Type 0 where
   pub lines : HaveNoGroup group ⊎ AreLines 1000 group
   pub short : length ahead ≤ piece_len
 
--- The limit is met behind these groups, which are the first ones of the input. Of an input that is too long they are
+-- The limit is met after these groups, which are the first ones of the input. Of an input that is too long they are
 -- all that end within its limit.
 abbrev pub IsBeyond : (arrival : Arrival) (source : Change) (groups : List (List Outcome))
     → BeginsWith arrival source groups → Limit → Type 0
@@ -97,15 +97,15 @@ IsBeyond arrival source groups begins full =
     × (length (batches_of groups) ≡ held_limit) × (0 < length (rows_read group))
     × (batch_weight (rows_read group) ≤ batch_limit)
 
--- What stops a run behind these groups. Before a read that failed they are all groups that were read.
+-- What stops a run after these groups. Before a read that failed they are all groups that were read.
 abbrev pub IsCause : (arrival : Arrival) (source : Change) (groups : List (List Outcome))
     → BeginsWith arrival source groups → Stop → Type 0
 IsCause arrival source groups begins unreadable = HasFailed source × HaveNoGroup begins.rest
 IsCause arrival source groups begins (beyond limit) = IsBeyond arrival source groups begins limit
 IsCause arrival source groups begins no_memory = Unit {0}
 
--- The first groups of the input were taken in, and their batches can be held. Then the run stopped. No more was read
--- behind them than one group and what one read gives.
+-- The first groups of the input were read, and their batches can be held. Then the run stopped. No more was read
+-- after them than one group and what one read gives.
 pub record StopsBehind (arrival : Arrival) (source : Change) (groups : List (List Outcome)) (stop : Stop) : Type 0 where
   pub begins : BeginsWith arrival source groups
   pub fits : CanBeHeld groups
@@ -139,7 +139,7 @@ abbrev pub overflow_text : Overflow → List ℕ
 overflow_text many_rows = codes "ManyRows"
 overflow_text (total name) = codes "Overflow in " ++ name
 
--- what is said of a query that is not answered
+-- the error text of a query that has no answer
 abbrev pub said_of_query : List ℕ → List ℕ
 said_of_query cause = codes "query: " ++ (cause ++ 10 ∷ [])
 

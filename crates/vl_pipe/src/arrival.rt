@@ -43,7 +43,7 @@ impl Arrival {
         })
     }
 
-    /// What is asked for the lines.
+    /// Returns what is asked for the lines.
     pub(crate) fn options(&self) -> &Options
         ensures { result.now ≡ self.now.options }
     {
@@ -59,7 +59,7 @@ impl Arrival {
     }
 }
 
-/// The labels of rows are those of their fields that the list names.
+/// Returns the labels of rows are those of their fields that the list names.
 #[tactic(auto, unfolding(ingest_row::specs::Asked::pieces, ingest_row::specs::Asked::extras_of))]
 fn labelled_by(alloc: Global, list: &str) -> Result<Options, AllocError>
     ensures { IfOk result (λ options. options ≡ labelled_by (Some list.now)) }

@@ -10,7 +10,7 @@ use vl_row::Text;
 pub enum Limit {
     /// It has more bytes than are allowed.
     Long,
-    /// The rows of a group weigh so much, which is too much for a batch.
+    /// The rows of a group weigh this much, which is too much for a batch.
     Large(u64),
     /// A group has rows, and as many batches as can be held came before it.
     Full,
@@ -19,7 +19,7 @@ pub enum Limit {
 impl Limit {
     ghost use Rattle.vl_pipe.specs.Interrupt.{limit_of};
 
-    /// What is said of it on the error stream.
+    /// Writes the line for the error stream.
     pub fn text(self, alloc: Global) -> Result<String, AllocError>
         ensures { IfOk result (λ text. string_bytes text ≡ limit_text (limit_of self) ++ 10 ∷ []) }
     {
@@ -36,14 +36,14 @@ impl Limit {
 pub enum Overflow {
     /// 2^32 rows hold, or more.
     ManyRows,
-    /// The total of the function of `stats` with this name is no 64-bit integer.
+    /// The total of the function of `stats` with this name is not a 64-bit integer.
     Total(Text),
 }
 
 impl Overflow {
     ghost use Rattle.vl_pipe.specs.Interrupt.{overflow_of};
 
-    /// What is said of it on the error stream.
+    /// Writes the line for the error stream.
     pub fn text(&self, alloc: Global) -> Result<String, AllocError>
         ensures { IfOk result (λ text. string_bytes text ≡ said_of_query (overflow_text (overflow_of self.now))) }
     {

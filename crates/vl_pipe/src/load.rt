@@ -46,7 +46,7 @@ pub(crate) fn load<R: Wait, S: Source, E: Sink>(
     Ok(())
 }
 
-/// Takes one group in, where so many lines came before it.
+/// Takes one group in, where this many lines came before it.
 fn take_group<R: Wait, E: Sink>(
     desk: &mut LoneDesk<'_, R>,
     arrival: &Arrival,

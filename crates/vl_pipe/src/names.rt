@@ -6,7 +6,7 @@ ghost use Rattle.vl_pipe.specs.Groups.{names_after};
 use ingest_row::LineFault;
 use std::alloc::{AllocError, Global};
 
-/// Names these lines, where so many came before.
+/// Names these lines, where this many came before.
 pub fn names_after(
     alloc: Global,
     lines_before: u64,

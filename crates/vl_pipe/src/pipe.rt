@@ -83,7 +83,7 @@ fn answer_input<R: AllocGlobal + Wait, S: Source, O: Sink, E: Sink>(
     }
 }
 
-/// The lines of the answer to a query that can be asked.
+/// Returns the lines of the answer to a query that can be asked.
 fn answer_lines<R: Wait>(
     desk: &mut LoneDesk<'_, R>,
     text: &str,

@@ -1,11 +1,11 @@
-//! What is said of a query that is refused.
+//! The error text of a refused query.
 ghost use Rattle.std.specs.Prelude.{◌≡◌, IfOk, string_bytes};
 ghost use Rattle.vl_pipe.specs.Refused.{said_of};
 
 use query_run::QueryRefusal;
 use std::alloc::{AllocError, Global};
 
-/// What is said of it on the error stream.
+/// Writes the line for the error stream.
 pub fn said_of(alloc: Global, refusal: QueryRefusal) -> Result<String, AllocError>
     ensures { IfOk result (λ text. string_bytes text ≡ said_of refusal) }
 {

@@ -10,7 +10,7 @@ fn record(alloc: Global, value: &str) -> Result<FieldList, AllocError> {
     Ok(fields)
 }
 
-/// Whether records stay as they were pushed.
+/// Returns whether records stay as they were pushed.
 fn keeps_records(alloc: Global) -> Result<bool, AllocError> {
     let mut records = Recs::new(alloc);
     let was_empty = records.is_empty();
@@ -33,7 +33,7 @@ fn records_are_kept(rt: HostRuntime) -> Result<(), Fail> {
     Ok(())
 }
 
-/// Whether the keys of two texts stand so to each other, by each way to compare them.
+/// Returns whether the keys of two texts stand so to each other, by each way to compare them.
 fn stand(a: &str, b: &str, order: Ordering) -> bool {
     let (a, b) = (ValueKey::of(a), ValueKey::of(b));
     let equal = order == Ordering::Equal;

@@ -28,7 +28,7 @@ fn repeated(alloc: Global, count: usize) -> Result<String, AllocError> {
     String::from_utf8_lossy(alloc, &vec![in alloc; b'v'; count]?)
 }
 
-/// So many fields, whose names and values have these lengths.
+/// Returns this many fields, whose names and values have these lengths.
 fn fields_like(
     alloc: Global,
     count: usize,
@@ -59,13 +59,13 @@ const SET: &[(&str, &str)] = &[
     ("c", ""),
 ];
 
-/// Whether the fields are sorted, and each name has its last value.
+/// Returns whether the fields are sorted, and each name has its last value.
 fn is_sorted(alloc: Global) -> Result<bool, AllocError> {
     let list = list_of(alloc, SET)?;
     Ok(shown(alloc, &list)?.as_str() == "Z=4 a=5 b=1 é=3 ")
 }
 
-/// Whether fields are found, and missing ones are not.
+/// Returns whether fields are found, and missing ones are not.
 fn finds_fields(alloc: Global) -> Result<bool, AllocError> {
     let list = list_of(alloc, SET)?;
     Ok(
@@ -78,7 +78,7 @@ fn finds_fields(alloc: Global) -> Result<bool, AllocError> {
     )
 }
 
-/// Whether a field is removed, and a copy shows the others.
+/// Returns whether a field is removed, and a copy shows the others.
 fn removes_fields(alloc: Global) -> Result<bool, AllocError> {
     let mut list = list_of(alloc, SET)?;
     list.remove("b");
@@ -94,7 +94,7 @@ fn fields_are_sorted_and_later_ones_count(rt: HostRuntime) -> Result<(), Fail> {
     Ok(())
 }
 
-/// Whether a text of so many bytes is copied, and grows by so many more.
+/// Returns whether a text of this many bytes is copied, and grows by this many more.
 fn grows(alloc: Global, len: usize, more: usize) -> Result<bool, AllocError> {
     let mut whole = repeated(alloc, len)?;
     let mut text = Text::try_of(alloc, whole.as_str())?;
@@ -116,7 +116,7 @@ fn texts_grow_past_what_lies_inline(rt: HostRuntime) -> Result<(), Fail> {
     Ok(())
 }
 
-/// So many fields, with names and values of these lengths, at this time.
+/// This many fields, with names and values of these lengths, at this time.
 #[derive(Clone, Copy)]
 struct Made {
     time: i64,
@@ -125,7 +125,7 @@ struct Made {
     value_len: usize,
 }
 
-/// Whether a row of such fields is answered with this fault or none, and keeps or gives back its fields.
+/// Returns whether a row of such fields is answered with this fault or none, and keeps or gives back its fields.
 fn is_answered(alloc: Global, made: Made, fault: Option<RowFault>) -> Result<bool, AllocError> {
     let list = fields_like(alloc, made.fields, made.name_len, made.value_len)?;
     let len = list.len();
@@ -170,7 +170,7 @@ fn rows_are_refused_past_their_limits(rt: HostRuntime) -> Result<(), Fail> {
 
 const RESERVED: &[(&str, &str)] = &[("_time", "x"), ("_stream", "y"), ("_stream_id", "z")];
 
-/// Whether a row leaves out the reserved names, and nothing else.
+/// Returns whether a row leaves out the reserved names, and nothing else.
 fn leaves_out(alloc: Global) -> Result<bool, AllocError> {
     let mut list = list_of(alloc, RESERVED)?;
     list.set(alloc, "_times", "k")?;
@@ -187,7 +187,7 @@ fn leaves_out(alloc: Global) -> Result<bool, AllocError> {
     )
 }
 
-/// Whether a row of reserved names alone is refused, and gives them back.
+/// Returns whether a row of reserved names only is refused, and gives them back.
 fn gives_back(alloc: Global) -> Result<bool, AllocError> {
     let Err((fault, list)) = Row::try_new(alloc, 7, &[], list_of(alloc, RESERVED)?) else {
         return Ok(false);
@@ -204,7 +204,8 @@ fn rows_leave_out_reserved_names(rt: HostRuntime) -> Result<(), Fail> {
     Ok(())
 }
 
-/// Whether a batch of so many rows, of one field `a` with 262,143 bytes each, is answered with this fault or none.
+/// Returns whether a batch of this many rows, of one field `a` with 262,143 bytes each, is answered with this fault or
+/// none.
 fn is_batch(alloc: Global, count: usize, fault: Option<BatchFault>) -> Result<bool, AllocError> {
     let mut list = FieldList::new(alloc);
     list.set(alloc, "a", repeated(alloc, 262_143)?.as_str())?;
@@ -236,7 +237,7 @@ fn batches_are_refused_past_their_limits(rt: HostRuntime) -> Result<(), Fail> {
     Ok(())
 }
 
-/// The row of these two fields, of which `app` is a label. None where they make no row.
+/// Returns the row of these two fields, of which `app` is a label. None where they make no row.
 fn labelled(alloc: Global, app: &str, message: &str) -> Result<Option<Row>, AllocError> {
     let mut list = FieldList::new(alloc);
     list.set(alloc, "app", app)?;
@@ -245,7 +246,7 @@ fn labelled(alloc: Global, app: &str, message: &str) -> Result<Option<Row>, Allo
     Ok(Row::try_new(alloc, 0, &[name], list).ok())
 }
 
-/// Whether the stream of a row shows its one label.
+/// Returns whether the stream of a row shows its one label.
 fn shows_its_label(alloc: Global) -> Result<bool, AllocError> {
     let Some(row) = labelled(alloc, "x", "1")? else {
         return Ok(false);
@@ -260,7 +261,7 @@ fn shows_its_label(alloc: Global) -> Result<bool, AllocError> {
     )
 }
 
-/// Whether the rows with these labels have the same stream.
+/// Returns whether the rows with these labels have the same stream.
 fn share_a_stream(alloc: Global, app: &str, other: &str) -> Result<bool, AllocError> {
     match (labelled(alloc, app, "1")?, labelled(alloc, other, "2")?) {
         (Some(row), Some(other)) => Ok(row.stream().is_same(other.stream())),
@@ -276,7 +277,7 @@ fn a_stream_is_its_labels(rt: HostRuntime) -> Result<(), Fail> {
     Ok(())
 }
 
-/// Whether items stay as they were pushed.
+/// Returns whether items stay as they were pushed.
 fn keeps_items(alloc: Global) -> Result<bool, AllocError> {
     let mut items = Items::of(Vec::new(alloc));
     if let Err((fault, _)) = items.push(3u8) {
@@ -288,7 +289,7 @@ fn keeps_items(alloc: Global) -> Result<bool, AllocError> {
     Ok(items.as_slice() == [3, 1].as_slice() && items.into_vec().as_slice() == [3, 1].as_slice())
 }
 
-/// Whether a numbered row has the parts that it was made of.
+/// Returns whether a numbered row has the parts that it was made of.
 fn is_numbered(alloc: Global) -> Result<bool, AllocError> {
     let Some(row) = labelled(alloc, "x", "1")? else {
         return Ok(false);

@@ -1,4 +1,4 @@
--- What is said to requests, and what has been seen then.
+-- Replies to requests, and what the caller has seen by then.
 use Rattle.std.proofs.Common.{◌≡◌, inl, inr, ℕ, ◌^◌, ◌<◌, List, [], ◌∷◌, length, codes, decimal, pos, Option, Some, None, Ok, refl, sym, ap, subst, ◌∙◌, arith}
 use Rattle.std.specs.Prelude.{IfSome, is_some}
 use Rattle.log_model.specs.Print.{line_text}
@@ -128,7 +128,7 @@ module _ (caller : Caller) (options : Options) (now : ℕ) (body : List ℕ) (in
       (can_insert caller options now body outcomes old new is.given incoming incoming.batch refl some is.holds) refused
       away.said
 
-  -- the lines of an insert were taken in, or not
+  -- the lines of an insert were read, or not
   pub insert_answered : TakesIn caller incoming old new delivery reply → IsAnswered
   insert_answered (inl taken) = taken_none incoming.batch refl is.holds taken taken.commits.inserts
   insert_answered (inr refused) = refused_so refused

@@ -89,7 +89,7 @@ took_more : (w0 w1 w2 : Option (List ℕ)) (turns : List Turn) (turn : Turn) →
 took_more w0 w1 w2 turns turn p q =
     subst (Appends w0 w2) (sym (replies-more turns turn)) (Appends-trans w0 w1 w2 (replies_of turns) turn.reply p q)
 
--- a text was cut behind another
+-- a text was cut after another
 cut_more : (w0 w1 w2 : Option (List ℕ)) (k0 k1 k2 : ℕ) (sure text : List ℕ) → k0 ≤ k1 → Appends w0 w1 sure
     → IsCut (change w1 w2 k1 k2) [] text → IsCut (change w0 w2 k0 k2) sure text
 cut_more w0 w1 w2 k0 k1 k2 sure text q w c = record {

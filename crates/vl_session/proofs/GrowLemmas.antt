@@ -27,7 +27,7 @@ grows_none caller old new same = record {
   took = omega (arith, ap (λ (s : Seen). s.turns) same);
 }
 
--- an entry of the caller's own behind those of others
+-- an entry of the caller's own after those of others
 own_last : (caller : Caller) (others : History) (entry : Entry) → AllByRecursion (IsStrange caller) others
     → is_own caller entry ≡ true → filter (is_own caller) (others ++ entry ∷ []) ≡ entry ∷ []
 own_last caller others entry strange own =

@@ -1,4 +1,4 @@
--- What lines come to is one thing.
+-- Lines have one outcome.
 use Rattle.std.proofs.Common.{◌≡◌, ◌⊎◌, inl, inr, ℕ, ℤ, ◌<◌, pos, List, [], ◌∷◌, length, Result, Some, refl, sym}
 use Rattle.std.proofs.Common.{ap, subst, ◌∙◌, arith}
 use Rattle.log_model.specs.History.{History}
@@ -53,7 +53,7 @@ module _ (only : HasOneIntake) (options : Options) (now : ℕ) (body : List ℕ)
   not_last : (seen : Seen) → HasRoom seen → HasLastNumber seen → ⊥
   not_last seen room is = omega (arith, room.1, is)
 
-  -- Where there is room, they come to their batch alone.
+  -- Where there is room, their batch is the only outcome.
   pub only_taken : (seen : Seen) → HasRoom seen → (other : InsertOutcome)
       → HasInsertOutcome options now body seen other → other ≡ taken outcomes
   only_taken seen room (no_row others) is = absurd (some_rows others is.0 is.1)
@@ -62,7 +62,7 @@ module _ (only : HasOneIntake) (options : Options) (now : ℕ) (body : List ℕ)
   only_taken seen room full is = absurd (not_full seen room is.2)
   only_taken seen room spent is = absurd (not_last seen room is.3)
 
-  -- They are refused for memory alone.
+  -- They are refused only because memory ran out.
   pub only_for_memory : (caller : Caller) (old new : Seen) → HasRoom new → (fault : InsertionFault)
       → RefusesLines caller options now body old new fault → fault ≡ faults.Memory
   only_for_memory caller old new room (faults.Large weight) why = absurd (not_large why.1.0 why.1.1 why.1.3)
@@ -70,7 +70,7 @@ module _ (only : HasOneIntake) (options : Options) (now : ℕ) (body : List ℕ)
   only_for_memory caller old new room faults.Spent why = absurd (not_last new room why.1.3)
   only_for_memory caller old new room faults.Memory why = refl
 
-  -- Where they are taken in, they are a batch.
+  -- Where they are read, they are a batch.
   pub is_batch : (caller : Caller) (old new : Seen) (insertion : Insertion)
       → IsInsertion caller options now body old new insertion → insertion.batch ≡ Some (length new.history)
   is_batch caller old new insertion is =

@@ -1,4 +1,4 @@
--- What is said of lines.
+-- Replies to inserts.
 use Rattle.std.proofs.Common.{◌≡◌, ℕ, ◌^◌, ◌<◌, ◌-◌, min, List, [], ◌∷◌, ◌++◌, length, map, take, drop, get_or, codes, decimal, flat_map, refl, ap, sym, ◌∙◌, arith}
 use Rattle.std.proofs.Common.{append-nil, append_assoc}
 use Rattle.std.proofs.lemmas.Fmt.{decimal_nonempty}
@@ -123,7 +123,7 @@ faults_named fault faults =
     append-nil (later_member (codes "faults", joined (map named_line (take named_limit (fault ∷ faults)))))
     ∙ ap (λ l. codes "\",\"faults\":\"" ++ l) (others_escaped (named_line fault) (take 15 faults))
 
--- the same, as the code comes to them
+-- the same, in the order of the code
 pub faults_from : (refused : List LineFault) (none : LineFault) (count : ℕ) → 0 < length refused
     → count ≡ min (length (take (length refused - 1) (drop 1 refused))) 15
     → flat_map later_member (fault_fields refused)
@@ -142,7 +142,7 @@ end_step : (faults name count end : List ℕ)
     → (faults ++ ((name ++ count) ++ [])) ++ end ≡ faults ++ (name ++ (count ++ end))
 end_step faults name count end = ap (λ l. (faults ++ l) ++ end) (append-nil (name ++ count)) ∙ simp append_assoc
 
--- the end of what is said
+-- the end of what is reported
 pub refused_is : (faults : List LineFault) → length faults < 2 ^ 64
     → refused_text faults ≡ flat_map later_member (fault_fields faults)
     ++ (codes "\",\"refused\":\"" ++ (decimal (length faults) ++ codes "\"}\n"))

@@ -1,4 +1,4 @@
--- Lines that were taken in, or not, by what has been seen then.
+-- Lines that were read, or not, by what has been seen then.
 use Rattle.std.proofs.Common.{◌≡◌, ◌≢◌, ℕ, pos, List, [], ◌∷◌, length, Option, Some, None, refl, sym, ap, subst, ◌∙◌, arith}
 use Rattle.log_model.specs.Row.{Batch, Row}
 use Rattle.ingest_row.specs.Ingest.{Options}
@@ -74,7 +74,7 @@ module _ (caller : Caller) (options : Options) (now : ℕ) (body : List ℕ) (ou
       subst (RefusesLines caller options now body old new) (sym same)
       (refuses_for why (can_insert incoming incoming.batch refl some is.holds) refused)
 
--- Where there is room it is for the lines, or for memory.
+-- Where there is room it is for the lines, or memory ran out.
 pub refuses_with_room : (caller : Caller) (options : Options) (now : ℕ) (body : List ℕ) (old new : Seen)
     (fault : InsertionFault) → HasRoom new → RefusesLines caller options now body old new fault → IsOfLines fault
 refuses_with_room caller options now body old new (Large weight) room why = tt

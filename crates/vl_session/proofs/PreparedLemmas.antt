@@ -22,7 +22,7 @@ use Rattle.vl_session.proofs.InsertLemmas.{batch_is, filled_number, line_members
 abbrev pub accepted_text : ℕ → List ℕ
 accepted_text accepted = first_member (codes "accepted", decimal accepted)
 
--- the fields behind the number
+-- the fields after the number
 abbrev refused_fields : Incoming → List Field
 refused_fields incoming =
     fault_fields incoming.refused ++ (codes "refused", decimal (length incoming.refused)) ∷ []
@@ -38,7 +38,7 @@ module _ (incoming : Incoming) (number : ℕ) where
   said_with there is = ap (λ (there : Bool). (codes "accepted", decimal incoming.accepted)
       ∷ (filled (codes "batch") (batch_text there number) ++ refused_fields incoming)) is
 
-  -- what is said of rows that are a batch
+  -- the reply's fields where the rows are a batch
   pub said_numbered : is_some incoming.batch ≡ true → number < 2 ^ 64
       → (accepted_text incoming.accepted ++ codes "\",\"batch\":\"")
       ++ (decimal number ++ refused_text incoming.refused)

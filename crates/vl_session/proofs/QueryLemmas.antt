@@ -4,12 +4,12 @@ use Rattle.std.proofs.Common.{arith, ◌≡◌, ◌≢◌, ℕ, ℤ, pos, negsuc
 use Rattle.std.specs.List.{AllByRecursion}
 use Rattle.log_model.specs.History.{History, rows_of}
 use Rattle.log_model.specs.Row.{Row}
-use Rattle.lq_ast.specs.Evaluation as evaluation
-use Rattle.lq_ast.specs.Evaluation.{evaluate}
-use Rattle.lq_ast.specs.Patterns.{CanBeRead, all_patterns}
-use Rattle.lq_ast.specs.Question.{Question}
-use Rattle.lq_grammar.specs.Query.{IsQueryText}
-use Rattle.lq_grammar.specs.declared.fault.QueryFault.TheVariants as spelling
+use Rattle.query_run.specs.Evaluation as evaluation
+use Rattle.query_run.specs.Evaluation.{evaluate}
+use Rattle.query_run.specs.Patterns.{CanBeRead, all_patterns}
+use Rattle.query_run.specs.Question.{Question}
+use Rattle.query_run.specs.Query.{IsQueryText}
+use Rattle.query_run.specs.QueryFault.TheVariants as spelling
 use Rattle.query_run.specs.Answer.{FailsOver, IsAnswerOver}
 use Rattle.query_run.specs.Asked.{Refuses}
 use Rattle.query_run.specs.declared.evaluation.RunFault.{RunFault}

@@ -1,7 +1,7 @@
 -- What the calls of the desk do to what has been seen.
 use Rattle.std.proofs.Common.{◌≡◌, ◌≢◌, ℕ, ◌+◌, ◌≤◌, [], length, refl, sym, ◌∙◌, arith, append-nil}
 use Rattle.log_model.specs.Core.{held_limit}
-use Rattle.turn_lock.specs.Passes.{PassState}
+use Rattle.log_desk.specs.Passes.{PassState}
 use Rattle.log_core.specs.declared.entries.EntryRows.{EntryRows}
 use Rattle.log_desk.specs.Faults.{Refuses, last_number}
 use Rattle.log_desk.specs.Seen.{Caller, Follows, Seen, caller_of, seen_of}

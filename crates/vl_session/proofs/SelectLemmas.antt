@@ -1,4 +1,4 @@
--- What a query comes to is one thing.
+-- A query has one outcome.
 use Rattle.std.proofs.Common.{◌≡◌, ◌⊎◌, inl, inr, refl, ℕ, zero, suc, pos, List, [], ◌∷◌, Result, Ok, Err, sym, ap, subst, ◌∙◌}
 use Rattle.std.specs.Prelude.{slice_get, IsSomeAnd}
 use Rattle.std.specs.List.{AllByRecursion}
@@ -6,13 +6,13 @@ use Rattle.log_model.specs.History.{History, rows_of}
 use Rattle.http_reply.specs.Reply.{reply_bytes}
 use Rattle.http_route.specs.Route.{Wanted, delivery_of, wanted_of}
 use Rattle.http_route.specs.declared.refusal.Refusal.{Refusal}
-use Rattle.lq_ast.specs.Evaluation as evaluation
-use Rattle.lq_ast.specs.Evaluation.{evaluate}
-use Rattle.lq_ast.specs.Patterns.{CanBeRead, Pattern, all_patterns}
-use Rattle.lq_ast.specs.Question.{Question}
-use Rattle.lq_ast.specs.Records.{Record}
-use Rattle.lq_grammar.specs.Query.{IsQueryText, QueryOf}
-use Rattle.lq_grammar.specs.declared.fault.QueryFault.{QueryFault}
+use Rattle.query_run.specs.Evaluation as evaluation
+use Rattle.query_run.specs.Evaluation.{evaluate}
+use Rattle.query_run.specs.Patterns.{CanBeRead, Pattern, all_patterns}
+use Rattle.query_run.specs.Question.{Question}
+use Rattle.query_run.specs.Records.{Record}
+use Rattle.query_run.specs.Query.{IsQueryText, QueryOf}
+use Rattle.query_run.specs.QueryFault.{QueryFault}
 use Rattle.query_run.specs.Asked.{HasUnreadablePattern, IsReadableQuery, IsUnspelled}
 use Rattle.log_desk.specs.Seen.{Caller}
 use Rattle.vl_session.specs.Answer.{FailsQuery, HasRecords, IsOfEvaluation}
@@ -67,7 +67,7 @@ module _ (have : HaveOne) (text : List ℕ) where
       (subst (λ query. IsSomeAnd (slice_get (all_patterns query) nth) (λ pattern. CanBeRead pattern → ⊥))
       (same_query other query other_spelled spelled) bad.1)
 
-  -- a query that can be asked fails in its evaluation alone
+  -- a query that can be asked fails in its evaluation only
   pub only_evaluation : (now : ℕ) (history : History) → IsReadableQuery text → (fault : AnswerFault)
       → FailsQuery text now history fault → IsOfEvaluation fault
   only_evaluation now history (query, spelled, all) (faults.Query fault) fails =
@@ -95,7 +95,7 @@ module _ (have : HaveOne) (text : List ℕ) where
       → found others ≡ found records
   same_records records others same = cc
 
-  -- A query that has records comes to nothing else.
+  -- A query that has records has no other outcome.
   pub only_found : (now : ℕ) (history : History) (records : List Record) → HasQueryOutcome text now history (found records)
       → (other : QueryOutcome) → HasQueryOutcome text now history other → other ≡ found records
   only_found now history records has (unspelled fault) bad = absurd (not_both has.query fault has.spelled bad)
@@ -110,7 +110,7 @@ module _ (have : HaveOne) (text : List ℕ) where
       absurd (subst HasFound
       (sym (one_outcome now history (evaluation.records records) (evaluation.overflow name) has other)) tt)
 
--- a query that has records comes to nothing else
+-- a query that has records has no other outcome
 abbrev pub IsOnlyFound : Type 0
 IsOnlyFound = (text : List ℕ) (now : ℕ) (history : History) (records : List Record)
     → HasQueryOutcome text now history (found records) → (other : QueryOutcome) → HasQueryOutcome text now history other
@@ -128,7 +128,7 @@ module _ (only : IsOnlyFound) (text : List ℕ) (now : ℕ) (history : History) 
       → HasQueryOutcome text now history other → IsFoundOutcome other
   not_other records other has is = subst IsFoundOutcome (sym (only text now history records has other is)) tt
 
-  -- One whose evaluation has records fails for memory alone.
+  -- One whose evaluation has records fails only because memory ran out.
   pub only_memory : HasRecords text now history → (fault : AnswerFault) → FailsQuery text now history fault
       → fault ≡ faults.Memory
   only_memory (records, has) (faults.Query fault) fails = absurd (not_other records (unspelled fault) has fails.1)
@@ -137,7 +137,7 @@ module _ (only : IsOnlyFound) (text : List ℕ) (now : ℕ) (history : History) 
   only_memory (records, has) (faults.Overflow name) fails = absurd (not_other records (overflows name) has fails)
   only_memory (records, has) faults.Memory fails = refl
 
--- A select whose query has records is answered with their lines, or for want of memory.
+-- A select whose query has records is answered with their lines, or for out of memory.
 pub select_answered : HaveOne → (caller : Caller) (select : Select) → IsSelectServed caller select
     → IsSelectAnswered select
 select_answered have caller select is = said is.served.answers

@@ -74,7 +74,7 @@ frames_more bytes piece rest left messages more a c =
     subst (λ l. AreFrames (bytes ++ piece) (messages ++ l) left) (sym c.given)
     (subst (λ l. AreFrames (bytes ++ piece) (l ++ c.more) left) same.0 c.is_after)
 
--- ---- there are no more messages than bytes
+-- ---- there are at most as many messages as bytes
 
 source_some : (frame : Frame) → 0 < length (source frame)
 source_some (counted digits message) = omega (arith, length-append digits (32 ∷ message))

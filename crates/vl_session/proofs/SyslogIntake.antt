@@ -128,7 +128,7 @@ takes_more caller now at messages old mid new before counts after outcomes more 
       );
     }
 
--- there are no more rows than messages
+-- there are at most as many rows as messages
 pub few_rows : (more : List (Option Row)) (rows : List Row) → rows ≡ message_rows more → length rows ≤ length more
 few_rows more rows are = omega (arith, ap length are, rows_or_none more)
 

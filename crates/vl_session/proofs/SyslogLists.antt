@@ -1,4 +1,4 @@
--- Messages, their rows and batches, one run behind another.
+-- Messages, their rows and batches, one run after another.
 use Rattle.std.proofs.Common.{◌≡◌, ℕ, suc, zero, ◌+◌, ◌*◌, ◌≤◌, List, [], ◌∷◌, ◌++◌, length, take, drop, cond}
 use Rattle.std.proofs.Common.{Option, None, Some, refl, sym, ap, subst, ◌∙◌, arith, append-nil}
 use Rattle.std.specs.Prelude.{count_by, is_none, slice_get, flat_map}
@@ -17,13 +17,13 @@ use Rattle.vl_session.specs.SyslogTaking.{BeginWith}
 -- ---- what holds of the first elements of a list and those of another
 
 module _ {X Y : Type 0} (P : X → Y → Type 0) where
-  -- there are so many
+  -- there are this many
   pub zip_within : (xs : List X) (ys : List Y) → AllZip P (take (length ys) xs) ys → length ys ≤ length xs
   zip_within xs [] a = omega arith
   zip_within [] (y ∷ ys) a = absurd a
   zip_within (x ∷ xs) (y ∷ ys) a = omega (arith, zip_within xs ys a.1)
 
-  -- some more behind them
+  -- some more after them
   pub zip_append : (xs : List X) (ys zs : List Y) → AllZip P (take (length ys) xs) ys
       → AllZip P (take (length zs) (drop (length ys) xs)) zs → AllZip P (take (length (ys ++ zs)) xs) (ys ++ zs)
   zip_append xs [] zs a b = b
@@ -79,7 +79,7 @@ rows_or_none (None ∷ xs) = omega (arith, rows_or_none xs, none_append (None �
 
 -- ---- batches
 
--- behind full batches there are others
+-- after full batches there are others
 pub batches_append : (rows more : List Row) (batches others : List Batch) → AreBatches rows batches
     → length rows ≡ 256 * length batches → AreBatches more others → AreBatches (rows ++ more) (batches ++ others)
 batches_append rows more [] others none full b = subst (λ l. AreBatches (l ++ more) others) (sym none) b

@@ -318,7 +318,7 @@ module _ (caller : Caller) (first mid last : Seen) (l0 l1 l2 t0 t1 t2 : Option (
       → AreFrames (fed ++ piece) (messages_of g.reads ++ messages) rest
   frames_with piece rest f = frames_more fed piece old.rest rest (messages_of g.reads) messages g.frames f.completes
 
-  -- behind a piece
+  -- after a piece
   by_piece : (piece rest : List ℕ) (end : SyslogEnd) (final : Seen) → Has caller last final (end_effect end)
       → Feeds fed piece step messages rest → IsLeft end [] → EndsStream source (with_read piece) (fed ++ piece) final end
       → IsSyslogSession caller first final source t0 t2 (report_of after end)
@@ -333,7 +333,7 @@ module _ (caller : Caller) (first mid last : Seen) (l0 l1 l2 t0 t1 t2 : Option (
       (handled_more caller first mid last t0 t1 t2 before after g.reads piece messages now outcomes batches g.handled
       told u) others e
 
-  -- behind the input's end
+  -- after the input's end
   by_end : (end : SyslogEnd) (final : Seen) → Has caller last final (end_effect end) → was < session_limit → Gave step []
       → IsSpent step → EndsInput old [] messages → IsLeft end [] → EndsStream source (with_read []) fed final end
       → IsSyslogSession caller first final source t0 t2 (report_of after end)
@@ -561,7 +561,7 @@ few_come caller first last source step t0 t1 counts old new was is messages then
     sum : length (messages_of g.reads) + length messages ≤ session_limit
     sum = of then c
 
--- there is no memory to begin with
+-- memory ran out to begin with
 pub ends_at_once : (caller : Caller) (first last : Seen) (l0 l1 t0 t1 : Option (List ℕ)) (s0 s1 : ℕ) (counts : Counts) (framer : Framing)
     (taken : ℕ) → Going caller first last (change l0 l1 s0 s1) t0 t1 counts framer taken → taken < session_limit
     → IsSyslogSession caller first last (change l0 l1 s0 s1) t0 t1 (report_of counts ends.Memory)

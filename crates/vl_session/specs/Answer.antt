@@ -2,9 +2,9 @@
 use Rattle.std.specs.Prelude.{◌≡◌, ◌≢◌, ℕ, List, length, Option, None, Some}
 use Rattle.log_model.specs.History.{History}
 use Rattle.log_model.specs.Print.{lines_text}
-use Rattle.lq_ast.specs.Evaluation as evaluation
-use Rattle.lq_ast.specs.Records.{Record}
-use Rattle.lq_grammar.specs.declared.fault.QueryFault.TheVariants as spelling
+use Rattle.query_run.specs.Evaluation as evaluation
+use Rattle.query_run.specs.Records.{Record}
+use Rattle.query_run.specs.QueryFault.TheVariants as spelling
 use Rattle.query_run.specs.declared.evaluation.RunFault.{RunFault}
 use Rattle.query_run.specs.declared.evaluation.RunFault.TheVariants as running
 use Rattle.query_run.specs.declared.query.QueryRefusal.{QueryRefusal}
@@ -23,7 +23,7 @@ pub record IsQueryAnswer (text : List ℕ) (now : ℕ) (history : History) (answ
   pub lines : answer.lines ≡ lines_text records
   pub front : answer.front ≡ length history
 
--- Why there is none. Want of memory is free.
+-- Why there is none. `Memory` may always be returned.
 abbrev pub FailsQuery : List ℕ → ℕ → History → AnswerFault → Type 0
 FailsQuery text now history (Query fault) =
     (fault ≢ spelling.Memory) × HasQueryOutcome text now history (unspelled fault)
@@ -66,7 +66,7 @@ fault_of_run running.ManyRows = ManyRows
 fault_of_run (running.Overflow name) = Overflow name
 fault_of_run running.Memory = Memory
 
--- what a fault is to a session; want of memory is no outcome
+-- what a fault is to a session; out of memory is not an outcome
 abbrev pub query_outcome_of : AnswerFault → Option QueryOutcome
 query_outcome_of (Query fault) = Some (unspelled fault)
 query_outcome_of (RegexRefused nth) = Some (unreadable nth)

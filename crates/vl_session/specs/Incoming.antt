@@ -28,7 +28,7 @@ pub record IsIncoming (options : Options) (now : ℤ) (body : List ℕ) (outcome
   pub refused : incoming.refused ≡ refused_from 1 outcomes
   pub holds : HoldsRows incoming.batch (rows_read outcomes)
 
--- why the rows are no batch
+-- why the rows are not a batch
 abbrev pub IsNoBatch : Options → ℤ → List ℕ → InsertionFault → Type 0
 IsNoBatch options now body (Large weight) =
     (outcomes : List Outcome) × IsIntake options now body outcomes
@@ -69,14 +69,14 @@ filled name (byte ∷ bytes) = (name, byte ∷ bytes) ∷ []
 abbrev pub batch_text : Bool → ℕ → List ℕ
 batch_text there number = if there then decimal number else []
 
--- what is said of the lines, whose rows are the batch with this number, if there are any
+-- the reply's fields, where the rows are the batch with this number, if there are any
 abbrev pub fields_said : Incoming → ℕ → List Field
 fields_said incoming number =
     (codes "accepted", decimal incoming.accepted)
     ∷ (filled (codes "batch") (batch_text (is_some incoming.batch) number)
     ++ (fault_fields incoming.refused ++ (codes "refused", decimal (length incoming.refused)) ∷ []))
 
--- what a fault is to the caller; want of memory is no outcome
+-- what a fault is to the caller; out of memory is not an outcome
 abbrev pub insert_outcome_of : InsertionFault → Option InsertOutcome
 insert_outcome_of (Large weight) = Some (large weight)
 insert_outcome_of (Full limit) = Some full

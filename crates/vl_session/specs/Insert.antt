@@ -1,4 +1,4 @@
--- What becomes of a body that is to be taken in (VictoriaLogs, "Data ingestion").
+-- What becomes of a body that is to be read (VictoriaLogs, "Data ingestion").
 use Rattle.std.specs.Prelude.{◌≡◌, ℕ, ◌-◌, ◌^◌, ◌<◌, ◌≤◌, pos, List, [], ◌∷◌, ◌++◌, length, map, take, codes}
 use Rattle.std.specs.Prelude.{decimal, flat_map, min}
 use Rattle.log_model.specs.Field.{Field}
@@ -14,17 +14,17 @@ use Rattle.ingest_row.specs.declared.body.LineFault.{LineFault}
 use Rattle.log_desk.specs.Seen.{Seen}
 use Rattle.vl_session.specs.Seen.{Effect, HadRoom, IsFull, HasLastNumber, adds, looks, nothing}
 
--- what a body comes to, whose lines have these outcomes
+-- the result of a body, whose lines have these outcomes
 pub data InsertOutcome : Type 0 where
   -- no line has a row
   no_row : List Outcome → InsertOutcome
   -- the rows are one batch
   taken : List Outcome → InsertOutcome
-  -- they weigh so much, or 2^64 - 1 where that is more, which is too much for a batch
+  -- they weigh this much, or 2^64 - 1 where that is more, which is too much for a batch
   large : ℕ → InsertOutcome
   -- as many batches wait to be settled as may
   full : InsertOutcome
-  -- there is no number for another batch
+  -- all batch numbers are used
   spent : InsertOutcome
 
 -- the lines have these outcomes, and some have rows, which can be a batch
@@ -63,9 +63,9 @@ insert_status (large weight) = statuses.ContentTooLarge
 insert_status full = statuses.ServiceUnavailable
 insert_status spent = statuses.ServiceUnavailable
 
--- ---- what is said
+-- ---- what is reported
 
--- so many refused lines are named
+-- this many refused lines are named
 abbrev pub named_limit : ℕ
 named_limit = 16
 
@@ -89,7 +89,7 @@ insert_fields outcomes batch =
     (codes "accepted", decimal (length (rows_read outcomes)))
     ∷ (batch ++ (fault_fields refused ++ (codes "refused", decimal (length refused)) ∷ []))
 
--- what is said where nothing was taken in
+-- what is reported where nothing was read
 abbrev pub refusal_text : InsertOutcome → List ℕ
 refusal_text (no_row outcomes) = []
 refusal_text (taken outcomes) = []

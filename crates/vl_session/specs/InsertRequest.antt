@@ -12,7 +12,7 @@ use Rattle.vl_session.specs.Insert.{CanBeBatch, insert_content, taken}
 use Rattle.vl_session.specs.Reply.{AnswersNothing, IsServed}
 use Rattle.vl_session.specs.Seen.{Effect, HasRoom}
 
--- a request that wants the lines of its body taken in, how it was served, and what its lines come to
+-- a request that wants the lines of its body read, how it was served, and what its lines come to
 pub record InsertRequest : Type 0 where
   pub asked : Asked
   pub closes : Bool
@@ -24,7 +24,7 @@ pub record InsertRequest : Type 0 where
   pub options : Options
   pub outcomes : List Outcome
 
--- The request was served, it wants its lines taken in, and some of them have rows, which can be a batch. There was room
+-- The request was served, it wants its lines accepted, and some of them have rows, which can be a batch. There was room
 -- for another.
 pub record IsInsertServed (caller : Caller) (request : InsertRequest) : Type 0 where
   pub served : IsServed caller request.asked request.closes request.now request.old request.new request.effect

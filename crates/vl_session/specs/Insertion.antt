@@ -1,4 +1,4 @@
--- What becomes of lines that are taken in.
+-- What becomes of lines that are accepted.
 use Rattle.std.specs.Prelude.{◌≡◌, ℕ, pos, List, [], ◌∷◌, length, Option, None, Some}
 use Rattle.log_model.specs.Core.{held_limit}
 use Rattle.log_model.specs.History.{History}
@@ -17,7 +17,7 @@ abbrev pub batch_number : List Row → History → Option ℕ
 batch_number [] history = None
 batch_number (row ∷ rows) history = Some (length history)
 
--- what lines with these rows come to, if they are taken in
+-- what lines with these rows come to, if they are read
 abbrev pub accepted : List Row → List Outcome → InsertOutcome
 accepted [] outcomes = no_row outcomes
 accepted (row ∷ rows) outcomes = taken outcomes
@@ -34,7 +34,7 @@ pub record IsInsertion (caller : Caller) (options : Options) (now : ℕ) (body :
   pub batch : insertion.batch ≡ batch_number (rows_read outcomes) new.history
   pub refused : insertion.refused ≡ refused_from 1 outcomes
 
--- the body comes to that, and nothing was added
+-- that is the outcome of the body, and nothing was added
 abbrev pub IsRefusal : Caller → Options → ℕ → List ℕ → Seen → Seen → InsertOutcome → Type 0
 IsRefusal caller options now body old new outcome =
     Has caller old new (insert_effect outcome) × HasInsertOutcome options now body new outcome
@@ -46,7 +46,7 @@ IsOfLines (faults.Full limit) = ⊥
 IsOfLines faults.Spent = ⊥
 IsOfLines faults.Memory = Unit {0}
 
--- Why nothing is taken in. Want of memory is free.
+-- Why nothing is read. `Memory` may always be returned.
 abbrev pub RefusesLines : Caller → Options → ℕ → List ℕ → Seen → Seen → InsertionFault → Type 0
 RefusesLines caller options now body old new (faults.Large weight) =
     IsRefusal caller options now body old new (large weight)

@@ -63,7 +63,7 @@ HaveTurns bytes turns =
 abbrev pub IsOfCaller : Caller → Entry → Type 0
 IsOfCaller caller entry = (is_own caller entry ≡ true) ⊎ IsStrange caller entry
 
--- The history goes on by entries of the caller's own, which are these batches, and of other callers. It took so many
+-- The history goes on by entries of the caller's own, which are these batches, and of other callers. It took this many
 -- turns at least.
 pub record Grows (caller : Caller) (old new : Seen) (batches : List Batch) (turns : ℕ) : Type 0 where
   pub later : History

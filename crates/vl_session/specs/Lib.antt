@@ -16,3 +16,4 @@ pub mod Answering
 pub mod SyslogSession
 pub mod SyslogTaking
 pub mod Laws
+pub use Rattle.query_run.specs.Asked

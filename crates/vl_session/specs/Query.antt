@@ -6,18 +6,18 @@ use Rattle.log_model.specs.Print.{lines_text}
 use Rattle.http_reply.specs.declared.status.Kind.TheVariants as kinds
 use Rattle.http_reply.specs.declared.status.Status.{Status}
 use Rattle.http_reply.specs.declared.status.Status.TheVariants as statuses
-use Rattle.lq_ast.specs.Evaluation as evaluation
-use Rattle.lq_ast.specs.Evaluation.{evaluate}
-use Rattle.lq_ast.specs.Patterns.{CanBeRead, all_patterns}
-use Rattle.lq_ast.specs.Question.{Question}
-use Rattle.lq_ast.specs.Records.{Record}
-use Rattle.lq_grammar.specs.Faults.{fault_text}
-use Rattle.lq_grammar.specs.Query.{IsQueryText}
-use Rattle.lq_grammar.specs.declared.fault.QueryFault.{QueryFault}
+use Rattle.query_run.specs.Evaluation as evaluation
+use Rattle.query_run.specs.Evaluation.{evaluate}
+use Rattle.query_run.specs.Patterns.{CanBeRead, all_patterns}
+use Rattle.query_run.specs.Question.{Question}
+use Rattle.query_run.specs.Records.{Record}
+use Rattle.query_run.specs.Faults.{fault_text}
+use Rattle.query_run.specs.Query.{IsQueryText}
+use Rattle.query_run.specs.QueryFault.{QueryFault}
 use Rattle.query_run.specs.Asked.{HasUnreadablePattern, IsUnspelled}
 use Rattle.vl_session.specs.Seen.{Effect, looks, nothing}
 
--- what a query comes to
+-- the result of a query
 pub data QueryOutcome : Type 0 where
   -- its text spells none
   unspelled : QueryFault → QueryOutcome
@@ -27,7 +27,7 @@ pub data QueryOutcome : Type 0 where
   found : List Record → QueryOutcome
   -- 2^32 rows hold, or more
   many_rows : QueryOutcome
-  -- the total of the function with this name is no 64-bit integer
+  -- the total of the function with this name is not a 64-bit integer
   overflows : List ℕ → QueryOutcome
 
 -- The text spells a query whose patterns can all be read, and this is its evaluation at that moment.

@@ -15,7 +15,7 @@ use Rattle.vl_session.specs.Query.{HasQueryOutcome, QueryOutcome, query_content,
 use Rattle.log_desk.specs.Seen.{Caller, Seen}
 use Rattle.vl_session.specs.Seen.{Effect, Has, asks, looks, nothing}
 
--- so many batches there are, and so many of them are settled
+-- this many batches there are, and this many of them are settled
 abbrev pub status_text : ℕ → ℕ → List ℕ
 status_text batches settled =
     line_text ((codes "batches", decimal batches) ∷ (codes "settled", decimal settled) ∷ [])
@@ -23,7 +23,7 @@ status_text batches settled =
 abbrev pub status_content : Seen → List ℕ
 status_content seen = status_text (length seen.history) seen.settled
 
--- a query has this outcome, which is what is said
+-- a query has this outcome, which is what is reported
 pub record AnswersQuery (text : List ℕ) (now : ℕ) (seen : Seen) (delivery : Delivery) (effect : Effect)
     (reply : List ℕ) : Type 0 where
   pub outcome : QueryOutcome
@@ -31,7 +31,7 @@ pub record AnswersQuery (text : List ℕ) (now : ℕ) (seen : Seen) (delivery : 
   pub effect_is : effect ≡ query_effect outcome
   pub said : reply ≡ reply_bytes (query_status outcome) (query_content outcome) delivery
 
--- a body has this outcome, which is what is said
+-- a body has this outcome, which is what is reported
 pub record AnswersInsert (options : Options) (now : ℕ) (body : List ℕ) (seen : Seen) (delivery : Delivery)
     (effect : Effect) (reply : List ℕ) : Type 0 where
   pub outcome : InsertOutcome
@@ -55,7 +55,7 @@ Answers (Err refusal) body now seen delivery effect reply =
 abbrev pub AnswersNothing : Delivery → Effect → List ℕ → Type 0
 AnswersNothing delivery effect reply = (effect ≡ asks) × (reply ≡ no_memory_bytes delivery)
 
--- A request that was whole at the moment `now` was served with this effect, and this is the reply, behind which the
+-- A request that was whole at the moment `now` was served with this effect, and this is the reply, after which the
 -- connection ends or goes on.
 pub record IsServed (caller : Caller) (asked : Asked) (closes : Bool) (now : ℕ) (old new : Seen) (effect : Effect)
     (reply : List ℕ) : Type 0 where

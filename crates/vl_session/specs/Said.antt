@@ -1,4 +1,4 @@
--- What is said of lines, member by member.
+-- The reply to an insert, member by member.
 use Rattle.std.specs.Prelude.{ℕ, List, [], ◌∷◌, ◌++◌, length, codes, decimal, flat_map}
 use Rattle.json.specs.Print.{escape}
 use Rattle.log_model.specs.Field.{Field}
@@ -13,7 +13,7 @@ first_member field = codes "{\"" ++ (escape field.0 ++ (codes "\":\"" ++ escape 
 abbrev pub later_member : Field → List ℕ
 later_member field = codes "\",\"" ++ (escape field.0 ++ (codes "\":\"" ++ escape field.1))
 
--- behind the counts of rows and their batch: the refused lines, and the end
+-- after the counts of rows and their batch: the refused lines, and the end
 abbrev pub refused_text : List LineFault → List ℕ
 refused_text faults =
     flat_map later_member (fault_fields faults ++ (codes "refused", decimal (length faults)) ∷ []) ++ codes "\"}\n"

@@ -71,7 +71,7 @@ IsFull seen = IsFullAt (length seen.history) seen.settled
 abbrev pub HasLastNumber : Seen → Type 0
 HasLastNumber seen = length seen.history ≡ last_number
 
--- A batch was not inserted, for the cause that the turn showed which was taken. Want of memory is free.
+-- A batch was not inserted, for the cause that the turn showed which was taken. `Memory` may always be returned.
 abbrev pub IsRefused : Caller → Seen → Seen → InsertFault → Type 0
 IsRefused caller old new (Full held) = Looks caller old new × Refuses (length new.history) new.settled (Full held)
 IsRefused caller old new Spent = Looks caller old new × Refuses (length new.history) new.settled Spent

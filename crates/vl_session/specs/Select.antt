@@ -6,7 +6,7 @@ use Rattle.http_reply.specs.Reply.{reply_bytes}
 use Rattle.http_reply.specs.declared.status.Kind.TheVariants as kinds
 use Rattle.http_reply.specs.declared.status.Status.TheVariants as statuses
 use Rattle.http_route.specs.Route.{delivery_of, query, wanted_of}
-use Rattle.lq_ast.specs.Records.{Record}
+use Rattle.query_run.specs.Records.{Record}
 use Rattle.vl_session.specs.Query.{HasQueryOutcome, found}
 use Rattle.vl_session.specs.Reply.{AnswersNothing, IsServed}
 use Rattle.log_desk.specs.Seen.{Caller, Seen}

@@ -1,4 +1,4 @@
--- What one step of a session does: it comes to a request or ends, and it serves a request.
+-- What one step of a session does: it reads a request or ends, and it serves a request.
 use Rattle.std.specs.Prelude.{◌≡◌, ℕ, false, true, List, [], ◌∷◌, ◌++◌, length, MatchResult, Option, None, Result}
 use Rattle.std.specs.Prelude.{string_bytes}
 use Rattle.vl_io.specs.Bytes.{Consumes}
@@ -22,7 +22,7 @@ bytes_of (Whole text) = string_bytes text
 bytes_of (Parts head content) = string_bytes head ++ content
 bytes_of (Fixed text) = text.now
 
--- the reader came to a request, and stands behind it
+-- the reader read a request, and stands after it
 pub record Reaches (old new : Reading) (left_old left_new : Option (List ℕ)) (asked : Asked) : Type 0 where
   pub piece : List ℕ
   pub consumed : Consumes left_old left_new piece
@@ -48,7 +48,7 @@ EndsRefused sink fault (ends.BadInput said) = (said ≡ fault) × Took sink (fau
 EndsRefused sink fault ends.SinkFault = IsCut sink [] (fault_bytes fault)
 EndsRefused sink fault other = ⊥
 
--- A request was served, as the turn before which so many came, and noted.
+-- A request was served, as the turn before which this many came, and noted.
 pub record Serves (caller : Caller) (asked : Asked) (old new : Seen) (dones_old dones_new : List Done)
     (turn : Turn) : Type 0 where
   pub asked_is : turn.asked ≡ asked
@@ -64,7 +64,7 @@ EndsTurn turn sink ends.AskedClose = (turn.asked.last ≡ true) × Took sink tur
 EndsTurn turn sink ends.SinkFault = IsCut sink [] turn.reply
 EndsTurn turn sink other = ⊥
 
--- The session goes on behind the turn, or ends with it.
+-- The session goes on after the turn, or ends with it.
 abbrev pub GoesOn : {T : Type 0} → Turn → Change → Result T End → Type 0
 GoesOn turn sink result =
     MatchResult result (λ _. (turn.asked.last ≡ false) × Took sink turn.reply) (λ end. EndsTurn turn sink end)

@@ -1,4 +1,4 @@
--- One session of HTTP: what a connection comes to.
+-- One session of HTTP: the result of a connection.
 use Rattle.std.specs.Prelude.{◌≡◌, ◌⊎◌, ℕ, ◌<◌, ◌≤◌, true, false, List, [], ◌∷◌, ◌++◌, length, Option, Some}
 use Rattle.std.specs.Prelude.{unwrap_or}
 use Rattle.std.specs.List.{AllZip}
@@ -14,7 +14,7 @@ use Rattle.vl_session.specs.declared.report.Done.{Done}
 use Rattle.vl_session.specs.declared.report.End.{End}
 use Rattle.vl_session.specs.declared.report.End.TheVariants as ends
 
--- what is written to bytes that are no request; nothing where the input ended or failed
+-- what is written to bytes that are not a request; nothing where the input ended or failed
 abbrev pub fault_bytes : RequestFault → List ℕ
 fault_bytes fault = unwrap_or (fault_page fault) []
 
@@ -27,7 +27,7 @@ pub record StopsReading (start : ℕ) (rest : List ℕ) (ended : Type 0) (fault 
   pub explained : Explains start rest ended fault
   pub lasts : lasting fault ≡ Some fault
 
--- Of the last reply, or of the one to a fault, a proper prefix was written alone, since the sink failed.
+-- Of the last reply, or of the one to a fault, a proper prefix was written only, since the sink failed.
 abbrev pub IsReplyCut : Change → List Turn → ℕ → List ℕ → Type 0 → Type 0
 IsReplyCut sink turns start rest ended =
     ((front : List Turn) × (turn : Turn) × (turns ≡ front ++ turn ∷ []) × IsCut sink (replies_of front) turn.reply)
@@ -35,7 +35,7 @@ IsReplyCut sink turns start rest ended =
     × ((fault : RequestFault) × StopsReading start rest ended fault
     × IsCut sink (replies_of turns) (fault_bytes fault)))
 
--- Why the session ends, behind these turns and before this rest, which begins at that place.
+-- Why the session ends, after these turns and before this rest, which begins at that place.
 abbrev pub Ends : Change → Change → List Turn → ℕ → List ℕ → End → Type 0
 Ends source sink turns start rest ends.Closed =
     (rest ≡ []) × IsSpent source × StaysOpen turns × Took sink (replies_of turns)

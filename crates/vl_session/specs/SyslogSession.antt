@@ -1,4 +1,4 @@
--- One session of syslog: what a stream of messages comes to (RFC 5424, in the frames of RFC 6587).
+-- One session of syslog: the result of a stream of messages (RFC 5424, in the frames of RFC 6587).
 use Rattle.std.specs.Prelude.{◌≡◌, ◌⊎◌, ℕ, ◌*◌, ◌<◌, ◌≤◌, pos, true, false, List, [], ◌∷◌, ◌++◌}
 use Rattle.std.specs.Prelude.{length, take, drop, flat_map, count_by, Option, None, Some, is_none}
 use Rattle.std.specs.List.{AllByRecursion, AllZip}
@@ -48,7 +48,7 @@ AreBatches rows [] = rows ≡ []
 AreBatches rows (batch ∷ batches) =
     (0 < length batch) × (batch ≡ take batch_rows rows) × AreBatches (drop batch_rows rows) batches
 
--- These batches were taken in, one after another. Entries of others may lie between them.
+-- These batches were accepted, one after another. Entries of others may lie between them.
 abbrev pub TakesAll : Caller → Seen → List Batch → Seen → Type 0
 TakesAll caller old [] new = new ≡ old
 TakesAll caller old (batch ∷ batches) new =
@@ -93,7 +93,7 @@ moment_of (message ∷ messages) now = now ∷ []
 abbrev pub moments_read : List Read → List ℕ
 moments_read reads = flat_map (λ read. moment_of read.messages read.now) reads
 
--- It gave a piece behind these bytes, which completes its messages.
+-- It gave a piece after these bytes, which completes its messages.
 pub record GivesPiece (fed : List ℕ) (read : Read) : Type 0 where
   pub some : 0 < length read.bytes
   pub few : length read.bytes ≤ read_limit
@@ -104,7 +104,7 @@ pub record GivesPiece (fed : List ℕ) (read : Read) : Type 0 where
   pub goes_on : CanGoOn left
   pub is_after : AreFrames (fed ++ read.bytes) (before ++ read.messages) rest
 
--- It said that the input ended behind these bytes, which makes a message of the rest, if there is one.
+-- It said that the input ended after these bytes, which makes a message of the rest, if there is one.
 pub record GivesEnd (source : Change) (fed : List ℕ) (read : Read) : Type 0 where
   pub none : read.bytes ≡ []
   pub spent : IsSpent source
@@ -119,7 +119,7 @@ pub record GivesEnd (source : Change) (fed : List ℕ) (read : Read) : Type 0 wh
 abbrev pub IsWhole : Read → Type 0
 IsWhole read = length read.outcomes ≡ length read.messages
 
--- These reads came one after another, behind these bytes. None follows the input's end, nor one of which messages were
+-- These reads came one after another, after these bytes. None follows the input's end, nor one of which messages were
 -- left.
 abbrev pub AreReads : Change → List ℕ → List Read → Type 0
 AreReads source fed [] = Unit {0}
@@ -168,7 +168,7 @@ IsBadFrame source bytes rest (faults.Cut at) =
 IsBadFrame source bytes rest (faults.Ended first at) = ⊥
 IsBadFrame source bytes rest faults.Memory = ⊥
 
--- Behind the messages that were taken up, some of the last read are the next batch, which has a row.
+-- After the messages that were taken up, some of the last read are the next batch, which has a row.
 pub record IsHeldUp (reads : List Read) : Type 0 where
   pub front : List Read
   pub read : Read
@@ -205,7 +205,7 @@ EndsStream source reads bytes last ends.Spent =
     IsFront bytes (messages_of reads) × IsHeldUp reads × (IsFull last → ⊥) × HasLastNumber last
 EndsStream source reads bytes last ends.Memory = IsFront bytes (messages_of reads)
 
--- For want of memory, the last piece that the source gave may not have been looked at.
+-- For out of memory, the last piece that the source gave may not have been looked at.
 abbrev pub IsLeft : SyslogEnd → List ℕ → Type 0
 IsLeft ends.Closed left = left ≡ []
 IsLeft ends.Limit left = left ≡ []
@@ -226,6 +226,6 @@ pub record IsSyslogSession (caller : Caller) (first last : Seen) (source : Chang
   pub are_reads : AreReads source [] reads
   pub mid : Seen
   pub taken : AreTakenUp caller first mid moments_old moments_new report.accepted report.refused reads
-  -- behind its last batch
+  -- after its last batch
   pub has : Has caller mid last (end_effect report.end)
   pub ended : EndsStream source reads (bytes_read reads ++ left) last report.end

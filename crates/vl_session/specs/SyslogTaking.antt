@@ -48,7 +48,7 @@ pub record IsChunk (now : ℕ) (messages : List (List ℕ)) (start : ℕ) (chunk
   pub end_is : chunk.end ≡ start + length outcomes
   pub rows : chunk.rows.items ≡ message_rows outcomes
 
--- what stands against rows that are one batch
+-- what prevents rows that are one batch
 abbrev pub HoldsUp : List Row → Seen → SyslogEnd → Type 0
 HoldsUp rows seen ends.Closed = ⊥
 HoldsUp rows seen ends.Limit = ⊥
@@ -76,7 +76,7 @@ StopsAt now messages outcomes seen end =
     (later : List (Option Row)) × BeginWith now (drop (length outcomes) messages) later
     × HoldsUp (message_rows later) seen end
 
--- Some of these messages were taken up, but not all, and this is what the end did behind that.
+-- Some of these messages were taken up, but not all, and this is what the end did after that.
 pub record TakesSome (caller : Caller) (now : ℕ) (messages : List (List ℕ)) (old new : Seen) (before after : Counts)
     (outcomes : List (Option Row)) (batches : List Batch) (end : SyslogEnd) : Type 0 where
   pub mid : Seen
@@ -95,7 +95,7 @@ pub record Feeds (fed piece : List ℕ) (source : Change) (messages : List (List
   pub within : length (fed ++ piece) ≤ session_limit
   pub completes : Completes fed piece [] messages rest
 
--- what a read comes to behind these bytes, and why the session ends behind its messages, if it does
+-- the result of a read after these bytes, and why the session ends after its messages, if it does
 abbrev pub Comes : List ℕ → Change → Framing → Framing → List (List ℕ) → ℕ → Option SyslogEnd → Type 0
 Comes fed source old new messages taken None =
     (piece : List ℕ) × Feeds fed piece source messages new.rest × HasTaken new (fed ++ piece)

@@ -21,16 +21,16 @@ pub record Turn : Type 0 where
   pub seen : Seen
   pub reply : List ℕ
 
--- The connection ends behind the reply to a request before which so many were served.
+-- The connection ends after the reply to a request before which this many were served.
 abbrev pub closes_after : ℕ → Asked → Bool
 closes_after before asked = asked.last || (before + 1 == turn_limit)
 
--- This turn came behind so many others.
+-- This turn came after this many others.
 abbrev pub IsTurn : Caller → ℕ → Seen → Turn → Type 0
 IsTurn caller before old turn =
     IsServed caller turn.asked (closes_after before turn.asked) turn.now old turn.seen turn.effect turn.reply
 
--- These turns came one after another, where so many came before. What had been seen was `old`, and is `new` then.
+-- These turns came one after another, where this many came before. What had been seen was `old`, and is `new` then.
 abbrev pub AreTurns : Caller → ℕ → Seen → List Turn → Seen → Type 0
 AreTurns caller before old [] new = new ≡ old
 AreTurns caller before old (turn ∷ turns) new =

@@ -1,6 +1,6 @@
 //! Queries over what the desk holds.
 ghost use Rattle.std.specs.Prelude.{◌≡◌, ◌≤ℤ◌, IfErr, IfOk, OnOk, pos, unsigned_abs};
-ghost use Rattle.turn_lock.specs.Passes.{IsPassOf};
+ghost use Rattle.log_desk.specs.Passes.{IsPassOf};
 ghost use Rattle.log_desk.specs.Seen.{caller_of, seen_of};
 ghost use Rattle.query_run.specs.Asked.{IsReadableQuery};
 ghost use Rattle.vl_session.specs.Answer.{FailsQuery, HasRecords, IsOfEvaluation, IsQueryAnswer, fault_effect};
@@ -10,8 +10,7 @@ use crate::access::Access;
 use crate::law::select_law;
 use log_core::history_law;
 use log_desk::{Desk, Pass};
-use lq_grammar::QueryFault;
-use query_run::{QueryRefusal, RunFault, answer, read_query};
+use query_run::{QueryFault, QueryRefusal, RunFault, answer, read_query};
 use std::alloc::{AllocError, Global};
 use std::sync::Wait;
 use vl_row::Text;
@@ -28,14 +27,14 @@ pub struct Answer {
 /// Why a query has no answer.
 #[derive(Drop)]
 pub enum AnswerFault {
-    /// The text spells no query, for this fault, which is not want of memory.
+    /// The text spells no query, for this fault, which is not out of memory.
     Query(QueryFault),
     /// The regular expression with this number, counted from 0 in the order of the text, is the first that cannot be
     /// read.
     RegexRefused { nth: u32 },
     /// 2^32 rows hold, or more.
     ManyRows,
-    /// The total of the function of `stats` with this name is no 64-bit integer.
+    /// The total of the function of `stats` with this name is not a 64-bit integer.
     Overflow { name: Text },
     /// Memory ran out.
     Memory,
@@ -86,7 +85,7 @@ pub fn answer_query<R: Wait>(
     ensures answered { IfOk result (IsQueryAnswer text.now (unsigned_abs now) (seen_of pass.new).history) }
     ensures refused { IfErr result (FailsQuery text.now (unsigned_abs now) (seen_of pass.new).history) }
 
-    // A query that can be asked fails in its evaluation alone, and not there where that has records, unless memory runs
+    // A query that can be asked fails in its evaluation only, and not there where that has records, unless memory runs
     // out.
     ensures asked { IsReadableQuery text.now → IfErr result IsOfEvaluation }
     ensures complete { HasRecords text.now (unsigned_abs now) (seen_of pass.new).history
@@ -104,7 +103,7 @@ pub fn answer_query<R: Wait>(
     answer_text(&access, pass, text, now)
 }
 
-/// The answer to a query, or why there is none.
+/// Returns the answer to a query, or why there is none.
 pub(crate) fn answer_text<R: Wait>(
     access: &Access<'_, R>,
     pass: &mut Pass,

@@ -1,6 +1,6 @@
 //! The desk as the log of one of its callers.
 ghost use Rattle.std.specs.Prelude.{◌≡◌, ◌≤ℤ◌, IfOk, IsOkAnd, OnErr, pos, string_bytes, unsigned_abs};
-ghost use Rattle.turn_lock.specs.Passes.{IsPassOf};
+ghost use Rattle.log_desk.specs.Passes.{IsPassOf};
 ghost use Rattle.log_desk.specs.Seen.{Follows, caller_of, seen_of};
 ghost use Rattle.http_in.specs.Reading.{asked_by};
 ghost use Rattle.http_route.specs.Route.{wanted_of};
@@ -30,7 +30,7 @@ pub(crate) struct DeskLog<'s, R> {
 }
 
 impl<R: Wait> Log for DeskLog<'_, R> {
-    ghost use Rattle.turn_lock.specs.Passes.{IsPassOf};
+    ghost use Rattle.log_desk.specs.Passes.{IsPassOf};
     ghost use Rattle.log_desk.specs.Seen.{caller_of, seen_of};
 
     ghost seen = { λ log. seen_of log.pass.now };
@@ -58,7 +58,7 @@ impl<R: Wait> Log for DeskLog<'_, R> {
     }
 }
 
-/// The reply to a request. Where memory runs out there is none, and nothing was added.
+/// Returns the reply to a request. Where memory runs out there is none, and nothing was added.
 fn reply_to<R: Wait>(
     access: &Access<'_, R>,
     pass: &mut Pass,
@@ -126,7 +126,7 @@ fn take_in<R: Wait>(
     }
 }
 
-/// The reply to a query.
+/// Returns the reply to a query.
 fn query_reply<R: Wait>(
     access: &Access<'_, R>,
     pass: &mut Pass,
@@ -154,7 +154,7 @@ fn query_reply<R: Wait>(
     }
 }
 
-/// A text as a reply.
+/// Returns a text as a reply.
 fn whole(text: Result<String, AllocError>) -> Result<Reply, AllocError>
     ensures { IfOk result (λ reply. IsOkAnd text (λ text. bytes_of reply ≡ string_bytes text)) }
 {

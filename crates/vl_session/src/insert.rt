@@ -1,7 +1,7 @@
-//! Lines of JSON taken in by the desk.
+//! Lines of JSON read by the desk.
 ghost use Rattle.std.specs.Prelude.{◌≡◌, ◌≤ℤ◌, IfErr, IfOk, List, Some, length, pos, unsigned_abs};
 ghost use Rattle.ingest_row.specs.Intake.{Outcome};
-ghost use Rattle.turn_lock.specs.Passes.{IsPassOf};
+ghost use Rattle.log_desk.specs.Passes.{IsPassOf};
 ghost use Rattle.vl_session.specs.Incoming.{Commits, IsIncoming, IsUncommitted, IsNoBatch};
 ghost use Rattle.log_desk.specs.Seen.{caller_of, seen_of};
 ghost use Rattle.vl_session.specs.Insert.{CanBeBatch};
@@ -26,14 +26,14 @@ pub struct Insertion {
     pub refused: Items<LineFault>,
 }
 
-/// Why nothing of a body was taken in.
+/// Why nothing of a body was read.
 #[derive(Clone, Copy, Debug, PartialEq, Eq, Drop)]
 pub enum InsertionFault {
-    /// The rows weigh so much together, which is more than a batch may, or the largest `u64` where that is more.
+    /// The rows weigh this much together, which is more than a batch may, or the largest `u64` where that is more.
     Large { weight: u64 },
-    /// So many batches wait to be settled, and no more may.
+    /// This many batches wait to be settled, and no more may.
     Full { held: u64 },
-    /// There is no number for one more batch.
+    /// All batch numbers are used.
     Spent,
     /// Memory ran out.
     Memory,
@@ -83,10 +83,10 @@ pub fn insert_lines<R: Wait>(
     ensures refused { IfErr result (RefusesLines (caller_of pass.old) options.now (unsigned_abs now) body.now
         (seen_of pass.old) (seen_of pass.new)) }
 
-    // Where there is room for another batch, lines are refused for their weight alone, or for want of memory.
+    // Where there is room for another batch, lines are refused only for their weight, or because memory ran out.
     ensures room { HasRoom (seen_of pass.new) → IfErr result IsOfLines }
 
-    // And lines with rows that can be a batch are taken in as one then, unless memory runs out.
+    // And lines with rows that can be a batch are accepted as one then, unless memory runs out.
     ensures batch { (outcomes : List Outcome) → CanBeBatch options.now (unsigned_abs now) body.now outcomes
         → IfOk result (λ insertion. insertion.batch ≡ Some (length (seen_of pass.new).history)) }
     ensures complete { (outcomes : List Outcome) → CanBeBatch options.now (unsigned_abs now) body.now outcomes
@@ -109,7 +109,7 @@ pub(crate) struct Incoming {
 }
 
 impl Incoming {
-    /// Reads the lines of a body. Only their rows, and that these are too much, can stand against it.
+    /// Reads the lines of a body. Fails only if the rows exceed the batch limit or memory runs out.
     pub(crate) fn read(
         alloc: Global,
         options: &Options,

@@ -14,7 +14,7 @@ use std::alloc::{AllocError, Global};
 /// The most refused lines that a reply names.
 const NAMED_LIMIT: usize = 16;
 
-/// Appends the start of what is said of lines: how many gave a row. The end of this value is left to what follows.
+/// Writes the reply up to the accepted count. The caller writes the closing quote.
 pub(crate) fn push_accepted(text: &mut String, accepted: u64) -> Result<(), AllocError>
     ensures { OnOk result (string_bytes text.new
         ≡ string_bytes text.old ++ first_member (codes "accepted", decimal accepted)) }
@@ -22,7 +22,7 @@ pub(crate) fn push_accepted(text: &mut String, accepted: u64) -> Result<(), Allo
     write!(text, "{{\"accepted\":\"{accepted}")
 }
 
-/// Appends the end of what is said of lines: which were refused.
+/// Writes the rest of the reply: which lines were refused.
 pub(crate) fn push_refused(text: &mut String, refused: &[LineFault]) -> Result<(), AllocError>
     ensures { OnOk result (string_bytes text.new ≡ string_bytes text.old ++ refused_text refused.now) }
 {
@@ -44,7 +44,7 @@ fn push_faults(text: &mut String, refused: &[LineFault]) -> Result<(), AllocErro
     push_others(text, &others[..others.len().min(NAMED_LIMIT - 1)])
 }
 
-/// Appends the names of lines behind others.
+/// Appends the names of lines after others.
 fn push_others(text: &mut String, others: &[LineFault]) -> Result<(), AllocError>
     ensures { OnOk result (string_bytes text.new ≡ string_bytes text.old ++ flat_map later_line others.now) }
 {
@@ -64,7 +64,7 @@ fn push_named(text: &mut String, fault: &LineFault) -> Result<(), AllocError>
     write!(text, "{number} {kind}")
 }
 
-/// The reply where nothing was taken in. There is none where memory ran out.
+/// Returns the reply where nothing was read. There is none where memory ran out.
 pub(crate) fn refusal_reply(
     alloc: Global,
     fault: InsertionFault,
@@ -86,7 +86,7 @@ pub(crate) fn refusal_reply(
     }
 }
 
-/// The reply where the rows weigh too much.
+/// Returns the reply where the rows weigh too much.
 fn large_reply(alloc: Global, weight: u64, delivery: Delivery) -> Result<String, AllocError>
     ensures { IfOk result (λ text. string_bytes text
         ≡ reply_bytes Status.ContentTooLarge (refusal_text (large weight)) delivery) }

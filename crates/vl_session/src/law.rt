@@ -2,7 +2,7 @@
 ghost use Rattle.std.specs.Prelude.{◌≡◌, ℕ, ◌+◌, ◌++◌, List, [], ◌∷◌, flat_map, length};
 ghost use Rattle.log_model.specs.History.{History, batches_in};
 ghost use Rattle.log_model.specs.Row.{Batch};
-ghost use Rattle.lq_ast.specs.Records.{Record};
+ghost use Rattle.query_run.specs.Records.{Record};
 ghost use Rattle.ingest_row.specs.Ingest.{Options};
 ghost use Rattle.ingest_row.specs.Intake.{Outcome};
 ghost use Rattle.query_run.specs.Asked.{IsReadableQuery};
@@ -20,9 +20,9 @@ ghost use Rattle.vl_session.specs.Turns.{accepted_in, desk_turns_of};
 ghost use Rattle.vl_session.specs.declared.answer.AnswerFault.{AnswerFault};
 
 use ingest_row::intake_law;
-use lq_grammar::query_law;
+use query_run::query_law;
 
-/// A query that has records comes to nothing else. So a select that asks it is answered with them, or that memory ran
+/// A query that has records has no other outcome. So a select that asks it is answered with them, or that memory ran
 /// out.
 pub fn select_law()
     ensures found { (text : List ℕ) (now : ℕ) (history : History) (records : List Record)
@@ -35,7 +35,7 @@ pub fn select_law()
     query_law();
 }
 
-/// Lines of which some have rows, and these can be a batch, come to that batch alone, where there is room for another.
+/// Lines of which some have rows, and these can be a batch, become just that batch, where there is room for another.
 /// So an insert of such lines is accepted, or memory ran out.
 pub fn insert_law()
     ensures taken { (options : Options) (now : ℕ) (body : List ℕ) (outcomes : List Outcome)
@@ -67,7 +67,7 @@ pub fn syslog_law()
         → flat_map (λ batch. batch) (batches_of session.reads) ≡ message_rows (outcomes_of session.reads) }
 {}
 
-/// On a desk that is made for one pass, nobody else adds to the history: what a session adds is the batches of its
+/// On a desk that is made for one pass, no one else adds to the history: what a session adds is the batches of its
 /// accepted inserts, and what a session of syslog adds is its batches.
 pub fn alone_law()
     ensures { (caller : Caller) (old new : Seen) (batches : List Batch) (turns : ℕ) → caller.lock.passes ≡ 1

@@ -1,4 +1,4 @@
-//! Sessions of HTTP and of syslog over a log: what is replied, what is taken in, and what one connection comes to.
+//! Sessions of HTTP and of syslog over a log: what is replied, what is read, and the result of one connection.
 #![tactic(auto)]
 
 mod access;

@@ -14,7 +14,7 @@ use vl_row::Text;
 pub enum Reply {
     /// All of it.
     Whole(String),
-    /// Its head, and its content, which is not copied behind that.
+    /// Its head, and its content, which is not copied after that.
     Parts { head: String, content: Text },
     /// A fixed text, which needs no memory.
     Fixed(&'static str),
@@ -35,7 +35,7 @@ pub trait Log {
     ghost name: { Self → ℕ };
 
     /// Serves a request that was whole at the moment `now`, in nanoseconds since the start of 1970, and gives the
-    /// reply, behind which the connection ends or goes on.
+    /// reply, after which the connection ends or goes on.
     fn serve(&mut self, request: &Request, now: i64, closes: bool) -> Reply
         requires may_ask { may_ask self.old }
         requires moment { pos 0 ≤ℤ now }
@@ -45,11 +45,11 @@ pub trait Log {
         ensures same { caller self.new ≡ caller self.old }
         ensures lent { name self.new ≡ name self.old };
 
-    /// How many batches the caller has seen.
+    /// Returns how many batches the caller has seen.
     fn front(&self) -> u64
         ensures { result ≡ length (seen self.now).history };
 
-    /// How many of them, as it has seen, are settled.
+    /// Returns how many of them, as it has seen, are settled.
     fn settled(&self) -> u64
         ensures { result ≡ (seen self.now).settled };
 }

@@ -6,14 +6,14 @@ ghost use Rattle.vl_session.specs.Reply.{status_text};
 use http_reply::{Delivery, Kind, Status, reply};
 use std::alloc::{AllocError, Global};
 
-/// The reply to `/health`.
+/// Returns the reply to `/health`.
 pub(crate) fn health_reply(alloc: Global, delivery: Delivery) -> Result<String, AllocError>
     ensures { IfOk result (λ text. string_bytes text ≡ reply_bytes (Status.Served Kind.Text) (codes "OK\n") delivery) }
 {
     reply(alloc, Status::Served(Kind::Text), "OK\n", delivery)
 }
 
-/// The reply to `/status`, where there are so many batches, and so many of them are settled.
+/// Returns the reply to `/status`, where there are this many batches, and this many of them are settled.
 pub(crate) fn status_reply(
     alloc: Global,
     batches: u64,

@@ -26,13 +26,13 @@ pub(crate) enum PreparedReply {
 /// A reply around the number of a batch, and around the length of its content, which depends on that number's digits.
 #[derive(Drop)]
 pub(crate) struct NumberedReply {
-    // The head up to the length. What follows has room behind it.
+    // The head up to the length. What follows has room after it.
     head_start: String,
-    // The head behind the length.
+    // The head after the length.
     head_end: String,
     // The content up to the number.
     content_start: String,
-    // The content behind the number.
+    // The content after the number.
     content_end: String,
     ghost room: { string_len head_start + (20 + string_len head_end)
         + (string_len content_start + 20 + string_len content_end) ≤ string_capacity head_start },
@@ -58,7 +58,7 @@ impl PreparedReply {
         }
     }
 
-    /// The reply, where the rows are the batch with this number, if there are any.
+    /// Returns the reply, where the rows are the batch with this number, if there are any.
     pub(crate) fn with_number(self, number: u64) -> String
         ensures { string_bytes result ≡ text_with self number }
     {
@@ -108,7 +108,7 @@ impl NumberedReply {
         })
     }
 
-    /// The reply with this number.
+    /// Returns the reply with this number.
     fn with_number(self, number: u64) -> String
         ensures { string_bytes result ≡ numbered_text self number }
     {
@@ -132,7 +132,7 @@ impl NumberedReply {
     }
 }
 
-/// The reply to lines that names no batch, since there is none or there is no content.
+/// Returns the reply to lines that names no batch, since there is none or there is no content.
 fn numberless_reply(
     alloc: Global,
     incoming: &Incoming,

@@ -9,11 +9,11 @@ ghost use Rattle.vl_session.specs.Sent.{bytes_of};
 use crate::answer::AnswerFault;
 use crate::log::Reply;
 use http_reply::{Delivery, Kind, Status, reply, reply_head};
-use lq_grammar::QueryFault;
+use query_run::QueryFault;
 use std::alloc::{AllocError, Global};
 use vl_row::Text;
 
-/// The reply with these lines, which are not copied.
+/// Returns the reply with these lines, which are not copied.
 pub(crate) fn lines_reply(
     alloc: Global,
     lines: Text,
@@ -32,7 +32,7 @@ pub(crate) fn lines_reply(
     })
 }
 
-/// The reply where there is no answer. There is none where memory ran out.
+/// Returns the reply where there is no answer. There is none where memory ran out.
 pub(crate) fn unanswered_reply(
     alloc: Global,
     fault: AnswerFault,
@@ -62,7 +62,7 @@ pub(crate) fn unanswered_reply(
     }
 }
 
-/// The reply to a text that spells no query.
+/// Returns the reply to a text that spells no query.
 fn unspelled_reply(
     alloc: Global,
     fault: QueryFault,
@@ -75,7 +75,7 @@ fn unspelled_reply(
     reply(alloc, Status::BadRequest, content.as_str(), delivery)
 }
 
-/// The reply where the regular expression with this number is the first that cannot be read.
+/// Returns the reply where the regular expression with this number is the first that cannot be read.
 fn unreadable_reply(alloc: Global, nth: u32, delivery: Delivery) -> Result<String, AllocError>
     ensures { IfOk result (λ text. string_bytes text
         ≡ reply_bytes Status.BadRequest (query_content (unreadable nth)) delivery) }
@@ -84,7 +84,7 @@ fn unreadable_reply(alloc: Global, nth: u32, delivery: Delivery) -> Result<Strin
     reply(alloc, Status::BadRequest, content.as_str(), delivery)
 }
 
-/// The reply where the total of the function with this name is no 64-bit integer.
+/// Returns the reply where the total of the function with this name is not a 64-bit integer.
 fn overflow_reply(alloc: Global, name: &str, delivery: Delivery) -> Result<String, AllocError>
     ensures { IfOk result (λ text. string_bytes text
         ≡ reply_bytes Status.UnprocessableContent (query_content (overflows name.now)) delivery) }

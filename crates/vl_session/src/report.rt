@@ -35,7 +35,7 @@ pub enum End {
     SourceFault,
     /// The sink failed.
     SinkFault,
-    /// What came next is no request.
+    /// What came next is not a request.
     BadInput(RequestFault),
     /// Memory ran out.
     Memory,

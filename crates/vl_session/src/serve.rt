@@ -1,7 +1,7 @@
 //! Sessions over the desk.
 ghost use Rattle.std.specs.Prelude.{◌≡◌};
 ghost use Rattle.vl_io.specs.Change.{change_of};
-ghost use Rattle.turn_lock.specs.Passes.{IsPassOf};
+ghost use Rattle.log_desk.specs.Passes.{IsPassOf};
 ghost use Rattle.log_desk.specs.Seen.{caller_of, seen_of};
 ghost use Rattle.vl_session.specs.Session.{IsSession};
 

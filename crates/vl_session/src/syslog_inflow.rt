@@ -46,7 +46,7 @@ impl Inflow {
         }
     }
 
-    /// Reads once, so that `messages` are those that this read completes. The answer is why the session ends behind
+    /// Reads once, so that `messages` are those that this read completes. The answer is why the session ends after
     /// them, if it does.
     pub(crate) fn advance<S: Source>(
         &mut self,
@@ -84,7 +84,7 @@ impl Inflow {
         }
     }
 
-    /// The source gave a piece.
+    /// Returns the source gave a piece.
     fn feed(&mut self, alloc: Global, piece: &[u8]) -> Option<SyslogEnd>
         requires empty { self.old.messages ≡ [] }
         requires some { 0 < length piece.now }

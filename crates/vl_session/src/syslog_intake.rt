@@ -1,8 +1,8 @@
-//! Messages of syslog taken in by the desk.
+//! Messages of syslog read by the desk.
 ghost use Rattle.std.specs.Prelude.{◌≡◌, ℕ, ◌+◌, ◌*◌, ◌^◌, ◌<◌, ◌≤◌, ◌≤ℤ◌, IfErr, IfOk, IfSome, List, OnOk, Option};
 ghost use Rattle.std.specs.Prelude.{length, pos, unsigned_abs, vec_len};
 ghost use Rattle.log_model.specs.Row.{Batch as Rows, IsRow, Row as Event, batch_weight};
-ghost use Rattle.turn_lock.specs.Passes.{IsPassOf};
+ghost use Rattle.log_desk.specs.Passes.{IsPassOf};
 ghost use Rattle.log_desk.specs.Seen.{caller_of, seen_of};
 ghost use Rattle.vl_session.specs.Seen.{Has, batches_of_rows};
 ghost use Rattle.vl_session.specs.SyslogSession.{IsMessageOutcome, TakesAll, batch_rows, end_effect, moment_of};
@@ -19,10 +19,10 @@ use syslog_in::Frames;
 use vl_io::Clock;
 use vl_row::{Batch, BatchFault, Row};
 
-/// The most rows of a batch. So many rows are never too much for one.
+/// The most rows of a batch. This many rows are never too much for one.
 const BATCH_ROWS: usize = 256;
 
-/// How many messages have a row that was taken in, and how many have none.
+/// How many messages have a row that was read, and how many have none.
 #[derive(Clone, Copy)]
 pub(crate) struct Counts {
     pub(crate) accepted: u64,
@@ -33,11 +33,11 @@ pub(crate) struct Counts {
 #[derive(Drop)]
 struct Chunk {
     rows: Vec<Row>,
-    /// The place behind the messages that have them.
+    /// The place after the messages that have them.
     end: usize,
 }
 
-/// Takes in the messages that a read completed. The clock is asked once, if there are any. Messages that an end keeps
+/// Reads the messages that a read completed. The clock is asked once, if there are any. Messages that an end keeps
 /// back are not counted.
 pub(crate) fn take_in<R: Wait, C: Clock>(
     access: &Access<'_, R>,
@@ -126,7 +126,7 @@ fn read_chunk(alloc: Global, now: i64, messages: &Frames, start: usize) -> Resul
     Ok(Chunk { rows, end })
 }
 
-/// The row of a message that came in at this moment, if it has one.
+/// Returns the row of a message that came in at this moment, if it has one.
 fn read_row(alloc: Global, now: i64, message: &[u8]) -> Result<Option<Row>, AllocError>
     requires { pos 0 ≤ℤ now }
     ensures outcome { IfOk result (IsMessageOutcome (unsigned_abs now) message.now) }

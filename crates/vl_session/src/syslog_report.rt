@@ -7,14 +7,14 @@ use syslog_in::FrameFault;
 /// What a session of syslog did.
 #[derive(Clone, Copy, Debug, PartialEq, Eq)]
 pub struct SyslogReport {
-    /// How many messages have a row that was taken in.
+    /// How many messages have a row that was read.
     pub accepted: u64,
     /// How many messages have none.
     pub refused: u64,
     pub end: SyslogEnd,
 }
 
-/// Why a session of syslog ended. With one of the last three, messages that came were not taken in, and are not
+/// Why a session of syslog ended. With one of the last three, messages that came were not read, and are not
 /// counted.
 #[derive(Clone, Copy, Debug, PartialEq, Eq)]
 pub enum SyslogEnd {
@@ -24,14 +24,14 @@ pub enum SyslogEnd {
     Limit,
     /// The source failed.
     SourceFault,
-    /// What came next is no frame.
+    /// What came next is not a frame.
     BadFrame(FrameFault),
-    /// So many batches wait to be settled, and no more may.
+    /// This many batches wait to be settled, and no more may.
     Full {
         /// How many wait: 4,096.
         held: u64,
     },
-    /// There is no number for one more batch.
+    /// All batch numbers are used.
     Spent,
     /// Memory ran out.
     Memory,

@@ -68,7 +68,7 @@ fn serve<L: Log>(log: &mut L, request: &Request, turns: &mut Vec<Done>, now: i64
     reply
 }
 
-/// Whether the connection ends behind the reply to a request before which so many were served.
+/// Returns whether the connection ends after the reply to a request before which this many were served.
 fn closes_after(before: usize, last: bool) -> bool
     requires { before < turn_limit }
     ensures { result ≡ (last || (before + 1 == turn_limit)) }

@@ -13,7 +13,7 @@ use vl_session::End;
 /// How often each session inserts a row and asks how many of its own there are.
 const ROUNDS: u64 = 16;
 
-/// The requests of a session: it inserts a row of its own and asks for these, again and again.
+/// Returns the requests of a session: it inserts a row of its own and asks for these, again and again.
 fn requests(alloc: Global, caller: u64) -> Result<String, AllocError> {
     let line = format!(in alloc; "{{\"caller\":\"{caller}\"}}\n")?;
     let query = format!(in alloc; "caller%3A{caller}+%7C+stats+count()+as+n")?;
@@ -25,7 +25,8 @@ fn requests(alloc: Global, caller: u64) -> Result<String, AllocError> {
     Ok(text)
 }
 
-/// What is written to these requests, where the inserts have these numbers: each answer has all rows of its own.
+/// Returns what is written to these requests, where the inserts have these numbers: each answer has all rows of its
+/// own.
 fn replies(alloc: Global, told: &Told) -> Result<String, AllocError> {
     let mut text = String::new(alloc);
     let mut own: u64 = 0;
@@ -41,7 +42,7 @@ fn replies(alloc: Global, told: &Told) -> Result<String, AllocError> {
     Ok(text)
 }
 
-/// Whether each front holds that of the turn before, and an insert's one more.
+/// Returns whether each front holds that of the turn before, and an insert's one more.
 fn grows(told: &Told) -> bool {
     let mut last = 0;
     for (i, turn) in told.report.turns.as_slice().iter().enumerate() {

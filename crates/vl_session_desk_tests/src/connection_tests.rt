@@ -15,7 +15,7 @@ pub(crate) struct Told {
     pub written: Vec<u8>,
 }
 
-/// A session over these bytes.
+/// Returns a session over these bytes.
 pub(crate) fn tell<R: Wait>(
     rt: &R,
     alloc: Global,

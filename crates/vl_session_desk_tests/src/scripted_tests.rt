@@ -68,7 +68,7 @@ fn fill(buf: &mut [u8], bytes: &[u8]) -> usize
 
 const SELECT: &str = "GET /select/logsql/query?query=*+%7C+fields+_msg HTTP/1.1\r\n\r\n";
 
-/// A request that inserts one row with this message.
+/// Returns a request that inserts one row with this message.
 fn insert_of(message: char) -> &'static str {
     match message {
         'a' => "POST /insert/jsonline HTTP/1.1\r\nContent-Length: 13\r\n\r\n{\"_msg\":\"a\"}\n",

@@ -11,7 +11,7 @@ use std::test::Fail;
 use vl_io::{MemClock, MemSink};
 use vl_session::{Report, serve_session};
 
-/// What is written to the first session: its second answer has what the other one inserted meanwhile.
+/// Returns what is written to the first session: its second answer has what the other one inserted meanwhile.
 fn wanted(alloc: Global) -> Result<String, AllocError> {
     let mut text = String::new(alloc);
     push_inserted(&mut text, 1)?;
@@ -24,7 +24,7 @@ fn wanted(alloc: Global) -> Result<String, AllocError> {
     Ok(text)
 }
 
-/// Whether the turns had these fronts.
+/// Returns whether the turns had these fronts.
 fn has_fronts(report: &Report, fronts: &[u64]) -> bool {
     let turns = report.turns.as_slice();
     turns.len() == fronts.len()
@@ -68,7 +68,7 @@ fn two_sessions(rt: HostRuntime) -> Result<(), Fail> {
     Ok(())
 }
 
-/// Whether all rows of all sessions are there, and each once.
+/// Returns whether all rows of all sessions are there, and each once.
 fn holds_all<R: Wait>(
     rt: &R,
     alloc: Global,

@@ -38,7 +38,7 @@ pub fn push_told(told: &Told, out: &mut String) -> Result<(), AllocError> {
     )
 }
 
-/// The bytes of an input: so many times the same, and then others.
+/// Returns the bytes of an input: this many times the same, and then others.
 fn input(alloc: Global, case: &str) -> Result<Vec<u8>, AllocError> {
     let (count, case) = case.split_once(" / ").unwrap_or((case, ""));
     let (first, last) = case.split_once(" / ").unwrap_or((case, ""));
@@ -101,7 +101,7 @@ fn push_reads<R: AllocGlobal + Wait>(
     Ok(())
 }
 
-/// Whether a session is the one whose source failed where the other one's input ended.
+/// Returns whether a session is the one whose source failed where the other one's input ended.
 fn is_stopped(told: &Told, closed: &Told) -> bool {
     match closed.report.end {
         SyslogEnd::Closed => {
@@ -116,7 +116,7 @@ fn is_stopped(told: &Told, closed: &Told) -> bool {
     }
 }
 
-/// Whether it has as many messages as the other one, or one less.
+/// Returns whether it has as many messages as the other one, or one less.
 fn is_one_less(told: &Told, closed: &Told) -> bool {
     let has = told.report.accepted.saturating_add(told.report.refused);
     let all = closed.report.accepted.saturating_add(closed.report.refused);

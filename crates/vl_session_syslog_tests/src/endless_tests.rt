@@ -32,7 +32,7 @@ impl Source for SameLine {
     }
 }
 
-/// A session over it.
+/// Returns a session over it.
 pub fn endless_input<R: AllocGlobal + Wait>(rt: &R) -> Result<String, AllocError> {
     let alloc = rt.alloc();
     let mut clock = MemClock::of(alloc, &[5])?;

@@ -17,7 +17,7 @@ pub struct Setting {
     pub failing_read: Option<u64>,
 }
 
-/// What a session came to.
+/// The outcome of a session.
 #[derive(Drop)]
 pub struct Told {
     pub report: SyslogReport,
@@ -47,7 +47,7 @@ pub fn tell<R: AllocGlobal + Wait>(
     })
 }
 
-/// The lines that answer the query, each behind a blank.
+/// The lines that answer the query, each after a blank.
 fn push_lines<R: AllocGlobal + Wait>(
     rt: &R,
     desk: &Desk,

@@ -24,7 +24,7 @@ pub fn answer<R: AllocGlobal + Wait>(rt: &R, line: &str) -> Result<String, Alloc
     Ok(answer)
 }
 
-/// The bytes of a connection: so many times the same, and then others.
+/// Returns the bytes of a connection: this many times the same, and then others.
 fn connection(alloc: Global, case: &str) -> Result<Vec<u8>, AllocError> {
     let (count, case) = case.split_once(" | ").unwrap_or((case, ""));
     let (first, last) = case.split_once(" | ").unwrap_or((case, ""));
@@ -79,7 +79,7 @@ fn push_reads<R: AllocGlobal + Wait>(
     Ok(())
 }
 
-/// Whether a session is the one whose source failed behind these bytes, or ended before that.
+/// Returns whether a session is the one whose source failed after these bytes, or ended before that.
 fn is_stopped<R: AllocGlobal + Wait>(
     rt: &R,
     read: &[u8],

@@ -1,4 +1,4 @@
-//! Lines that are taken in and queries that are asked by themselves, and the limits of what is held. The expected
+//! Lines that are read and queries that are asked by themselves, and the limits of what is held. The expected
 //! values are those of the rules in `docs/`.
 ghost use Rattle.turn_lock.specs.Passes.{IsPassOf};
 
@@ -41,7 +41,7 @@ fn lines_become_one_batch(rt: HostRuntime) -> Result<(), Fail> {
     Ok(())
 }
 
-/// Whether the query has these lines over so many batches.
+/// Returns whether the query has these lines over this many batches.
 fn has_lines<R: AllocGlobal + Wait>(
     rt: &R,
     desk: &Desk,
@@ -75,7 +75,7 @@ fn a_query_sees_all_batches(rt: HostRuntime) -> Result<(), Fail> {
     Ok(())
 }
 
-/// Why a query over the desk has no answer, as a word with its number or name.
+/// Returns why a query over the desk has no answer, as a word with its number or name.
 fn refusal<R: AllocGlobal + Wait>(
     rt: &R,
     desk: &Desk,
@@ -123,7 +123,7 @@ fn fill<R: AllocGlobal + Wait>(rt: &R, desk: &Desk, pass: &mut Pass, count: u64)
     in_turn
 }
 
-/// What is written to these bytes, and whether the session had one turn and then its input ended.
+/// Returns what is written to these bytes, and whether the session had one turn and then its input ended.
 fn written_to<R: AllocGlobal + Wait>(
     rt: &R,
     desk: &Desk,
@@ -164,7 +164,7 @@ fn no_more_than_4096_batches_wait(rt: HostRuntime) -> Result<(), Fail> {
 const LARGE: &str = "HTTP/1.1 413 Content Too Large\r\nContent-Type: text/plain; charset=utf-8\r\n\
     Content-Length: 15\r\n\r\nLarge 70020000\n";
 
-/// So many lines, to each of which a field of 14,000 bytes is added.
+/// Returns this many lines, to each of which a field of 14,000 bytes is added.
 fn heavy(alloc: Global, lines: usize) -> Result<Vec<u8>, AllocError> {
     let mut bytes = Vec::new(alloc);
     bytes.extend_from_slice(b"POST /insert/jsonline?extra_fields=a=")?;

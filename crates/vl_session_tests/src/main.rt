@@ -1,10 +1,10 @@
 //! Reads a case on each line: what it shows, how often the connection has the bytes that follow, those, and the
-//! bytes behind them. Serves it over an empty desk, and writes what was written, the moments of the first turns
+//! bytes after them. Serves it over an empty desk, and writes what was written, the moments of the first turns
 //! with how many batches had been seen and were settled then, and how the session ended. A short connection is also
 //! read a byte at a time, and so that each of its reads fails in turn, and each is served so that each write does;
 //! where that is not what it is to be, it is written too.
 //!
-//! A byte that is no visible ASCII stands as `\0a;`, and so many of one as `\61x65536;`.
+//! A byte that is not visible ASCII is written as `\0a;`, and n of the same as `\61x65536;`.
 //!
 //! The answers in `stdout` are not the program's own: they come from a second reading of the same rules in Python.
 #![tactic(auto)]

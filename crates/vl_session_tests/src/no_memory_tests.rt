@@ -1,4 +1,4 @@
-//! What a session writes where there is no memory for its replies. The expected bytes are those of `docs/HTTP.md`. The
+//! What a session writes where memory ran out for its replies. The expected bytes are those of `docs/HTTP.md`. The
 //! `Log` is the test's own, which has no memory for any reply. Of the shipped one the clause `served` (`IsServed`)
 //! says that it answers what is asked, or with these bytes where memory runs out.
 use http_in::Request;

@@ -20,7 +20,7 @@ pub struct Setting {
     pub failing_write: Option<u64>,
 }
 
-/// What a session came to.
+/// The outcome of a session.
 #[derive(Drop)]
 pub struct Told {
     pub text: String,
@@ -75,7 +75,7 @@ fn shown(alloc: Global, written: &[u8], report: &Report) -> Result<String, Alloc
     Ok(text)
 }
 
-/// A piece for each byte, or no pieces.
+/// Returns a piece for each byte, or no pieces.
 fn pieces(alloc: Global, count: usize, by_bytes: bool) -> Result<Vec<usize>, AllocError>
     ensures { IfOk result (λ pieces. All (λ piece. 0 < piece) pieces.items) }
 {

@@ -5,11 +5,11 @@ use Rattle.std.specs.Prelude.{count_by, is_some, zip, MatchOption}
 use Rattle.std.specs.List.{AllByRecursion, AllZip}
 use Rattle.std.proofs.lemmas.Bool.Decides.{nat_tests}
 use Rattle.std.proofs.lemmas.List.Sums.{sum_by-cons}
-use Rattle.turn_lock.specs.Passes.{PassState}
-use Rattle.log_core.specs.declared.entries.EntryRows.{EntryRows}
+use Rattle.log_desk.specs.Passes.{PassState}
+use Rattle.log_desk.specs.EntryRows.{EntryRows}
 use Rattle.log_desk.specs.Seen.{Seen, seen_of}
-use Rattle.log_core.specs.Entries.{entry_of, seen_history}
-use Rattle.turn_lock.specs.Entries.{Continues}
+use Rattle.log_desk.specs.LogEntries.{entry_of, seen_history}
+use Rattle.log_desk.specs.LockEntries.{Continues}
 use Rattle.std.proofs.lemmas.List.{length-map, map-append}
 use Rattle.vl_io.specs.Visits.{HasNoVisit}
 use Rattle.vl_top.specs.Doors.{AreServed, DoorChange, GoesOn, IsOver, IsServed, are_left, is_failed, has_visits}

@@ -1,9 +1,9 @@
--- What a run comes to, by its command and its status.
+-- The result of a run, by its command and its status.
 use Rattle.std.proofs.Common.{◌≡◌, ◌⊎◌, inl, inr, ℕ, List, [], Option, refl, sym, subst}
 use Rattle.vl_io.specs.Change.{HasFailed, IsTold}
-use Rattle.query_run.specs.Asked.{Refuses}
-use Rattle.query_run.specs.declared.query.QueryRefusal.{QueryRefusal}
-use Rattle.query_run.specs.declared.query.QueryRefusal.TheVariants.{Unspelled, Pattern, Memory}
+use Rattle.vl_pipe.specs.Asked.{Refuses}
+use Rattle.vl_pipe.specs.QueryRefusal.{QueryRefusal}
+use Rattle.vl_pipe.specs.QueryRefusal.TheVariants.{Unspelled, Pattern, Memory}
 use Rattle.command_line.specs.Asked.{IsCommand}
 use Rattle.command_line.specs.declared.command.Command.{Command}
 use Rattle.command_line.specs.declared.command.Command.TheVariants.{Pipe, Trial, Serve}
@@ -191,7 +191,7 @@ module _ (run : Run) where
     server = λ _ _. inr refl;
   }
 
-  -- the words are no command
+  -- the words are not a command
   pub usage_runs : IsNoCommand run.words → IsTold run.does.errors [] usage_text → run.status ≡ status_number Usage
       → IsRun run
   usage_runs none told number = record {

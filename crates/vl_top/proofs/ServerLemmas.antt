@@ -42,7 +42,7 @@ are_done : (doors : List DoorChange) (door_faults : ℕ) → AreServed doors doo
 are_done doors door_faults served none =
     none_failed doors served.ends served.each (omega (arith, served.counted, none))
 
--- What the doors came to, by how serving ended and the status that is said of it.
+-- The doors at the end, by how serving ended and its status.
 pub ends_server : (doors : List DoorChange) (end : ServeEnd) (status : Status) → AreServed doors end.door_faults
     → AllByRecursion IsOver doors → (end.memory ≡ true → status ≡ statuses.NoMemory)
     → (end.memory ≡ false → 0 < end.door_faults → status ≡ statuses.DoorFault)

@@ -45,7 +45,7 @@ are_left (Some count) = not (count == 0)
 abbrev pub has_visits : DoorChange → Bool
 has_visits change = are_left change.left
 
--- Each door was served to its end, and so many of them ended at a fault.
+-- Each door was served to its end, and this many of them ended at a fault.
 pub record AreServed (changes : List DoorChange) (door_faults : ℕ) : Type 0 where
   pub ends : List Bool
   pub each : AllZip IsServed changes ends

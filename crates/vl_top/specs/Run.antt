@@ -3,9 +3,9 @@ use Rattle.std.specs.Prelude.{◌≡◌, ◌⊎◌, ℕ, ◌++◌, ◌∷◌, Li
 use Rattle.std.specs.List.{AllByRecursion}
 use Rattle.vl_io.specs.Change.{Change, HasFailed, IsTold, IsUntold}
 use Rattle.vl_io.specs.Moments.{FirstTold}
-use Rattle.lq_ast.specs.Question.{Question}
-use Rattle.lq_grammar.specs.Query.{IsQueryText}
-use Rattle.query_run.specs.Asked.{IsNoReadableQuery, IsReadableQuery}
+use Rattle.vl_pipe.specs.Question.{Question}
+use Rattle.vl_pipe.specs.Query.{IsQueryText}
+use Rattle.vl_pipe.specs.Asked.{IsNoReadableQuery, IsReadableQuery}
 use Rattle.command_line.specs.Asked.{IsCommand}
 use Rattle.command_line.specs.Faults.{fault_text}
 use Rattle.command_line.specs.declared.command.Command.{Command}
@@ -46,7 +46,7 @@ pub record Run : Type 0 where
 abbrev pub ForCommand : List (List ℕ) → (Command → Type 0) → Type 0
 ForCommand words holds = (command : Command) × IsCommand words command × holds command
 
--- the words are no command
+-- the words are not a command
 abbrev pub IsNoCommand : List (List ℕ) → Type 0
 IsNoCommand words = (command : Command) → IsCommand words command → ⊥
 
@@ -80,7 +80,7 @@ Reads words = ForCommand words IsAsked
 abbrev pub Serves : List (List ℕ) → Type 0
 Serves words = ForCommand words IsServe
 
--- ---- what a command comes to
+-- ---- the result of a command
 
 -- The clock's first reading was `now`, and for it this holds.
 abbrev pub ForMoment : Effects → (ℕ → Type 0) → Type 0
@@ -170,7 +170,7 @@ GoesWell run AtLimit = Unit {0}
 GoesWell run NoMemory = Unit {0}
 GoesWell run status = ⊥
 
--- What the status says is so. Want of memory alone is free.
+-- What the status says is so. `Memory` may always be returned.
 pub record IsRun (run : Run) : Type 0 where
   pub status : Status
   pub number : run.status ≡ status_number status

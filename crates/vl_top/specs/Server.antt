@@ -23,20 +23,20 @@ pub record HasFailedDoor (doors : List DoorChange) : Type 0 where
   pub are : doors ≡ before ++ door ∷ behind
   pub failed : IsFailed door
 
--- what is said of how a server ended, by its status
+-- the error text of a server that ended, by its status
 abbrev pub TellsEnd : Change → Status → Type 0
 TellsEnd errors statuses.Done = IsUntold errors
 TellsEnd errors statuses.DoorFault = IsTold errors [] door_fault_text
 TellsEnd errors statuses.NoMemory = IsTold errors [] no_memory_text
 TellsEnd errors status = ⊥
 
--- what the doors came to, by the status
+-- the outcome of the doors, by the status
 abbrev pub AreEnded : List DoorChange → Status → Type 0
 AreEnded doors statuses.Done = AreDone doors
 AreEnded doors statuses.DoorFault = HasFailedDoor doors × AllByRecursion IsOver doors
 AreEnded doors statuses.NoMemory = Unit {0}
 AreEnded doors status = ⊥
 
--- How a server ends. Where memory runs out that is the status, whatever the doors came to.
+-- How a server ends. Where memory runs out that is the status, whatever the outcome of the doors.
 abbrev pub EndsServer : Change → List DoorChange → Status → Type 0
 EndsServer errors doors status = AreEnded doors status × TellsEnd errors status

@@ -1,8 +1,8 @@
 -- The workers of doors.
 use Rattle.std.specs.Prelude.{◌≡◌, ℕ, Bool, ⊤, List, map, count_by, MatchOption, is_some}
 use Rattle.std.specs.List.{AllZip}
-use Rattle.turn_lock.specs.Passes.{IsPassOf, LockId, PassState}
-use Rattle.log_core.specs.declared.entries.EntryRows.{EntryRows}
+use Rattle.log_desk.specs.Passes.{IsPassOf, LockId, PassState}
+use Rattle.log_desk.specs.EntryRows.{EntryRows}
 use Rattle.vl_top.specs.Doors.{DoorChange, IsServed}
 use Rattle.vl_top.specs.declared.worker.Worker.{Worker}
 
@@ -27,7 +27,7 @@ module _ {D : Type 0} where
       MatchOption worker.pass (IsServed (change worker.door door) is_fault)
       (λ _. (door ≡ worker.door) × (is_fault ≡ worker.is_fault))
 
-  -- These doors are those of the workers at the end, and so many of them ended at a fault.
+  -- These doors are those of the workers at the end, and this many of them ended at a fault.
   pub record HaveEnded (change : D → D → DoorChange) (workers : List (Worker D)) (doors : List D) (door_faults : ℕ)
       : Type 0 where
     pub ends : List (D × Bool)

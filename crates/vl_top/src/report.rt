@@ -1,4 +1,4 @@
-//! What is said of words and of doors.
+//! Error messages for usage faults and listener failures.
 ghost use Rattle.std.specs.Prelude.{◌≡◌, ◌<◌, [], false, true};
 ghost use Rattle.vl_io.specs.Change.{IsTold, change_of};
 ghost use Rattle.vl_top.specs.Run.{usage_text};
@@ -8,7 +8,7 @@ use crate::serving::ServeEnd;
 use vl_io::Sink;
 use vl_status::{Status, report_no_memory, say};
 
-/// The words are no command.
+/// Returns the text for words that are not a command.
 pub fn report_usage<E: Sink>(err: &mut E) -> Status
     ensures status { result ≡ Status.Usage }
     ensures said { IsTold (change_of E.written E.faults err.old err.new) [] usage_text }
@@ -17,7 +17,7 @@ pub fn report_usage<E: Sink>(err: &mut E) -> Status
     Status::Usage
 }
 
-/// How serving ended: want of memory before a door that failed.
+/// How serving ended: out of memory before a door that failed.
 pub(crate) fn report_end<E: Sink>(end: &ServeEnd, err: &mut E) -> Status
     ensures memory { end.now.memory ≡ true → result ≡ Status.NoMemory }
     ensures fault { end.now.memory ≡ false → 0 < end.now.door_faults → result ≡ Status.DoorFault }
@@ -33,7 +33,7 @@ pub(crate) fn report_end<E: Sink>(end: &ServeEnd, err: &mut E) -> Status
     Status::Done
 }
 
-/// A door failed.
+/// Returns a door failed.
 fn report_door_fault<E: Sink>(err: &mut E) -> Status
     ensures status { result ≡ Status.DoorFault }
     ensures said { IsTold (change_of E.written E.faults err.old err.new) [] door_fault_text }

@@ -1,7 +1,7 @@
 //! Serving doors side by side.
 ghost use Rattle.std.specs.Prelude.{◌≡◌, ◌<◌, ◌≤◌, All, [], count_by, false, length, map, vec_capacity, vec_len};
 ghost use Rattle.std.specs.List.{AllByRecursion, AllZip};
-ghost use Rattle.turn_lock.specs.Passes.{IsPassOf};
+ghost use Rattle.log_desk.specs.Passes.{IsPassOf};
 ghost use Rattle.log_desk.specs.Seen.{seen_of};
 ghost use Rattle.vl_top.specs.Doors.{AreServed, GoesOn, IsOver, door_change, door_changes, is_failed, has_visits};
 ghost use Rattle.vl_top.specs.Workers.{HasWorked, HaveEnded, IsOfDesk};
@@ -15,7 +15,7 @@ use std::thread::Threads;
 use std::{mem, thread};
 use vl_io::{Clock, Doors};
 
-/// What serving came to.
+/// The outcome of serving all listeners.
 #[derive(Clone, Copy, Debug, PartialEq, Eq)]
 pub struct ServeEnd {
     /// How many doors ended because they failed.
@@ -49,7 +49,7 @@ where
     ensures doors { length doors.new.items ≡ length doors.old.items }
     ensures served { AreServed (door_changes D.left D.faults doors.old.items doors.new.items) result.door_faults }
 
-    // It returns only where each door failed, or tells no visit that is left.
+    // It returns only where each door failed, or, where it tells, has no visit left.
     ensures over { AllByRecursion IsOver (door_changes D.left D.faults doors.old.items doors.new.items) }
 
     // Doors that failed are counted, and all are that have visits left.

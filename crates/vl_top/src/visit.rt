@@ -1,6 +1,6 @@
 //! One visit.
 ghost use Rattle.std.specs.Prelude.{◌≡◌};
-ghost use Rattle.turn_lock.specs.Passes.{IsPassOf};
+ghost use Rattle.log_desk.specs.Passes.{IsPassOf};
 ghost use Rattle.log_desk.specs.Seen.{caller_of, seen_of};
 ghost use Rattle.vl_top.specs.Doors.{GoesOn};
 
@@ -10,7 +10,7 @@ use std::sync::Wait;
 use vl_io::{Clock, Sink, Source, Visit, VisitKind};
 use vl_session::{serve_session, session_law, syslog_law, syslog_session};
 
-/// Serves a visit as one session, by what the visitor speaks. What the session reports is for the visitor alone.
+/// Serves a visit as one session, by what the visitor speaks. What the session reports is for the visitor only.
 pub(crate) fn serve_visit<R: Wait, S: Source + Drop, K: Sink + Drop, C: Clock + Drop>(
     rt: &R,
     alloc: Global,

@@ -1,4 +1,4 @@
-//! The words behind the program's name.
+//! The words after the program's name.
 ghost use Rattle.std.specs.Prelude.{◌≡◌, ◌⊎◌, Err, IfErr, IfOk, Ok, map};
 ghost use Rattle.command_line.specs.Asked.{IsCommand};
 ghost use Rattle.command_line.specs.declared.command.Command.{Command};
@@ -6,7 +6,7 @@ ghost use Rattle.command_line.specs.declared.command.Command.{Command};
 use command_line::{Command, UsageFault};
 use std::alloc::Global;
 
-/// The command that the words are.
+/// Returns the command that the words are.
 ///
 /// `Usage` where they are none, and `Memory` where memory runs out.
 pub fn read_words(alloc: Global, words: &[&str]) -> Result<Command, UsageFault>

@@ -1,6 +1,6 @@
 //! The workers of doors.
 ghost use Rattle.std.specs.Prelude.{◌≡◌, All};
-ghost use Rattle.turn_lock.specs.Passes.{IsPassOf};
+ghost use Rattle.log_desk.specs.Passes.{IsPassOf};
 ghost use Rattle.log_desk.specs.Seen.{seen_of};
 ghost use Rattle.vl_top.specs.Doors.{GoesOn, IsServed, door_change};
 ghost use Rattle.vl_top.specs.Workers.{EndsAs, HasWorked, IsOfDesk};

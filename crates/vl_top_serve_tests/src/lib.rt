@@ -1,4 +1,4 @@
-//! Tests of serving, by the library and by the program, on what they call alone.
+//! Tests of serving, by the library and by the program, on what they call only.
 #![tactic(auto)]
 
 #[cfg(test)]

@@ -15,7 +15,7 @@ use vl_top::run;
 /// The words of a server. Nothing listens at the address, since the doors are in memory.
 const SERVER: &[&str] = &["serve", "--http", "x"];
 
-/// Whether a server over the doors ends with the status, and says this.
+/// Returns whether a server over the doors ends with the status, and says this.
 fn server_ends<R: AllocGlobal + Threads + Wait + Sync + SystemTimer + Copy + Drop + Send>(
     rt: &R,
     doors: &mut Vec<TestDoors<R>>,
@@ -52,7 +52,7 @@ fn a_door_that_fails_is_told(rt: HostRuntime) -> Result<(), Fail> {
     doors.push(door_for(rt, alloc, &replies, &[http, http], &[1])?)?;
     doors.push(door_for(rt, alloc, &replies, &[http, http], &[])?)?;
     assert!(rt; server_ends(&rt, &mut doors, 7, "door fault\n")?);
-    // The first door fails behind its first visit.
+    // The first door fails after its first visit.
     assert!(rt; replies.load(Ordering::SeqCst) == 3);
     Ok(())
 }

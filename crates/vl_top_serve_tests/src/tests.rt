@@ -21,7 +21,7 @@ const INSERT: &[u8] =
 
 const MESSAGE: &[u8] = b"<13>1 - - - - - - a\n";
 
-/// A door for visitors of this kind, each of whom sends the bytes once so many replies were written.
+/// Returns a door for visitors of this kind, each of whom sends the bytes once this many replies were written.
 pub(crate) fn door_for<R: SystemTimer + Copy + Drop>(
     rt: R,
     alloc: Global,
@@ -75,7 +75,7 @@ pub(crate) fn crossing_doors<R: SystemTimer + Copy + Drop>(
     Ok(doors)
 }
 
-/// What serving comes to: how it ends, how many replies are written, and the front that the pass has seen then.
+/// Returns the result of serving: how it ends, how many replies are written, and the front that the pass has seen then.
 fn serve_all<R: Threads + Wait + Sync + SystemTimer + Copy + Drop + Send>(
     rt: &R,
     alloc: Global,
@@ -115,7 +115,7 @@ fn each_door_is_served_to_its_end(rt: HostRuntime) -> Result<(), Fail> {
         doors.push(door_for(rt, alloc, &replies, &[http, syslog, http], &[])?)?;
         doors.push(door_for(rt, alloc, &replies, &[http, http], &[1])?)?;
         let (end, written, front) = serve_all(&rt, alloc, passes, &replies, &mut doors)?;
-        // The second door fails behind its first visit.
+        // The second door fails after its first visit.
         assert!(rt; end.door_faults == 1 && !end.memory);
         assert!(rt; written == 3 && front == 4, "{passes}");
     }

@@ -15,7 +15,7 @@ pub(crate) type Replies = Arc<AtomicU64, Global>;
 /// The most waits for a reply. One takes a millisecond.
 const MOST_WAITS: u64 = 10_000;
 
-/// It sends its bytes once so many replies were written to other visitors. Where they are not, it fails.
+/// It sends its bytes once this many replies were written to other visitors. Where they are not, it fails.
 #[derive(Drop)]
 pub(crate) struct WaitingSource<R> {
     pub replies: Replies,
@@ -26,7 +26,7 @@ pub(crate) struct WaitingSource<R> {
     pub faults: u64,
 }
 
-/// Waits until so many replies were written, and says whether they were.
+/// Waits until this many replies were written, and says whether they were.
 fn have_come<R: SystemTimer>(replies: &Replies, awaited: u64, clock: &mut SystemClock<R>) -> bool {
     for _ in 0..MOST_WAITS {
         if replies.load(Ordering::SeqCst) >= awaited {

@@ -31,8 +31,8 @@ pub(crate) struct Wanted<'a> {
     pub(crate) err: &'a str,
 }
 
-/// Whether a run ends so, on a clock that stands at 5 ns, and then at 7, and a source that gives its input in small
-/// pieces first.
+/// Returns whether a run ends so, on a clock that stands at 5 ns, and then at 7, and a source that gives its input in
+/// small pieces first.
 pub(crate) fn ends<R: AllocGlobal + Threads + Wait + Sync>(
     rt: &R,
     words: &[&str],
@@ -183,7 +183,7 @@ const SELECTED: &[(&str, &str)] = &[
     ("** b", "b,b c"),
 ];
 
-/// The printed rows with these messages, between which there are commas.
+/// Returns the printed rows with these messages, between which there are commas.
 fn printed(alloc: Global, messages: &str) -> Result<String, AllocError> {
     let mut text = String::new(alloc);
     for message in messages.split(',') {
@@ -411,7 +411,7 @@ const GOOD_TWICE: &str =
     \"_time\":\"1970-01-01T00:00:00.000000005Z\"}\n{\"_msg\":\"good\",\"_stream\":\"{}\",\
     \"_stream_id\":\"44136fa355b3678a1146ad16f7e8649e\",\"_time\":\"1970-01-01T00:00:00.000000005Z\"}\n";
 
-/// The line between two good ones.
+/// Returns the line between two good ones.
 fn surrounded(alloc: Global, line: &[u8]) -> Result<Vec<u8>, AllocError> {
     let good = b"{\"_msg\":\"good\"}\n";
     let mut input = Vec::from_slice(alloc, good)?;
@@ -421,7 +421,7 @@ fn surrounded(alloc: Global, line: &[u8]) -> Result<Vec<u8>, AllocError> {
     Ok(input)
 }
 
-/// Whether such a line between two good ones is refused so, and nothing else is lost.
+/// Returns whether such a line between two good ones is refused so, and nothing else is lost.
 fn is_named<R: AllocGlobal + Threads + Wait + Sync>(
     rt: &R,
     line: &[u8],
@@ -444,7 +444,7 @@ fn a_line_that_is_no_row_is_named_and_nothing_else_is_lost(rt: HostRuntime) -> R
     Ok(())
 }
 
-/// Whether a line of so many brackets is refused so.
+/// Returns whether a line of this many brackets is refused so.
 fn brackets_are_named<R: AllocGlobal + Threads + Wait + Sync>(
     rt: &R,
     bracket: u8,
@@ -560,7 +560,7 @@ fn what_cannot_be_said_changes_no_status(rt: HostRuntime) -> Result<(), Fail> {
     Ok(())
 }
 
-/// A line, so many line feeds, and another line.
+/// Returns a line, this many line feeds, and another line.
 fn spread(alloc: Global, first: &str, feeds: usize, last: &str) -> Result<Vec<u8>, AllocError> {
     let mut input = Vec::from_slice(alloc, first.as_bytes())?;
     for _ in 0..feeds {
@@ -570,8 +570,8 @@ fn spread(alloc: Global, first: &str, feeds: usize, last: &str) -> Result<Vec<u8
     Ok(input)
 }
 
-/// Whether a source that fails at this read, behind a whole group, has the refused lines of the group named before the
-/// fault is told.
+/// Returns whether a source that fails at this read, after a whole group, has the refused lines of the group named
+/// before the fault is told.
 fn names_first<R: AllocGlobal + Threads + Wait + Sync>(
     rt: &R,
     read: u64,
@@ -595,7 +595,7 @@ fn what_was_taken_in_before_a_fault_is_named(rt: HostRuntime) -> Result<(), Fail
     Ok(())
 }
 
-/// This text, so many times.
+/// Returns this text, this many times.
 fn repeated(alloc: Global, text: &str, times: usize) -> Result<Vec<u8>, AllocError> {
     let mut bytes = Vec::new(alloc);
     for _ in 0..times {
@@ -604,7 +604,7 @@ fn repeated(alloc: Global, text: &str, times: usize) -> Result<Vec<u8>, AllocErr
     Ok(bytes)
 }
 
-/// Whether so many lines `{"_msg":"error"}` give as many rows, and nothing else.
+/// Returns whether this many lines `{"_msg":"error"}` give as many rows, and nothing else.
 fn all_are_answered<R: AllocGlobal + Threads + Wait + Sync>(
     rt: &R,
     lines: usize,
@@ -617,7 +617,7 @@ fn all_are_answered<R: AllocGlobal + Threads + Wait + Sync>(
     is_answered(rt, &input, &out)
 }
 
-/// Whether the rows with the word `error` of this input are these, and nothing else is written.
+/// Returns whether the rows with the word `error` of this input are these, and nothing else is written.
 fn is_answered<R: AllocGlobal + Threads + Wait + Sync>(
     rt: &R,
     input: &[u8],
@@ -640,7 +640,7 @@ fn groups_are_answered_in_their_order(rt: HostRuntime) -> Result<(), Fail> {
     Ok(())
 }
 
-/// Groups with a row each, so many, and whether the run ends with this status and this text.
+/// Groups with a row each, this many, and whether the run ends with this status and this text.
 fn held<R: AllocGlobal + Threads + Wait + Sync>(
     rt: &R,
     groups: usize,
@@ -671,7 +671,7 @@ fn a_4097th_batch_is_refused(rt: HostRuntime) -> Result<(), Fail> {
     Ok(())
 }
 
-/// Lines with one field of 262,144 bytes, its name counted, so many, and whether the run ends so.
+/// Lines with one field of 262,144 bytes, its name counted, this many, and whether the run ends so.
 fn weighs<R: AllocGlobal + Threads + Wait + Sync>(
     rt: &R,
     lines: usize,

@@ -7,8 +7,8 @@ use Rattle.lq_ast.specs.Evaluation.{evaluate}
 use Rattle.lq_ast.specs.Patterns.{CanBeRead, all_patterns}
 use Rattle.lq_ast.specs.Question.{Question}
 use Rattle.lq_grammar.specs.Query.{IsQueryText}
-use Rattle.trial_laws.specs.Safety.{AlwaysEvaluates}
-use Rattle.trial_rows.specs.Trial.{trial_rows}
+use Rattle.vl_trial.specs.Safety.{AlwaysEvaluates}
+use Rattle.vl_trial.specs.Trial.{trial_rows}
 use Rattle.vl_session.specs.Answer.{HasRecords}
 
 pub has_records : (text : List ℕ) (asked : Question) (now seed rows : ℕ) (history : History) → IsQueryText text asked

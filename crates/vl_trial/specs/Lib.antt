@@ -1,1 +1,6 @@
+pub mod Trial
+pub mod Left
+pub mod Safety
+pub mod Questions
+pub mod QueryTexts
 pub mod Answer

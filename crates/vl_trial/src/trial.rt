@@ -1,32 +1,31 @@
-//! The way of a trial.
+//! Inserts the rows of a trial and prints the answers to its queries.
 ghost use Rattle.std.specs.Prelude.{◌≡◌, ◌≤◌, ◌≤ℤ◌, ◌++◌, [], IfOk, OnOk, pos, string_bytes, unsigned_abs};
 ghost use Rattle.log_model.specs.History.{batches_in, rows_of};
-ghost use Rattle.trial_queries.specs.Trials.{count_text, errors_text, slow_text};
-ghost use Rattle.trial_rows.specs.Trial.{trial_batches, trial_rows};
+ghost use Rattle.vl_trial.specs.QueryTexts.{count_text, errors_text, slow_text};
+ghost use Rattle.vl_trial.specs.Trial.{trial_batches, trial_rows};
 ghost use Rattle.vl_session.specs.Answer.{HasRecords};
 ghost use Rattle.vl_trial.specs.Answer.{AreLines, IsTrialAnswer};
 
+use crate::batches::TrialBatches;
+use crate::laws::{trial_law, trial_queries_law};
 use log_desk::InsertFault;
 use lone_desk::LoneDesk;
 use std::alloc::{AllocError, Global};
 use std::sync::Wait;
-use trial_laws::trial_law;
-use trial_queries::trial_queries_law;
-use trial_rows::TrialBatches;
 use vl_row::Text;
 use vl_session::AnswerFault;
 
-/// How many rows of all there are.
+/// Counts all rows.
 const COUNTED: &str = "* | stats count() as n";
 
-/// How many of them have errors, by their app, and how long these took.
+/// Counts the rows with errors of each app, and sums their milliseconds.
 const ERRORS: &str = "error | stats by (app) count() as n, sum(ms) as s";
 
-/// How many of the first day took long in the database.
+/// Counts the slow rows of the database on the first day.
 const SLOW: &str = "_time:2024-05-01Z {app=\"db\"} ms:>500 | stats count() as n";
 
-/// Takes the rows of a trial in, batch by batch, and answers its three queries over them, one after another, at the
-/// moment `now`, in nanoseconds since the start of 1970.
+/// Inserts `rows` rows made from `seed`, batch by batch, and returns the lines of the three queries over them, one
+/// query after another. `now` is in nanoseconds since 1970.
 pub fn trial_lines<R: Wait>(
     rt: &R,
     alloc: Global,
@@ -48,7 +47,7 @@ pub fn trial_lines<R: Wait>(
     joined(alloc, counted.as_str(), errors.as_str(), slow.as_str())
 }
 
-/// The texts, one behind the other.
+/// Joins the three texts.
 fn joined(alloc: Global, counted: &str, errors: &str, slow: &str) -> Result<String, AllocError>
     ensures { IfOk result (λ text. string_bytes text ≡ counted.now ++ (errors.now ++ slow.now)) }
 {
@@ -80,7 +79,7 @@ fn insert_rows<R: Wait>(
     Ok(())
 }
 
-/// The lines of the answer to a query that has records.
+/// Returns the lines of a query that has records.
 fn lines_of<R: Wait>(desk: &mut LoneDesk<'_, R>, text: &str, now: i64) -> Result<Text, AllocError>
     requires has { HasRecords text.now (unsigned_abs now) desk.old.history }
     requires moment { pos 0 ≤ℤ now }

@@ -29,7 +29,7 @@ impl<'n> Model for Finder<'n> {
 }
 
 impl<'n> Finder<'n> {
-    /// The search for this text. It takes no memory.
+    /// Returns the search for this text. It takes no memory.
     pub fn new(needle: &'n str) -> Finder<'n>
         ensures { result ≡ needle.now }
     {
@@ -40,7 +40,7 @@ impl<'n> Finder<'n> {
         }
     }
 
-    /// The same search, with a text of its own.
+    /// Returns the same search, with a text of its own.
     pub fn into_owned(self, alloc: Global) -> Result<Finder<'static>, AllocError>
         ensures { IfOk result (λ finder. finder ≡ self.entry) }
     {
@@ -51,36 +51,37 @@ impl<'n> Finder<'n> {
         })
     }
 
-    /// Whether the text that is searched for is empty.
+    /// Returns whether the text that is searched for is empty.
     pub fn is_empty(&self) -> bool
         ensures { result ≡ (length self.now == 0) }
     {
         self.bytes.needle().is_empty()
     }
 
-    /// How many bytes the text has that is searched for.
+    /// Returns how many bytes the text has that is searched for.
     pub fn len(&self) -> usize
         ensures { result ≡ length self.now }
     {
         self.bytes.needle().len()
     }
 
-    /// Whether the phrase stands somewhere in the text, with no word character right before it if it begins with one,
-    /// and none right after it if it ends with one (LogsQL, "Phrase filter"). An empty one stands in each text.
+    /// Returns whether the phrase stands somewhere in the text, with no word character right before it if it begins
+    /// with one, and none right after it if it ends with one (LogsQL, "Phrase filter"). An empty one stands in each
+    /// text.
     pub fn has_phrase(&self, text: &str) -> bool
         ensures { result ≡ occurs text.now self.now }
     {
         self.is_empty() || self.place_from(text, 0).is_some()
     }
 
-    /// The same without the condition after it (LogsQL, "Prefix filter").
+    /// Returns the same without the condition after it (LogsQL, "Prefix filter").
     pub fn has_prefix(&self, text: &str) -> bool
         ensures { result ≡ occurs_as_prefix text.now self.now }
     {
         self.is_empty() || self.first_from(text, 0, false).is_some()
     }
 
-    /// The first place from `from` on at which the phrase stands, and no word goes on across an end of it.
+    /// Returns the first place from `from` on at which the phrase stands, and no word goes on across an end of it.
     pub fn place_from(&self, text: &str, from: usize) -> Option<usize>
         requires filled { 0 < length self.now }
         requires within { from ≤ length text.now }
@@ -90,8 +91,8 @@ impl<'n> Finder<'n> {
         self.first_from(text, from, self.ends_word)
     }
 
-    // The first place from `from` on at which the phrase stands, and no word goes on across its beginning, nor, where
-    // `word_end` is set, across its end.
+    // Returns the first place from `from` on at which the phrase stands, and no word goes on across its beginning, nor,
+    // where `word_end` is set, across its end.
     fn first_from(&self, text: &str, from: usize, word_end: bool) -> Option<usize>
         requires filled { 0 < length self.now }
         requires within { from ≤ length text.now }
@@ -108,7 +109,7 @@ impl<'n> Finder<'n> {
         None
     }
 
-    // Whether no word goes on across an end of the phrase that stands at `place`.
+    // Returns whether no word goes on across an end of the phrase that stands at `place`.
     fn stands_apart(&self, text: &str, place: usize, word_end: bool) -> bool
         requires phrase { 0 < length self.now }
         requires found { OccursAt text.now self.now place }
@@ -121,7 +122,7 @@ impl<'n> Finder<'n> {
     }
 }
 
-// The first place from `from` on at which the bytes of the needle stand.
+// Returns the first place from `from` on at which the bytes of the needle stand.
 fn find_from(needle: &memmem::Finder, text: &[u8], from: usize) -> Option<usize>
     requires { from ≤ length text.now }
     ensures { FindsNeedle text.now needle.now from result }
@@ -130,14 +131,14 @@ fn find_from(needle: &memmem::Finder, text: &[u8], from: usize) -> Option<usize>
     Some(from + ahead)
 }
 
-// Whether the first character of the text is a word character.
+// Returns whether the first character of the text is a word character.
 fn begins_word(text: &str) -> bool
     ensures { result ≡ begins_word_of (chars text.now) }
 {
     text.chars().next().is_some_and(is_word)
 }
 
-// Whether the last character of the text is a word character.
+// Returns whether the last character of the text is a word character.
 fn ends_word(text: &str) -> bool
     ensures { result ≡ ends_word_of (chars text.now) }
 {

@@ -1,7 +1,7 @@
 //! Tests of `word_tokens`.
 //!
 //! The program answers a table. For a text and a needle with a tab between them: whether the text has the word, the
-//! phrase and the prefix, by the search and by the plain program. For a text alone: whether it is a word, which of its
+//! phrase and the prefix, by the search and by the plain program. For a text only: whether it is a word, which of its
 //! characters are part of words, and its words, by the iterator and by a trial of each pair of places. The answers are
 //! those of Python: its `unicodedata` gives the categories, and the words are the longest runs.
 #![tactic(auto)]

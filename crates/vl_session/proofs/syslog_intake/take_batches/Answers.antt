@@ -50,7 +50,7 @@ overflow_add-counts g c =
       few_counted (caller_of c.args.pass.now) _ _ _ _ c.args.counts.now c.batches.counts i.outcomes i.batches i.takes,
     )
 
--- there is no memory for the rows
+-- memory ran out for the rows
 pub returns-in-Err-clause-some : goal.returns-in-Err-clause-some
 returns-in-Err-clause-some g c =
     let i = c.batches.invariant in

@@ -1,6 +1,6 @@
 use Rattle.std.proofs.Common.{◌≡◌, ◌-◌, ◌≤◌, List, length, unsigned_abs, Option}
 use Rattle.log_model.specs.Row.{Batch, Row}
-use Rattle.turn_lock.specs.Passes.{IsPassOf}
+use Rattle.log_desk.specs.Passes.{IsPassOf}
 use Rattle.log_desk.specs.Seen.{caller_of, seen_of}
 use Rattle.vl_session.specs.SyslogTaking.{TakesUp}
 use Rattle.vl_session.proofs.syslog_intake.take_batches.Given as goal

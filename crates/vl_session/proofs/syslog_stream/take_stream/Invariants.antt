@@ -1,5 +1,5 @@
 use Rattle.std.proofs.Common.{◌≡◌, ◌-◌, ◌<◌, ◌≤◌, length}
-use Rattle.turn_lock.specs.Passes.{IsPassOf}
+use Rattle.log_desk.specs.Passes.{IsPassOf}
 use Rattle.log_desk.specs.Seen.{caller_of, seen_of}
 use Rattle.vl_session.proofs.SyslogStory.{Going, change}
 use Rattle.vl_session.proofs.syslog_stream.take_stream.Given as goal

@@ -1,5 +1,5 @@
 use Rattle.std.proofs.Common.{◌≡◌, ◌≤◌}
-use Rattle.turn_lock.specs.Passes.{IsPassOf}
+use Rattle.log_desk.specs.Passes.{IsPassOf}
 use Rattle.log_desk.specs.Seen.{caller_of, seen_of}
 use Rattle.vl_top.specs.Doors.{GoesOn}
 use Rattle.vl_top.proofs.door.serve_door.Given as goal

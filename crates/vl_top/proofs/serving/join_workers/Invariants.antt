@@ -1,7 +1,7 @@
 use Rattle.std.proofs.Common.{◌≡◌, ◌+◌, ◌≤◌, length, vec_capacity, vec_len}
 use Rattle.std.specs.List.{AllByRecursion}
 use Rattle.std.specs.Vec.Iter.{into_iter_items}
-use Rattle.turn_lock.specs.Passes.{IsPassOf}
+use Rattle.log_desk.specs.Passes.{IsPassOf}
 use Rattle.log_desk.specs.Seen.{seen_of}
 use Rattle.vl_top.specs.Doors.{GoesOn, door_change}
 use Rattle.vl_top.specs.Workers.{IsOfDesk}

@@ -1,5 +1,5 @@
 use Rattle.std.proofs.Common.{◌≡◌, ◌≤◌, drop, length, take}
-use Rattle.turn_lock.specs.Passes.{IsPassOf}
+use Rattle.log_desk.specs.Passes.{IsPassOf}
 use Rattle.log_desk.specs.Seen.{seen_of}
 use Rattle.vl_top.specs.Doors.{AreServed, GoesOn, door_changes}
 use Rattle.vl_top.proofs.serving.serve_in_turn.Given as goal

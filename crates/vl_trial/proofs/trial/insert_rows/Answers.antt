@@ -3,7 +3,7 @@ use Rattle.std.specs.Option.{option_to_list}
 use Rattle.log_desk.specs.Faults.{Refuses}
 use Rattle.log_model.specs.History.{batches_in}
 use Rattle.lone_desk.proofs.Laws.{settled-alone}
-use Rattle.trial_rows.specs.Trial.{trial_batches, trial_rows}
+use Rattle.vl_trial.specs.Trial.{trial_batches, trial_rows}
 use Rattle.vl_trial.proofs.Held.{all_rows, never_full, never_last, one_more}
 use Rattle.vl_trial.proofs.trial.insert_rows.Goals as goal
 

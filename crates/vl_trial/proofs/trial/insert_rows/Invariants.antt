@@ -1,7 +1,7 @@
 use Rattle.std.proofs.Common.{◌≡◌, ◌≤◌, ◌++◌, length}
 use Rattle.std.specs.Prelude.{flat_map}
 use Rattle.log_model.specs.History.{batches_in}
-use Rattle.trial_rows.specs.Trial.{trial_batches, trial_rows}
+use Rattle.vl_trial.specs.Trial.{trial_batches, trial_rows}
 use Rattle.vl_trial.proofs.trial.insert_rows.Given as goal
 
 abbrev pub invariant-loop-batch : goal.invariant-loop-batch

@@ -1,8 +1,8 @@
 use Rattle.std.proofs.Common.{◌≡◌, ◌∙◌, FitsSigned, ap, refl, subst, unsigned_abs, w64}
 use Rattle.std.proofs.lemmas.Int.{to_z-of_z}
 use Rattle.log_model.specs.History.{rows_of}
-use Rattle.trial_laws.specs.Questions.{all_counted, errors_by_app, slow_counted}
-use Rattle.trial_queries.specs.Trials.{count_text, errors_text, slow_text}
+use Rattle.vl_trial.specs.Questions.{all_counted, errors_by_app, slow_counted}
+use Rattle.vl_trial.specs.QueryTexts.{count_text, errors_text, slow_text}
 use Rattle.vl_trial.specs.Answer.{AreLines}
 use Rattle.vl_trial.proofs.Asked.{has_records, if_ok}
 use Rattle.vl_trial.proofs.trial.trial_lines.Goals as goal

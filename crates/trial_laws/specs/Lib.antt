@@ -1,2 +1,0 @@
-pub mod Safety
-pub mod Questions
