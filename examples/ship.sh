@@ -4,8 +4,9 @@
 # usage: tail -n 0 -F app.jsonl | ship.sh [ARGUMENTS]     as ship.sh '_stream_fields=host,app&_time_field=ts'
 # The environment variable DUVONKA_URL is the server's address (default: http://127.0.0.1:9428); curl takes a password
 # for it from ~/.netrc. Plain text becomes JSON lines by `jq -Rc --unbuffered '{_msg: .}'`.
-# Where the server cannot be reached or is full, a request is tried again for about a minute. If the reply to an accepted
-# request is lost, its lines are sent twice. Then ship.sh prints what it could not send, and ends with status 1.
+# Where the server cannot be reached or is full, a request is tried again for about a minute. After that ship.sh prints
+# the lines that it could not send, and ends with status 1. If the reply to an accepted request is lost, its lines are
+# sent twice.
 # It reads some thousand lines a second. For a file that is complete, use curl --data-binary @FILE.
 set -u
 target="${DUVONKA_URL:-http://127.0.0.1:9428}/insert/jsonline${1:+?$1}"
@@ -43,7 +44,7 @@ send() {
   for wait in 1 2 4 8 16 30 0; do
     reply=$(printf '%s\n' "${lines[@]}" |
       curl -s -m 60 --netrc-optional -H 'Expect:' --data-binary @- -w '\n%{http_code}' "$target")
-    status=${reply##*$'\n'} reply=${reply%$'\n'*}
+    status=${reply##*$'\n'} reply=${reply%$'\n'*} reply=${reply%$'\n'}
     case $status in
       200) break ;;
       000 | 502 | 503 | 504 | 507) [ "$wait" = 0 ] || sleep "$wait" ;;
