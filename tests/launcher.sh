@@ -127,6 +127,7 @@ by_release() {
   with_rt
   run --build
   judge "--build with rt" "$got $(calls)" ", status 0 1"
+  has "it compares what it built with the release" ", and is the one in release/, byte by byte"
   run pipe error
   judge "the program that was built here comes first" "$got $said" "built from one: pipe error, status 0 "
   run --build
@@ -212,6 +213,7 @@ by_two() {
   judge "two launchers at once: the first" "$(cat "$work/first")" "built from one: first"
   judge "the second waits, and does not build" "$got $(calls)" "built from one: second, status 0 1"
   has "it says so" "duvonka: another launcher is building this program; waiting for it"
+  judge "nothing of both stays below the cache" "$(find "$cache" -mindepth 1 -maxdepth 1 ! -name release)" ""
   rm "$work/calls" "$work/waits"
 }
 
