@@ -43,7 +43,7 @@ judge_against_build() {
 }
 
 if [ ! -e release ]; then
-  echo "release.sh: there is no release yet"
+  echo "release.sh: release/ is not made yet"
 else
   judge_whole
   if [ "$(manifest sources)" = "$(tools/source-sum)" ]; then
