@@ -28,6 +28,7 @@ make_rt() {
   cat > "$work/bin/rt" << RT
 #!/usr/bin/env bash
 [ "\$1" != version ] || { echo a stand-in for rt; exit 0; }
+echo \$\$ > "$work/rt_id"
 echo "\$*" >> "$work/calls"
 if [ "\$1" = try ]; then echo "run=stand-in" >&2; shift 4; echo "unproved: \$*"; exit 3; fi
 ls -A . crates crates/* > "$work/copied"
@@ -218,6 +219,23 @@ by_two() {
   rm "$work/calls" "$work/waits"
 }
 
+by_end() {
+  local first
+  make_clone ended
+  touch "$work/waits"
+  rm -f "$work/calls"
+  "$clone/duvonka" first > "$work/first" 2> "$work/first_said" < /dev/null &
+  first=$!
+  while [ ! -e "$work/calls" ]; do sleep 0.05; done
+  kill "$first"
+  wait "$first"
+  judge "a launcher that a signal ends: status" $? 130
+  judge "rt ends with it" "$(kill -0 "$(cat "$work/rt_id")" 2>&1 | grep -c 'No such process')" 1
+  judge "and the copy is removed" "$(find "$cache" -mindepth 1 -maxdepth 1 ! -name release)" ""
+  rm "$work/waits"
+  judge "what it began to build is built by the next" "$("$clone/duvonka" next 2> /dev/null < /dev/null)" "built from one: next"
+}
+
 # fails NAME WANTED: the release test of the clone fails with this line
 fails() {
   got=$("$clone/tests/release.sh" 2>&1)
@@ -295,6 +313,7 @@ by_release
 by_damage
 by_change
 by_two
+by_end
 by_release_test
 by_renewal
 
