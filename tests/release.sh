@@ -1,9 +1,9 @@
 #!/usr/bin/env bash
 # Holds release/ against the program that `rt ci` has just left in crates/duvonka/out/. It builds nothing.
 # usage: tests/release.sh
-# release/ must be whole: two files, and the program that MANIFEST names. If it was made from the sources as they are here, it must
-# also be the program that `rt ci` made, byte by byte, by the same toolchain. Otherwise this says that the release is older.
-# The last line is 'N passed, M failed'.
+# release/ must be whole: two files, and the program that MANIFEST names. If it was made from the sources as they
+# are here, it must also be the program that `rt ci` made, byte by byte, by the same toolchain. Otherwise this says
+# that the release is older. The last line is 'N passed, M failed'.
 set -u
 export LC_ALL=C
 cd "$(dirname "$(readlink -f "$0")")/.." || exit 1
@@ -49,7 +49,8 @@ else
   if [ "$(manifest sources)" = "$(tools/source-sum)" ]; then
     judge_against_build
   else
-    echo "release.sh: the release is older than the sources, so it is not compared with the program; tools/renew-release makes a new one"
+    echo "release.sh: the release is older than the sources, so it is not compared with the program." \
+      "tools/renew-release makes a new one"
   fi
 fi
 
