@@ -183,6 +183,9 @@ by_change() {
   run a
   judge "a release that is older than the sources, without rt" "$got" ", status 125"
   has "it names the commit of the release" "duvonka: the release belongs to commit $commit: git checkout $commit"
+  git clone -q --depth 1 "file://$clone" "$work/shallow"
+  said=$("$work/shallow/duvonka" a 2>&1 < /dev/null)
+  has "a clone without history" "duvonka: the release belongs to an earlier commit; after git fetch --unshallow"
   judge "the release test passes an older release" "$("$clone/tests/release.sh" | tail -n 1)" "4 passed, 0 failed"
   with_rt
   run a
