@@ -122,6 +122,12 @@ by_release() {
   judge "the second time it says nothing" "$got $said" "built from one: pipe error, status 0 "
   judge "the release was unpacked under its sum" "program: $(ls "$cache/release")" \
     "$(grep '^program: ' "$clone/release/MANIFEST")"
+  rm -r "$cache/release"
+  "$clone/duvonka" one > "$work/one" 2> /dev/null < /dev/null &
+  run two
+  wait $!
+  judge "two that unpack it at once" "$(cat "$work/one"), $got" "built from one: one, built from one: two, status 0"
+  judge "one copy of it is kept" "$(find "$cache/release" -mindepth 1 -maxdepth 1 | grep -c .)" 1
   touch "$clone/crates/low/src/lib.rt"
   echo other > "$clone/crates/beside/src/lib.rt"
   run a
