@@ -7,17 +7,17 @@ set -u
 export LC_ALL=C.UTF-8
 top=$(cd "$(dirname "$0")/.." && pwd)
 program=${DUVONKA:-$top/crates/duvonka/out/duvonka}
-# skip_all WHY
-skip_all() {
-  echo "SKIPPED all: $1"
-  echo "0 passed, 0 failed, 1 skipped"
-  exit 0
+# fail_all WHY: nothing can be tested
+fail_all() {
+  echo "FAILED all: $1"
+  echo "0 passed, 1 failed, 0 skipped"
+  exit 1
 }
 
 for tool in mktemp timeout sha256sum sed seq; do
-  command -v "$tool" > /dev/null || skip_all "there is no $tool"
+  command -v "$tool" > /dev/null || fail_all "there is no $tool"
 done
-[ -x "$program" ] || skip_all "the program is not built"
+[ -x "$program" ] || fail_all "the program is not built"
 work=$(mktemp -d) || exit 1
 # shellcheck source=tests/serving.sh
 . "$top/tests/serving.sh"
