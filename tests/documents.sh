@@ -1,8 +1,8 @@
 #!/usr/bin/env bash
 # Runs each example of the documents and compares what it prints with what the document shows. An example stands in a
 # block that begins with ```console: a line "$ COMMAND", which goes on in the next line where it ends with a bar, and
-# below it what the command prints. A document whose examples ask a server gets a new one. In docs/LOGSQL.md the last
-# column of the tables of filters is compared too.
+# below it what the command prints. A document whose examples ask a server gets a new one. The numbers in the tables of
+# filters of docs/LOGSQL.md, and the faults in the tables of docs/ERRORS.md, are compared too.
 # usage: tests/documents.sh     (the environment variable DUVONKA is the path of another build)
 # Its last line is 'N passed, M failed, K skipped'.
 set -u
@@ -104,6 +104,24 @@ tables() {
   done < docs/LOGSQL.md
 }
 
+# faults: the fault of each query in the tables of faults, and each timestamp of the table of those that are refused
+faults() {
+  local line query fault refused=''
+  while IFS= read -r line; do
+    case $line in
+      '### `BadTime` of a line') refused=1 ;;
+      '#'*) refused='' ;;
+    esac
+    if [ -n "$refused" ] && [[ $line =~ ^'| `'([^\`]*)'`' ]]; then
+      judge "docs/ERRORS.md, the timestamp ${BASH_REMATCH[1]}" \
+        "$(printf '{"a":"b","_time":"%s"}\n' "${BASH_REMATCH[1]}" | "$program" pipe '*' 2>&1)" "line 1: BadTime"
+    elif [[ $line =~ ^'| `'([^\`]*)'` | `'([A-Z][A-Za-z]*' at '[0-9]+)'` |' ]]; then
+      query=${BASH_REMATCH[1]//\\|/|} fault=${BASH_REMATCH[2]}
+      judge "docs/ERRORS.md, the query $query" "$("$program" pipe -- "$query" 2>&1 < /dev/null)" "query: $fault"
+    fi
+  done < docs/ERRORS.md
+}
+
 today=$(date -u +%F)
 for document in README.md docs/*.md; do
   before=$((passed + failed + skipped))
@@ -115,6 +133,7 @@ for document in README.md docs/*.md; do
   esac
 done
 tables
+faults
 
 echo "$passed passed, $failed failed, $skipped skipped"
 [ "$failed" = 0 ]
