@@ -39,7 +39,7 @@ def names(text):
 
 
 def sort(parts):
-    keys = [(key.removeprefix("-") if key.startswith("-") else key, key.startswith("-")) for key in (part(parts, "by=") or "").split(",")]
+    keys = [(key.removeprefix("-"), key.startswith("-")) for key in (part(parts, "by=") or "").split(",")]
     return "Sort", keys, count(parts, "limit="), count(parts, "offset=", 0)
 
 
