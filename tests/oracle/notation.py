@@ -3,7 +3,7 @@ from values import in_order, record_of
 
 
 def pairs(text, between="&"):
-    """Returns the names and values of fields as `name=value`. What has no name or no `=` is no field."""
+    """Returns the names and values of fields as `name=value`. What has no name or no `=` is ignored."""
     fields = (tuple(field.split("=", 1)) for field in text.split(between) if "=" in field)
     return [field for field in fields if field[0]]
 
