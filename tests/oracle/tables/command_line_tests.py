@@ -1,0 +1,93 @@
+"""What the words of a command line ask for."""
+from chance import lines_of, mutated, table
+from values import number
+
+USAGE = "usage: pipe, load, query, trial or serve"
+OPTIONS = {"pipe": ("--stream-fields",), "trial": (), "serve": ("--http", "--syslog", "--workers")}
+PLACES = {"pipe": 1, "trial": 2, "serve": 0}
+
+
+class Usage(Exception):
+    """The words are no command."""
+
+
+def answers(stdin):
+    return table(f"{line} -> {answer(line)}" for line in lines_of(stdin))
+
+
+def answer(line):
+    try:
+        return read(["" if word == "''" else word for word in line.split(" ")] if line else [])
+    except Usage:
+        return USAGE
+
+
+def read(words):
+    """Returns what the words of a command ask for."""
+    if not words or words[0] not in OPTIONS:
+        raise Usage
+    options, places = taken_apart(words[1:], OPTIONS[words[0]])
+    if len(places) != PLACES[words[0]]:
+        raise Usage
+    if words[0] == "pipe":
+        return f"pipe <{places[0]}>" + option_text(options, "--stream-fields", "stream fields")
+    if words[0] == "trial":
+        return f"trial {numeral(places[0], 0, 2**63 - 1)} {numeral(places[1], 0, 1000000)}"
+    if "--http" not in options:
+        raise Usage
+    workers = numeral(options.get("--workers", "4"), 1, 32 if "--syslog" in options else 64)
+    return f"serve {workers} <{options['--http']}>" + option_text(options, "--syslog", "syslog")
+
+
+def taken_apart(words, known):
+    """Returns the options with their values, and the other words. After `--` no word is an option."""
+    options, places, words = {}, [], list(words)
+    while words:
+        word = words.pop(0)
+        if word == "--":
+            return options, places + words
+        if word == "-" or not word.startswith("-"):
+            places.append(word)
+            continue
+        name, equals, value = word.partition("=")
+        if name not in known or name in options:
+            raise Usage
+        if not equals:
+            if not words or (words[0].startswith("-") and words[0] != "-"):
+                raise Usage
+            value = words.pop(0)
+        options[name] = value
+    return options, places
+
+
+def numeral(text, low, high):
+    if number(text) is None or not low <= number(text) <= high:
+        raise Usage
+    return number(text)
+
+
+def option_text(options, name, shown):
+    return f", {shown} <{options[name]}>" if name in options else ""
+
+
+def cases(random):
+    names = ("--stream-fields", "--http", "--syslog", "--workers", "--seed", "--help", "-h", "-x", "--", "--http=", "--Http")
+    values = ("''", "-", "0", "1", "4", "32", "33", "64", "65", "007", "+1", "-1", "1.0", "a,b", "127.0.0.1:0", "٣", "é", "=", "a=b",
+              str(2**63 - 1), str(2**63), "1000000", "1000001", "9" * 40)  # fmt: skip
+    lines = ["", "''", "-", "--"]
+    for command in ("pipe", "trial", "serve", "load", "query", "Pipe", "pip"):
+        for _ in range(60):
+            count = random.randint(0, 4)
+            words = [random.choice(values) for _ in range(count)]
+            for _ in range(random.randint(0, 3)):
+                at = random.randint(0, len(words))
+                words[at:at] = random.choice(([random.choice(names)], [random.choice(names) + "=" + random.choice(values[1:])]))
+            lines.append(" ".join([command, *words]))
+    for _ in range(120):
+        workers = random.choice(("", "", " --workers " + random.choice(values), " --workers=" + random.choice(values[1:])))
+        syslog = random.choice(("", " --syslog b", " --syslog=", " --syslog"))
+        lines.append("serve" + random.choice((" --http a", " --http=a")) + syslog + workers)
+        lines.append("serve" + workers + syslog + " --http 127.0.0.1:9428")
+        lines.append(mutated(random, lines[-1], "-=ht1").strip().replace("  ", " "))
+        lines.append(f"trial {random.choice(values)} {random.choice(values)}")
+    return table(lines)
