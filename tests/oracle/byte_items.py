@@ -50,6 +50,15 @@ class Items:
             self.damaged()
         return number
 
+    def codes(self, count, limit):
+        """Returns so many bytes below a limit, each an item."""
+        data = self.data[self.at : self.at + count]
+        if len(data) < count or max(data, default=0) >= limit:
+            return [self.below(1, limit) for _ in range(count)]
+        self.starts.extend(range(self.at, self.at + count))
+        self.at += count
+        return data
+
     def text(self, length):
         """Returns a text after its length, a number of so many bytes. Both are one item."""
         self.start()

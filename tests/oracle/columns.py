@@ -1,9 +1,12 @@
 """Columns of integers, of texts, and of the values of a field, as bytes and back (docs/BYTES.md)."""
+import re
+
 from bloom_filters import filter_of
 from byte_items import Items, check_spelling, signed, text, unsigned
 from values import number
 from words import words
 
+ASCII_WORDS = re.compile(rb"\w+")  # of bytes, so letters, digits and underscores of ASCII
 CONSTANT, INTEGERS, DICTIONARY, TEXTS = range(4)
 # a dictionary has at most this many values, each of at most this many bytes
 MOST, LONGEST = 255, 256
@@ -95,7 +98,7 @@ def take_body(items, kind, rows):
     if kind == DICTIONARY:
         count = items.unsigned(1)
         members = [items.text(2) for _ in range(count)]
-        return [members[items.below(1, count)] for _ in range(rows)]
+        return [members[code] for code in items.codes(rows, count)]
     return take_texts(items, rows)
 
 
@@ -113,7 +116,7 @@ def column_filter(values):
     found = set()
     for value in set(values):
         data = value.encode("utf-8")
-        found.update(data[start:end] for start, end in words(value))
+        found.update(ASCII_WORDS.findall(data) if value.isascii() else (data[start:end] for start, end in words(value)))
     return filter_of(found)
 
 

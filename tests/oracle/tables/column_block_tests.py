@@ -5,16 +5,16 @@ A line `quick` asks how the code works inside, which no rule says: whether a blo
 and not of its rows. `is_quick` says when. The first number of an answer says how often the block was opened, which the
 program does twice.
 """
-from blocks import CELLS, ROWS, Numbered, is_block, names_of, numbered_of, put_block, read_block, take_parts, values_of
-from byte_items import Damaged, Items, answered, bytes_of, cut_once, damaged_copies, number_or, table
-from columns import INTEGERS, column_filter, kind_of
+from blocks import Numbered, is_block, names_of, numbered_of, put_block, put_keys, read_block, take_parts, values_of
+from byte_items import Damaged, Items, answered, bytes_of, cut_once, damaged_copies, number_or, table, text, unsigned
+from columns import DICTIONARY, INTEGERS, TEXTS, column_filter, kind_of, put_body, put_filter, put_texts
 from faults import Fault
-from rows import COMPUTED, ROW, Row
+from rows import ROW, Row
 from tables.block_parts_tests import some_rows
 from values import in_order
 from words import size
 
-QUICK_COLUMNS, NAME = 1000, 128
+QUICK_COLUMNS = 1000
 
 
 def answers(stdin):
@@ -35,14 +35,14 @@ def answer(line):
 
 def of_rows(line, answer_of):
     """Answers for the rows of a line, if they are those of a block."""
-    rows = [row_of(text) for text in line.split(";")]
+    rows = [row_of(each) for each in line.split(";")]
     if None in rows:
         return "no row"
     return answer_of(rows) if is_block(rows) else "no block"
 
 
-def row_of(text):
-    key, rest = cut_once(text, "|")
+def row_of(line):
+    key, rest = cut_once(line, "|")
     labels, fields = cut_once(rest or "", "|")
     return numbered_of(key, fields or "", labels)
 
@@ -148,21 +148,95 @@ def is_quick(parts):
     return not parts.labels and full and len(parts.columns) <= QUICK_COLUMNS and weight <= ROW
 
 
-def spelled(random, rows):
-    """Returns the items of a block in another order, or with other limits, which is no spelling of it."""
-    data = put_block(rows)
-    shuffled = random.sample(rows, len(rows))
-    numbers = [Numbered(n.row, random.choice([n.batch, 1]), random.choice([n.place, 0])) for n in rows]
-    return [put_block_unsorted(shuffled), put_block_unsorted(numbers), data + data[-1:]]
+def row_line(numbered):
+    """Returns a row as the text of a table."""
+    fields = ",".join(f"{name}={value}" for name, value in numbered.row.fields.items())
+    return "%d %d %d" % numbered.key() + f"|{','.join(numbered.row.labels)}|{fields}"
 
 
-def put_block_unsorted(rows):
-    """Returns the bytes of rows as they stand, in order or not."""
-    keys = sorted(numbered.key() for numbered in rows)
-    sorted_rows = [Numbered(numbered.row, *key[1:]) for numbered, key in zip(rows, keys)]
-    data = bytearray(put_block(sorted_rows))
-    return bytes(data)
+class Column:
+    """A column whose items may be changed one by one."""
+
+    def __init__(self, name, values):
+        self.name, self.values, self.kind, self.body = name, values, kind_of(values), put_body(values)
+        self.filter = put_filter(column_filter(values))
+
+    def to_bytes(self):
+        return text(self.name, 2) + bytes([self.kind]) + self.filter + self.body
+
+
+class Draft:
+    """The items of a block, of which some are changed."""
+
+    def __init__(self, rows):
+        self.labels, self.keys = in_order(rows[0].row.labels), [numbered.key() for numbered in rows]
+        self.columns = [Column(name, values_of(rows, name)) for name in names_of(rows)]
+
+    def to_bytes(self):
+        labels = b"".join(text(name, 2) + text(value, 4) for name, value in self.labels)
+        counts = unsigned(len(self.keys), 2) + unsigned(len(self.columns), 2)
+        columns = b"".join(column.to_bytes() for column in self.columns)
+        return unsigned(len(self.labels), 2) + labels + counts + put_keys(self.keys) + columns
+
+    def change(self, random):
+        random.choice([self.change_labels, self.change_keys, self.change_columns, self.change_column])(random)
+
+    def change_labels(self, random):
+        """Shuffles the labels, or puts in one more, which may be a label that is there or no label of the rows."""
+        random.shuffle(self.labels)
+        if random.random() < 0.7:
+            more = random.choice([*self.labels, ("app", "x y"), ("app", ""), ("", ""), ("", "x"), ("b", "7"), ("zz", "")])
+            self.labels.insert(random.randint(0, len(self.labels)), more)
+
+    def change_keys(self, random):
+        """Gives a row another key, or that of another row, or puts the keys in another order."""
+        place = random.randrange(len(self.keys))
+        time, batch, number = self.keys[place]
+        others = [(-1, batch, number), (time + 1, batch, number), (time, 0, number), (time, batch, 9), self.keys[-1]]
+        self.keys[place] = random.choice([key for key in others if key[0] < 2**63])
+        if random.random() < 0.5:
+            random.shuffle(self.keys)
+
+    def change_columns(self, random):
+        """Puts the columns in another order, or puts in one that may be there, have no value, or no name of a field."""
+        if random.random() < 0.5:
+            random.shuffle(self.columns)
+        names = [column.name for column in self.columns] + ["", "_time", "_stream", "_stream_id", "n" * 128, "n" * 129, "b"]
+        value = random.choice(["", "", "x", "7"])
+        column = Column(random.choice(names), [value for _ in self.keys])
+        self.columns.insert(random.randint(0, len(self.columns)), column)
+
+    def change_column(self, random):
+        """Gives a column another kind, or another filter."""
+        column = random.choice(self.columns)
+        if random.random() < 0.4:
+            column.kind, column.body = TEXTS, put_texts(column.values)
+        elif random.random() < 0.4:
+            members = list(dict.fromkeys(column.values)) + random.choice([[], ["more"]])
+            codes = bytes(members.index(value) for value in column.values)
+            column.body = bytes([len(members)]) + b"".join(text(member, 2) for member in members) + codes
+            column.kind = DICTIONARY
+        else:
+            words = column.filter[4:] + random.choice([b"", bytes(8)])
+            place = random.randrange(len(words) + 1)
+            words = words[:place] + bytes(byte ^ 1 for byte in words[place : place + 1]) + words[place + 1 :]
+            column.filter = unsigned(len(words) // 8, 4) + words
 
 
 def cases(random):
-    return table([])
+    wide_row = ",".join(f"f{n}=1" for n in range(1001))
+    lines = ["", "= ", "= 00", "0 0 0||", "5 1 0||a=x;5 1 0||a=x", "5 1 1||a=x;5 1 0||a=x", "5 1 0|a|a=x;5 1 1||a=x"]
+    lines += ["made 0 1", "made 4096 3", "made 4097 3", "made 1 65535", "wide 1 1000", "wide 1 1001", "wide 3 2001"]
+    lines += ["wide 2 2000", "wide 1024 1024", f"head 0 0 0||{wide_row[:-7]}", f"head 0 0 0||{wide_row}"]
+    lines += [f"head 0 0 0|c|c={'x' * length}" for length in (262143, 262144)] + [f"0 0 0||{'n' * n}=1" for n in (128, 129)]
+    for _ in range(12):
+        rows = some_rows(random)
+        lines += [";".join(map(row_line, rows)), ";".join(map(row_line, random.sample(rows, len(rows))))]
+        lines.append("head " + lines[-2])
+        lines += [f"= {copy.hex()}" for copy in [put_block(rows), *damaged_copies(put_block(rows)[:200], random, 20)]]
+        for _ in range(12):
+            draft = Draft(rows)
+            for _ in range(random.choice([1, 1, 2])):
+                draft.change(random)
+            lines.append(f"= {draft.to_bytes().hex()}")
+    return table(lines)
