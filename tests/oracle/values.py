@@ -26,9 +26,9 @@ def tuple_key(values):
 
 
 def set_field(fields, name, value):
-    """Sets a field. An empty value is a missing field."""
+    """Sets a field. An empty value is a missing field, and no field has an empty name."""
     fields.pop(name, None)
-    if value:
+    if name and value:
         fields[name] = value
 
 

@@ -1,0 +1,112 @@
+"""The small notation for records and pipes in which tables are written."""
+from values import in_order, record_of
+
+
+def pairs(text, between="&"):
+    """Returns the names and values of fields as `name=value`. What has no name or no `=` is no field."""
+    fields = (tuple(field.split("=", 1)) for field in text.split(between) if "=" in field)
+    return [field for field in fields if field[0]]
+
+
+def record(text):
+    return record_of(pairs(text))
+
+
+def record_text(record_):
+    return "&".join(f"{name}={value}" for name, value in in_order(record_))
+
+
+def part(parts, letters):
+    """Returns what stands after these letters in the first of the words that begins with them, or None."""
+    for word in parts.split(" "):
+        if word.startswith(letters):
+            return word.removeprefix(letters)
+    return None
+
+
+def count(parts, letters, otherwise=None):
+    """Returns the number after these letters, which is below 2^64."""
+    text = part(parts, letters)
+    return int(text) if text and text.isascii() and text.isdigit() and int(text) < 2**64 else otherwise
+
+
+def names(text):
+    return text.split(",") if text else []
+
+
+def sort(parts):
+    keys = [(key.removeprefix("-") if key.startswith("-") else key, key.startswith("-")) for key in (part(parts, "by=") or "").split(",")]
+    return "Sort", keys, count(parts, "limit="), count(parts, "offset=", 0)
+
+
+def uniq(parts, names_):
+    return "Uniq", names_, part(parts, "hits") is not None, count(parts, "limit=")
+
+
+def top(parts, names_):
+    return "Top", count(parts, "n=", 10), names_
+
+
+def stats(words):
+    keys, functions = [], []
+    for word in words.split(" "):
+        if word.startswith("by="):
+            name, colon, step = word.removeprefix("by=").partition(":")
+            keys.append((name, int(step) if colon else None))
+        elif function_ := function(word):
+            functions.append(function_)
+    return "Stats", keys, functions
+
+
+CALLS = ("count", "count_empty", "count_uniq", "sum", "min", "max", "uniq_values")
+
+
+def function(word):
+    """Returns the function of `call:names>name`, with the filter after a `?`. None if it is none."""
+    word, question, test = word.partition("?")
+    call, arrow, name = word.partition(">")
+    call, _, fields = call.partition(":")
+    if not arrow or call not in CALLS:
+        return None
+    return call, names(fields), filter_of(test) if question else None, name
+
+
+def filter_of(test):
+    if "=" in test:
+        field, _, text = test.partition("=")
+        return "Exact", field, text
+    if "!" in test:
+        field, _, text = test.partition("!")
+        return "Not", ("Exact", field, text)
+    field, _, pattern = test.partition("~")
+    return "Regex", field, pattern
+
+
+def pairs_of_names(text):
+    return [tuple(pair.split(">", 1)) if ">" in pair else (pair, pair) for pair in text.split(",")]
+
+
+def pipe(text):
+    """Returns the pipe of a word and its parts, or None if there is none of that word."""
+    word, _, rest = text.partition(" ")
+    if word in ("fields", "delete"):
+        return word.capitalize(), names(rest)
+    if word in ("rename", "copy"):
+        return word.capitalize(), pairs_of_names(rest)
+    if word in ("limit", "offset"):
+        return word.capitalize(), int(rest) if rest.isascii() and rest.isdigit() else 0
+    if word == "sort":
+        return sort(rest)
+    if word == "uniq":
+        return uniq(rest, names(part(rest, "by=") or ""))
+    if word == "top":
+        return top(rest, names(part(rest, "by=") or ""))
+    if word == "stats":
+        return stats(rest)
+    return ("Keep", filter_of(rest)) if word == "filter" else None
+
+
+def pipes(text):
+    """Returns the pipes with `|` between them."""
+    found = map(pipe, text.split("|"))
+    return [pipe_ for pipe_ in found if pipe_]

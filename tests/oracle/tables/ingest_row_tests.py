@@ -1,0 +1,96 @@
+"""The rows of lines of JSON, with the arguments of their insert, and of messages of syslog."""
+from chance import NUMBERS, STAMPS, lines_of, some, table
+from faults import Fault
+from rows import Options, row_of_line, row_of_syslog
+from tables import jsonline_in_tests, syslog_in_tests
+from values import in_order
+
+NOW = 5
+ROW_FAULTS = ("TimeRange", "NameLong", "ManyFields", "RowLarge", "Empty")
+
+
+def answers(stdin):
+    return table(map(answer, lines_of(stdin)))
+
+
+def answer(case):
+    try:
+        if case.startswith("<"):
+            return row_text(row_of_syslog(NOW, case.encode()))
+        arguments, tab, line = case.partition("\t")
+        options = Options(tuple(argument.split("=", 1)) for argument in arguments.split("&") if "=" in argument)
+        return row_text(row_of_line(options, NOW, line.encode())) if tab else options_text(options)
+    except Fault as fault:
+        return syslog_fault(fault) if case.startswith("<") else fault.name
+
+
+def syslog_fault(fault):
+    if fault.name in ROW_FAULTS:
+        return f"Row({fault.name})"
+    return f"Message({fault.name})" if fault.at is None else f"Message({fault.name} {{ at: {fault.at} }})"
+
+
+def bracketed(texts):
+    return "".join(f"[{text}]" for text in texts)
+
+
+def fields_text(fields):
+    return bracketed(f"{name}:{value}" for name, value in fields)
+
+
+def row_text(row):
+    return f"{row.time} {fields_text(in_order(row.labels))} {fields_text(in_order(row.fields))}"
+
+
+def options_text(options):
+    lists = (bracketed(options.message_fields), bracketed(options.ignored_fields), fields_text(options.extra_fields))
+    return "; ".join((bracketed(options.stream_fields), options.time_field, *lists))
+
+
+def arguments(random):
+    names = ("a", "b", "_msg", "_time", "t", "app", "_stream", "_stream_id", "é", "o.a", "", " a")
+    pairs = []
+    for _ in range(random.randint(0, 3)):
+        name = random.choice(("_stream_fields", "_time_field", "_msg_field", "ignore_fields", "extra_fields", "limit"))
+        value = random.choice(names) if name == "_time_field" else ",".join(some(random, names, 3))
+        if name == "extra_fields" and random.random() < 0.8:
+            extra = (random.choice(names[:-2]) + "=" + random.choice(("", "x", "é", "7", "a=b")) for _ in range(random.randint(1, 3)))
+            value = ",".join(extra)
+        pairs.append(f"{name}={value}")
+    return random.choice(("", "&", "x&")) + "&".join(pairs)
+
+
+def line(random):
+    """Returns a line of JSON with names that the arguments ask for."""
+    members = []
+    for _ in range(random.randint(0, 5)):
+        name = random.choice(("a", "b", "_msg", "_time", "_time", "t", "app", "_stream", "_stream_id", "é", "", " a", "o.a"))
+        text = random.choice((random.choice(STAMPS), random.choice(NUMBERS), "x", "", "0", "é"))
+        value = random.choice((f'"{text}"', f'"{text}"', "7", "0", "1714557600.5", "null", "true", "[1, 2]", '{"a":"x"}', "-1"))
+        members.append(f'"{name}":{value}')
+    return "{" + ",".join(members) + "}"
+
+
+def cases(random):
+    lines = ["", "\t", "\t{}", "\tnull", "_stream_fields=a,b\t{}"]
+    for _ in range(250):
+        lines += [arguments(random), arguments(random) + "\t" + line(random), "\t" + line(random)]
+        lines.append("\t" + jsonline_in_tests.object_text(random, 2).replace("\r", " ").replace("\t", " "))
+    messages = (syslog_in_tests.message(random) for _ in range(150))
+    lines += [text for text in map(as_text, messages) if text is not None]
+    name, value = "n" * 128, "v" * 262143
+    lines += [f'\t{{"{name}":"x"}}', f'\t{{"{name}n":"x"}}', f'\t{{"a":"{value}"}}', f'\t{{"a":"{value}v"}}']
+    for count in (1000, 1001):
+        lines.append("\t{" + ",".join(f'"f{n}":1' for n in range(count)) + "}")
+        parameters = "".join(f' p{n}="x"' for n in range(count - 5))
+        lines.append(f"<13>1 - - - - - [a{parameters}] m")
+    return table(lines)
+
+
+def as_text(message):
+    """Returns a message as a line of a table, or None if it can't stand in one."""
+    try:
+        text = message.decode("utf-8")
+    except UnicodeDecodeError:
+        return None
+    return text if text.startswith("<") and not any(c in text for c in "\r\n") else None

@@ -1,0 +1,107 @@
+"""Whether filters hold for rows and for records."""
+from chance import NUMBERS, STAMPS, TEXTS, lines_of, some, table, text_of
+from filters import GREATEST, LEAST, holds, of_record, of_row, patterns_of
+from patterns import first_refused
+from rows import Row
+from values import record_of
+
+TEXT_FORMS = {"phrase": "Phrase", "prefix": "Prefix", "exact": "Exact", "exact_prefix": "ExactPrefix", "fold": "Fold", "pattern": "Regex"}
+LIST_FORMS = {"in": "OneOf", "seq": "Seq"}
+LABEL_FORMS = {"is": "Is", "is_not": "IsNot", "matches": "Matches", "matches_not": "MatchesNot"}
+FIELD_FORMS = {"any": "Any", "empty": "Empty"}
+JOINED_FORMS = {"and": "All2", "or": "Any2"}
+
+
+def answers(stdin):
+    return table(map(answer, lines_of(stdin)))
+
+
+def answer(line):
+    of_a_record = line.startswith("record ")
+    columns = line.removeprefix("record ").split("\t")
+    form, field, first, second, value = (columns + [""] * 5)[:5]
+    filter_ = filter_of(form, field, first, second)
+    refused = first_refused(patterns_of(filter_))
+    if refused is not None:
+        return f"RegexRefused {{ nth: {refused} }}"
+    if of_a_record:
+        subject = of_record(record_of([("a", "x"), *([(field, value)] if field else [])]))
+    else:
+        subject = of_row(Row(0, ["v"], record_of([("a", "x"), ("v", value)])))
+    return str(holds(filter_, subject, 0)).lower()
+
+
+def filter_of(form, field, first, second):
+    if form.startswith("not "):
+        return "Not", filter_of(form.removeprefix("not "), field, first, second)
+    if form in JOINED_FORMS:
+        return JOINED_FORMS[form], [("Phrase", field, first), ("Phrase", field, second)]
+    if form in LABEL_FORMS:
+        return "Select", [[(field, LABEL_FORMS[form], first)]]
+    if form in FIELD_FORMS:
+        return FIELD_FORMS[form], field
+    if form in LIST_FORMS:
+        return LIST_FORMS[form], field, first.split(",")
+    if form in TEXT_FORMS:
+        return TEXT_FORMS[form], field, first
+    if form == "between":
+        return "Between", field, first, second
+    if form == "length":
+        return "Length", field, integer(first, 0, 0, 2**64), integer(second, 2**64 - 1, 0, 2**64)
+    if form == "range":
+        return "Range", field, integer(first, LEAST, LEAST, GREATEST + 1), integer(second, GREATEST, LEAST, GREATEST + 1)
+    return ("All",)
+
+
+def integer(text, otherwise, low, high):
+    """Returns the integer that a text is, or another one if it is none from `low` on and below `high`."""
+    digits = text.removeprefix("-")
+    found = int(text) if digits.isascii() and digits.isdigit() else otherwise
+    return found if low <= found < high else otherwise
+
+
+PATTERNS = (
+    ".", "", "err.r", "[0-9]+", "\\A.$", "\\d+", "[^a-z ]", "(?i)error", "e(rr|xx)or", "x|^a$", "^error$", "\\berror\\b", "(a|b)?", "^a.*a$",
+    "a{2,3}", "a{2,}", "日.語", "^$", "(a+)+b", "[a-z]+-[0-9]+", "\\w+", "\\W", "\\s", "\\S+ \\S+", "a?b*c+", "[]a]", "[^-a]", "\\.", "(?:ab)+",
+    "(?P<n>a)", "a{0}", "(", ")", "[", "a{2,1}", "*", "[z-a]", "(?P<", "\\", "a)(b", "a)|(b", "a{", "+a",
+)  # fmt: skip
+LETTERS = "ab_- .é日٣🙂\u0301"
+
+
+def length(random):
+    return random.choice(("", "0", "1", "2", "5", "18446744073709551615", str(random.randint(0, 9))))
+
+
+def bound(random):
+    ends = (0, 1, -1, 7, 2**63 - 1, 2**63, -(2**63), -(2**63) - 1, 2**127 - 1, -(2**127), random.randint(-99, 99))
+    return random.choice(("", str(random.choice(ends))))
+
+
+def parts(random, form, value):
+    """Returns the two texts of a form that is asked of a value."""
+    start = random.randint(0, len(value))
+    near = random.choice((value, value[start : start + random.randint(0, 3)], value[:start], random.choice(TEXTS), text_of(random, LETTERS, 3)))
+    if form in LIST_FORMS:
+        return ",".join([near, *some(random, TEXTS, 2)][random.randint(0, 1) :]), ""
+    if form in ("pattern", "matches", "matches_not"):
+        return random.choice(PATTERNS), ""
+    if form == "length":
+        return length(random), length(random)
+    if form == "range":
+        return bound(random), bound(random)
+    if form == "fold":
+        return random.choice((near, near.upper(), near.lower(), near.swapcase())), ""
+    return near, random.choice((value, value + "\x00", "", random.choice(TEXTS), "\U0010ffff"))
+
+
+def cases(random):
+    forms = [*TEXT_FORMS, *TEXT_FORMS, *LIST_FORMS, *LABEL_FORMS, *FIELD_FORMS, *JOINED_FORMS, "between", "length", "range", "none"]
+    lines = ["", "phrase", "record phrase\tv", "not not phrase\tv\ta\t\ta"]
+    for _ in range(1500):
+        form = random.choice(forms)
+        value = random.choice((text_of(random, LETTERS, 8), text_of(random, "ab ", 6), random.choice(TEXTS + NUMBERS + STAMPS), "error an ERROR"))
+        first, second = parts(random, form, value)
+        field = random.choice(("v", "v", "v", "v", "a", "b", "_stream", "_stream_id", "_time", "_msg"))
+        before = random.choice(("", "", "", "record ")) + random.choice(("", "", "", "not "))
+        lines.append("\t".join((before + form, field, first, second, value)))
+    return table(lines)

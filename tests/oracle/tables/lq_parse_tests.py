@@ -1,0 +1,94 @@
+"""What queries say, or why they are none."""
+from chance import lines_of, table
+from faults import Fault
+from queries import parse
+
+LEAVES = {"Any": "some", "Empty": "empty", "OneOf": "in", "Seq": "seq", "Phrase": "phrase", "Prefix": "prefix", "Exact": "exact",
+          "ExactPrefix": "exact_prefix", "Regex": "regex", "Fold": "fold", "Between": "between", "Length": "length",
+          "Range": "range"}  # fmt: skip
+HOWS = {"Is": "=", "IsNot": "!=", "Matches": "=~", "MatchesNot": "!~"}
+PICTURES = str.maketrans({"\n": "␊", "\r": "␍", "\t": "␉", "\0": "␀"})
+CONTROLS = {0x2400 + c: chr(c) for c in range(32)}
+
+
+def answers(stdin):
+    return table(answer(line.translate(CONTROLS)) for line in lines_of(stdin))
+
+
+def answer(query):
+    try:
+        filter_, pipes = parse(query)
+        return filter_text(filter_) + "".join(" | " + pipe_text(*pipe) for pipe in pipes)
+    except Fault as fault:
+        return str(fault)
+
+
+def shown(text):
+    return f" <{text.translate(PICTURES)}>"
+
+
+def all_shown(texts):
+    return "".join(map(shown, texts))
+
+
+def filter_text(filter_):
+    kind, *parts = filter_
+    if kind == "Not":
+        return f"not({filter_text(parts[0])})"
+    if kind in ("All2", "Any2"):
+        return f"{kind[:3].lower()}({', '.join(map(filter_text, parts[0]))})"
+    if kind in ("Length", "Range"):
+        return LEAVES[kind] + shown(parts[0]) + f" {parts[1]} {parts[2]}"
+    if kind in ("OneOf", "Seq"):
+        return LEAVES[kind] + shown(parts[0]) + all_shown(parts[1])
+    if kind in ("Last", "Times"):
+        return " ".join([kind.lower(), *map(str, parts)])
+    if kind == "Select":
+        return "streams" + "".join(" {" + "".join(map(test_text, group)) + " }" for group in parts[0])
+    return "everything" if kind == "All" else LEAVES[kind] + all_shown(parts)
+
+
+def test_text(test):
+    name, how, text = test
+    return f"{shown(name)} {HOWS[how]}{shown(text)}"
+
+
+def pipe_text(kind, *parts):
+    if kind in ("Fields", "Delete"):
+        return kind.lower() + all_shown(parts[0])
+    if kind in ("Rename", "Copy"):
+        return kind.lower() + "".join(f"{shown(a)} to{shown(b)}" for a, b in parts[0])
+    if kind in ("Limit", "Offset"):
+        return f"{kind.lower()} {parts[0]}"
+    if kind == "Keep":
+        return "keep " + filter_text(parts[0])
+    if kind == "Top":
+        return f"top {parts[0]}" + all_shown(parts[1])
+    return {"Sort": sort_text, "Uniq": uniq_text, "Stats": stats_text}[kind](*parts)
+
+
+def limit_text(limit):
+    return "" if limit is None else f" limit {limit}"
+
+
+def sort_text(keys, limit, offset):
+    shown_keys = "".join(shown(name) + " desc" * down for name, down in keys)
+    return f"sort{shown_keys} offset {offset}{limit_text(limit)}"
+
+
+def uniq_text(names, hits, limit):
+    return "uniq" + all_shown(names) + " hits" * hits + limit_text(limit)
+
+
+def stats_text(keys, functions):
+    shown_keys = "".join(shown(name) + ("" if step is None else f" by {step}") for name, step in keys)
+    return "stats" + shown_keys + "".join(function_text(*function) for function in functions)
+
+
+def function_text(call, names, only, name):
+    condition = "" if only is None else " if " + filter_text(only)
+    return f"; {call}{all_shown(names)}{condition} as{shown(name)}"
+
+
+def cases(random):
+    return table([])
