@@ -123,19 +123,6 @@ def number_or(text, other, limit=2**32):
     return other
 
 
-def answered(stdin, answer):
-    """Returns the answers to the lines of a table, a line each."""
-    lines = stdin.decode("utf-8").split("\n")
-    if lines[-1] == "":
-        lines.pop()
-    return "".join(answer(line) + "\n" for line in lines).encode("utf-8")
-
-
-def table(lines):
-    """Returns lines as the table that has them."""
-    return "".join(line + "\n" for line in lines).encode("utf-8")
-
-
 def damaged_copies(data, random, count):
     """Returns copies of bytes: cut after each byte, with bytes after the end, and with other bytes at random places."""
     copies = [data[:length] for length in range(len(data))] + [data + b"\0", data + data]

@@ -1,14 +1,15 @@
 """What the items of a block say (docs/BYTES.md, "Block"), which may be no block: the labels, the keys and the columns,
 or how many bytes are left from the damaged item on. Labels and columns by themselves as bytes."""
 from blocks import numbered_of, put_block, put_keys, put_labels, put_named, take_parts
-from byte_items import Damaged, Items, answered, bytes_of, cut_once, damaged_copies, table
+from byte_items import Damaged, Items, bytes_of, cut_once, damaged_copies
+from chance import lines_of, table
 from columns import INTEGERS, fitting
 
 ROOM = 1048576  # more bytes of values are left out
 
 
 def answers(stdin):
-    return answered(stdin, answer)
+    return table(map(answer, lines_of(stdin)))
 
 
 def answer(line):

@@ -4,13 +4,14 @@ item on, and where two runs of bytes differ.
 A padded number is a byte and a byte of 0, a format that the crate has for itself: `padded` reads bytes that are nothing
 but one, which is at most a given number, and `window` one in exactly so many bytes.
 """
-from byte_items import Damaged, Items, answered, bytes_of, check_spelling, cut_once, number_or, table
+from byte_items import Damaged, Items, bytes_of, check_spelling, cut_once, number_or
+from chance import lines_of, table
 
 SIZES = {"u8": 1, "u16": 2, "u32": 4, "u64": 8, "i64": 8, "text16": 2, "text32": 4, "u32s": 4, "u64s": 8, "i64s": 8}
 
 
 def answers(stdin):
-    return answered(stdin, answer)
+    return table(map(answer, lines_of(stdin)))
 
 
 def answer(line):

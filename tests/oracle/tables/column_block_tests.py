@@ -6,7 +6,8 @@ and not of its rows. `is_quick` says when. The first number of an answer says ho
 program does twice.
 """
 from blocks import Numbered, is_block, names_of, numbered_of, put_block, put_keys, read_block, take_parts, values_of
-from byte_items import Damaged, Items, answered, bytes_of, cut_once, damaged_copies, number_or, table, text, unsigned
+from byte_items import Damaged, Items, bytes_of, cut_once, damaged_copies, number_or, text, unsigned
+from chance import lines_of, table
 from columns import DICTIONARY, INTEGERS, TEXTS, column_filter, kind_of, put_body, put_filter, put_texts
 from faults import Fault
 from rows import ROW, Row
@@ -18,7 +19,7 @@ QUICK_COLUMNS = 1000
 
 
 def answers(stdin):
-    return answered(stdin, answer)
+    return table(map(answer, lines_of(stdin)))
 
 
 def answer(line):

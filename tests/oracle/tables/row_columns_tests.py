@@ -1,12 +1,13 @@
 """The columns of rows (docs/BYTES.md, "Block"): the keys, and for each name in byte order the values of the rows. A row
 is also made again of its labels, its key and its fields."""
 from blocks import names_of, numbered_of, values_of
-from byte_items import answered, cut_once, table
+from byte_items import cut_once
+from chance import lines_of, table
 from values import in_order
 
 
 def answers(stdin):
-    return answered(stdin, answer)
+    return table(map(answer, lines_of(stdin)))
 
 
 def answer(line):

@@ -4,14 +4,15 @@ column has the filter of its values, of whatever kind it is.
 The words of the two longest lines have one slot among those that were met before, which is how the code works inside.
 The answers to them follow from the rules all the same.
 """
-from byte_items import Damaged, Items, answered, bytes_of, cut_once, damaged_copies, number_or, table
+from byte_items import Damaged, Items, bytes_of, cut_once, damaged_copies, number_or
+from chance import lines_of, table
 from columns import column_filter, fitting, kind_of, put_filter, take_filter
 
 ROOM = 4194304  # more bytes of values are left out
 
 
 def answers(stdin):
-    return answered(stdin, answer)
+    return table(map(answer, lines_of(stdin)))
 
 
 def answer(line):
