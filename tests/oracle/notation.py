@@ -26,8 +26,12 @@ def part(parts, letters):
 
 def count(parts, letters, otherwise=None):
     """Returns the number after these letters, which is below 2^64."""
-    text = part(parts, letters)
-    return int(text) if text and text.isascii() and text.isdigit() and int(text) < 2**64 else otherwise
+    return whole(part(parts, letters) or "", otherwise)
+
+
+def whole(text, otherwise):
+    """Returns the number below 2^64 that a text is, or another one if it is none."""
+    return int(text) if text.isascii() and text.isdigit() and int(text) < 2**64 else otherwise
 
 
 def names(text):
@@ -94,7 +98,7 @@ def pipe(text):
     if word in ("rename", "copy"):
         return word.capitalize(), pairs_of_names(rest)
     if word in ("limit", "offset"):
-        return word.capitalize(), int(rest) if rest.isascii() and rest.isdigit() else 0
+        return word.capitalize(), whole(rest, 0)
     if word == "sort":
         return sort(rest)
     if word == "uniq":

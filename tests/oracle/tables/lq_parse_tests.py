@@ -2,6 +2,7 @@
 from chance import lines_of, table
 from faults import Fault
 from queries import parse
+from query_cases import deep_queries, queries
 
 LEAVES = {"Any": "some", "Empty": "empty", "OneOf": "in", "Seq": "seq", "Phrase": "phrase", "Prefix": "prefix", "Exact": "exact",
           "ExactPrefix": "exact_prefix", "Regex": "regex", "Fold": "fold", "Between": "between", "Length": "length",
@@ -91,4 +92,6 @@ def function_text(call, names, only, name):
 
 
 def cases(random):
-    return table([])
+    lines = ["", " ", "*", "|", "* |", "a | b", "()", "a\u00a0b", "# a", "a" * 16384, "a" * 16385, "é" * 8192, "é" * 8193]
+    lines += ["in(" + "a," * 300 + "a)", "a or " * 300 + "a", "* | fields " + "a," * 300 + "a", "a" + " | limit 1" * 100]
+    return table(lines + deep_queries() + queries(random, 400))
