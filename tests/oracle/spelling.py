@@ -1,7 +1,7 @@
 r"""Bytes as visible text: a byte that is not visible ASCII is written as `\0a;`, and n of the same as `\61x65536;`."""
 import re
 
-LONGEST = 400  # of more bytes only the number is written
+LONGEST = 400  # of more bytes most tables write only the number
 CODE = re.compile(rb"\\([0-9a-f]{2})(?:x([0-9]+))?;")
 
 
@@ -14,9 +14,9 @@ def is_visible(byte):
     return 33 <= byte <= 126 and byte != ord("\\")
 
 
-def spelled(data):
+def spelled(data, longest=LONGEST):
     """Returns bytes as they are written in answers."""
-    if len(data) > LONGEST:
+    if len(data) > longest:
         return f"({len(data)} bytes)"
     return "".join(chr(byte) if is_visible(byte) else f"\\{byte:02x};" for byte in data)
 

@@ -123,7 +123,7 @@ def cases(random):
     for n in range(60):
         data = b"".join(request(random) for _ in range(random.randint(1, 3)))
         lines.append(f"requests {n} | {case_of(data)}")
-        lines.append(f"a cut {n} | {case_of(data[: random.randrange(len(data))])}" if data.isascii() else f"none {n} | ")
+        lines.append(f"a cut {n} | {case_of(data[: random.randrange(len(data))])}")
         lines += [f"damaged {n} | {case_of(damaged(random, data))}" for _ in range(2)]
     for header in BAD_HEADERS:
         lines.append(f"{header!r} | {case_of(f'GET / HTTP/1.1{chr(13)}{chr(10)}{header}{chr(13)}{chr(10) * 2}'.encode())}")
