@@ -50,6 +50,15 @@ class Items:
             self.damaged()
         return number
 
+    def codes(self, count, limit):
+        """Returns so many bytes below a limit, each an item."""
+        data = self.data[self.at : self.at + count]
+        if len(data) < count or max(data, default=0) >= limit:
+            return [self.below(1, limit) for _ in range(count)]
+        self.starts.extend(range(self.at, self.at + count))
+        self.at += count
+        return data
+
     def text(self, length):
         """Returns a text after its length, a number of so many bytes. Both are one item."""
         self.start()
@@ -112,19 +121,6 @@ def number_or(text, other, limit=2**32):
     if digits.isascii() and digits.isdigit() and int(digits) < limit:
         return int(digits)
     return other
-
-
-def answered(stdin, answer):
-    """Returns the answers to the lines of a table, a line each."""
-    lines = stdin.decode("utf-8").split("\n")
-    if lines[-1] == "":
-        lines.pop()
-    return "".join(answer(line) + "\n" for line in lines).encode("utf-8")
-
-
-def table(lines):
-    """Returns lines as the table that has them."""
-    return "".join(line + "\n" for line in lines).encode("utf-8")
 
 
 def damaged_copies(data, random, count):

@@ -1,20 +1,15 @@
 """Columns of integers, of texts, and of the values of a field, as bytes and back (docs/BYTES.md)."""
 import re
 
+from bloom_filters import filter_of
 from byte_items import Items, check_spelling, signed, text, unsigned
+from values import number
+from words import words
 
-INTEGER = re.compile("0|-?[1-9][0-9]*")
+ASCII_WORDS = re.compile(rb"\w+")  # of bytes, so letters, digits and underscores of ASCII
 CONSTANT, INTEGERS, DICTIONARY, TEXTS = range(4)
-# a value of a dictionary has at most so many bytes, and a dictionary so many values
-LONGEST, MOST = 256, 255
-TOO_LONG = 2**32
-
-
-def integer_of(value):
-    """Returns the i64 whose decimal text a value is, or None."""
-    if len(value) > 20 or not INTEGER.fullmatch(value):
-        return None
-    return int(value) if -(2**63) <= int(value) < 2**63 else None
+# a dictionary has at most this many values, each of at most this many bytes
+MOST, LONGEST = 255, 256
 
 
 def put_integers(values):
@@ -65,7 +60,7 @@ def kind_of(values):
     members = distinct(values)
     if len(members) == 1 and members[0]:
         return CONSTANT
-    if all(integer_of(value) is not None for value in members):
+    if all(number(value) is not None for value in members):
         return INTEGERS
     if len(members) <= MOST and all(len(member.encode("utf-8")) <= LONGEST for member in members):
         return DICTIONARY
@@ -78,7 +73,7 @@ def put_body(values):
     if kind == CONSTANT:
         return text(members[0], 4)
     if kind == INTEGERS:
-        return put_integers([integer_of(value) for value in values])
+        return put_integers([number(value) for value in values])
     if kind == DICTIONARY:
         codes = {member: code for code, member in enumerate(members)}
         return bytes([len(members)]) + b"".join(text(member, 2) for member in members) + bytes(map(codes.get, values))
@@ -103,7 +98,7 @@ def take_body(items, kind, rows):
     if kind == DICTIONARY:
         count = items.unsigned(1)
         members = [items.text(2) for _ in range(count)]
-        return [members[items.below(1, count)] for _ in range(rows)]
+        return [members[code] for code in items.codes(rows, count)]
     return take_texts(items, rows)
 
 
@@ -114,6 +109,28 @@ def read_column(data, rows):
     items.end()
     check_spelling(items, put_column(values))
     return values
+
+
+def column_filter(values):
+    """Returns the filter of the distinct words of values."""
+    found = set()
+    for value in set(values):
+        data = value.encode("utf-8")
+        found.update(ASCII_WORDS.findall(data) if value.isascii() else (data[start:end] for start, end in words(value)))
+    return filter_of(found)
+
+
+def put_filter(bloom):
+    """Returns how many words of 64 bits a filter has, and these."""
+    return unsigned(bloom.count(), 4) + bloom.to_bytes()
+
+
+def take_filter(items):
+    """Takes a filter from the front of items, and returns how many words of 64 bits it has."""
+    count = items.unsigned(4)
+    for _ in range(count):
+        items.unsigned(8)
+    return count
 
 
 def fitting(line, limit):

@@ -3,7 +3,8 @@
 A line `recent` asks how the code works inside, which no rule says: of each text, whether another one was in its slot
 among the texts that were met before. The number of a slot is what the specification of `Recent` in `block_column` says.
 """
-from byte_items import Damaged, Items, answered, bytes_of, cut_once, damaged_copies, number_or, table
+from byte_items import Damaged, Items, bytes_of, cut_once, damaged_copies, number_or
+from chance import lines_of, table
 from columns import DICTIONARY, CONSTANT, INTEGERS, distinct, fitting, kind_of, put_body, put_column, read_column
 from columns import take_body, take_kind
 
@@ -12,7 +13,7 @@ SLOTS = 512
 
 
 def answers(stdin):
-    return answered(stdin, answer)
+    return table(map(answer, lines_of(stdin)))
 
 
 def answer(line):

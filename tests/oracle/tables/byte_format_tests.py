@@ -1,12 +1,17 @@
 """Numbers and texts at the front of bytes (docs/BYTES.md): what is read, or how many bytes are left from the damaged
-item on, and where two runs of bytes differ."""
-from byte_items import Damaged, Items, answered, bytes_of, cut_once, number_or, table
+item on, and where two runs of bytes differ.
+
+A padded number is a byte and a byte of 0, a format that the crate has for itself: `padded` reads bytes that are nothing
+but one, which is at most a given number, and `window` one in exactly so many bytes.
+"""
+from byte_items import Damaged, Items, bytes_of, check_spelling, cut_once, number_or
+from chance import lines_of, table
 
 SIZES = {"u8": 1, "u16": 2, "u32": 4, "u64": 8, "i64": 8, "text16": 2, "text32": 4, "u32s": 4, "u64s": 8, "i64s": 8}
 
 
 def answers(stdin):
-    return answered(stdin, answer)
+    return table(map(answer, lines_of(stdin)))
 
 
 def answer(line):
@@ -17,6 +22,10 @@ def answer(line):
     if digits is None:
         count, digits = "0", rest
     count, data = number_or(count, 0, 2**64), bytes_of(digits)
+    if call == "padded":
+        return padded(data, count)
+    if call == "window":
+        return window(data, count)
     if call not in SIZES:
         return difference(data[:count], data[count:])
     items = Items(data)
@@ -34,6 +43,30 @@ def read_items(items, call, count):
         return items.text(size)
     take = items.signed if call.startswith("i") else items.unsigned
     return [take(size) for _ in range(count)] if call.endswith("s") else take(size)
+
+
+def padded(data, most):
+    items = Items(data)
+    try:
+        number, _, _ = items.unsigned(1), items.unsigned(1), items.end()
+        if number > most:
+            raise Damaged(0)
+        check_spelling(items, bytes([number, 0]))
+    except Damaged as fault:
+        return f"Damaged {{ at: {fault.at} }}"
+    return str(number)
+
+
+def window(data, length):
+    """Reads a padded number, of which the second byte may be another one, in exactly so many bytes."""
+    items = Items(data[:length])
+    try:
+        number, _ = items.unsigned(1), items.unsigned(1)
+        if items.at < length:
+            raise Damaged(items.at)
+    except Damaged as fault:
+        return f"Left({len(data) - fault.at})"
+    return f"{number} behind {len(data) - length}"
 
 
 def difference(left, right):

@@ -1,13 +1,14 @@
 """Columns of integers and of texts (docs/BYTES.md): their bytes, what bytes say, and what a column at the front of
 other bytes says. A column that is taken from the front may have another spelling, and is written in the one."""
-from byte_items import Damaged, Items, answered, bytes_of, check_spelling, cut_once, damaged_copies, number_or, table
+from byte_items import Damaged, Items, bytes_of, check_spelling, cut_once, damaged_copies, number_or
+from chance import lines_of, table
 from columns import fitting, put_integers, put_texts, take_integers, take_texts
 
 ROOM = 1048576  # more bytes of texts are left out
 
 
 def answers(stdin):
-    return answered(stdin, answer)
+    return table(map(answer, lines_of(stdin)))
 
 
 def answer(line):

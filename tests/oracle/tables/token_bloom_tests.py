@@ -1,11 +1,12 @@
 """Bloom filters with room for some words (docs/BYTES.md): their bytes, and which words they may have. The filter that
 is read from these bytes has the same words. Bytes are a filter if they are words of 64 bits."""
 from bloom_filters import Bloom
-from byte_items import answered, cut_once, number_or, table
+from byte_items import cut_once, number_or
+from chance import lines_of, table
 
 
 def answers(stdin):
-    return answered(stdin, answer)
+    return table(map(answer, lines_of(stdin)))
 
 
 def answer(line):

@@ -1,0 +1,61 @@
+"""Connections over a log that is empty before (docs/HTTP.md): what is written, and how they end.
+
+Read in another way a connection gives the same; one of which a read or a write fails ends there. The program says
+nothing of that where it is so.
+"""
+from chance import lines_of, table
+from sessions import HttpSession, Log
+from spelling import case_of, spelled, unspelled
+from tables.http_in_tests import damaged
+
+TIMES, SHOWN = (5, 6, 7), 12
+LONGEST = 4000  # of more bytes only the number is written
+
+
+def answers(stdin):
+    return table(map(answer, lines_of(stdin)))
+
+
+def answer(line):
+    name, count, first, last = (line.split(" | ", 3) + ["", "", ""])[:4]
+    data = unspelled(first) * (int(count) if count.isdigit() else 1) + unspelled(last)
+    session = HttpSession(Log(), data, TIMES)
+    turns = "".join(f" at {now} with {front}, 0 settled;" for now, front in session.turns[:SHOWN])
+    return f"{name} | {spelled(session.written, LONGEST)}{turns} {len(session.turns)} turns, {session.end}"
+
+
+LINES = ['{"_msg":"a b","app":"x"}', '{"_msg":"error","n":7,"app":"y"}', '{"n":"9223372036854775807"}', "x", "", " ", "[]", "{}",
+         '{"_time":"2024-05-01T10:00:00Z","_msg":"é"}', '{"_time":"x"}', '{"a":{"b":null,"c":[1, 2]}}', '{"a":']  # fmt: skip
+QUERIES = ["*", "a", "error", "n:>5", '{app="x"}', "* | stats count() as n", "* | stats sum(n) as s", "* | fields _msg", "a b)",
+           "~%22(%22", "", "* | limit 1", "_time:1s", "app:in(x,y) | sort by (app desc)", "* | stats by (app) count()"]  # fmt: skip
+OPTIONS = ["", "?_stream_fields=app", "?extra_fields=app%3Dz&_msg_field=a.c", "?ignore_fields=app,n", "?extra_fields=x"]
+REST = ["GET /status", "GET /health", "HEAD /health", "GET /x", "POST /status", "DELETE /insert/jsonline"]
+
+
+def request(random):
+    """Returns the bytes of a request that inserts, asks, or does neither."""
+    end = random.choice(["\r\n"] * 8 + ["\r\nConnection: close\r\n"])
+    kind = random.randrange(3)
+    if kind == 0:
+        body = "\n".join(random.choices(LINES, k=random.randrange(5))) + random.choice(["", "\n"])
+        size = len(body.encode("utf-8"))
+        return f"POST /insert/jsonline{random.choice(OPTIONS)} HTTP/1.1\r\nContent-Length: {size}{end}\r\n{body}".encode()
+    if kind == 1:
+        query = random.choice(QUERIES).replace(" ", "+")
+        more = random.choice(["", "", "", "&limit=1", "&timeout=1s"])
+        return f"GET /select/logsql/query?query={query}{more} HTTP/1.{random.choice('111110')}{end}\r\n".encode()
+    return f"{random.choice(REST)} HTTP/1.1{end}\r\n".encode()
+
+
+def cases(random):
+    one, last = case_of(b"GET /health HTTP/1.1\r\n\r\n"), case_of(b"GET /status HTTP/1.0\r\n\r\n")
+    lines = [f"{count} and a last one | {count} | {one} | {last}" for count in (0, 1, 998, 999, 1000)]
+    insert = case_of(b'POST /insert/jsonline HTTP/1.1\r\nContent-Length: 9\r\n\r\n{"a":"b"}')
+    lines.append(f"many inserts | 300 | {insert} | {last}")
+    for n in range(120):
+        data = b"".join(request(random) for _ in range(random.randint(1, 4)))
+        lines.append(f"case {n} | 1 | {case_of(data)} | ")
+        if n % 4 == 0:
+            lines.append(f"cut {n} | 1 | {case_of(data[: random.randrange(len(data))])} | ")
+            lines.append(f"damaged {n} | 1 | {case_of(damaged(random, data))} | ")
+    return table(lines)
