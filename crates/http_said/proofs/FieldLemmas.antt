@@ -1,4 +1,4 @@
--- What fields say, with one field more.
+-- Adding one header field.
 use Rattle.std.specs.Prelude.{not, ◌==◌}
 use Rattle.std.proofs.Common.{◌≡◌, ℕ, Bool, true, false, ◌&&◌, ◌||◌, cond, List, [], ◌∷◌, ◌++◌, refl, ap, sym, ◌∙◌}
 use Rattle.std.proofs.Common.{append-nil}
@@ -8,12 +8,12 @@ use Rattle.std.proofs.lemmas.Grind.{flat_map-append}
 use Rattle.std.proofs.lemmas.List.Folds.{list_all-append, list_any-append}
 use Rattle.http1.specs.Fields.{Header, elements_named, has_option, is_number, known_fields, values_named}
 use Rattle.http1.specs.Text.{eq_ignore_case}
-use Rattle.http_said.specs.Fields.{agree, asks_to_close, begins_form, coding_of, first_of, is_large, types_said}
-use Rattle.http_said.specs.Said.{IsSaid}
-use Rattle.http_said.specs.declared.said.Coding.{Coding}
-use Rattle.http_said.specs.declared.said.Said.{Said}
+use Rattle.http_said.specs.Fields.{agree, asks_to_close, begins_form, coding_of, first_of, is_large, content_types}
+use Rattle.http_said.specs.HeadFields.{HoldsFields}
+use Rattle.http_said.specs.declared.framing.Coding.{Coding}
+use Rattle.http_said.specs.declared.fields.HeadFields.{HeadFields}
 use Rattle.http1.specs.declared.fields.KnownFields.{KnownFields}
-use Rattle.http_said.specs.declared.said.Coding.TheVariants as codings
+use Rattle.http_said.specs.declared.framing.Coding.TheVariants as codings
 
 values_push : (name : List ℕ) (before : List Header) (h : Header) (named : Bool) → eq_ignore_case h.0 name ≡ named
     → values_named name (before ++ h ∷ []) ≡ values_named name before ++ cond named (h.1 ∷ []) []
@@ -83,7 +83,7 @@ coding_first (a ∷ []) v e = by_test (eq_ignore_case a (codes "chunked")) e
     by_test false e = cc
 coding_first (a ∷ b ∷ vs) v e = cc
 
--- a coding behind another
+-- a coding after another one
 pub coding_second : (values : List (List ℕ)) (v : List ℕ) (c : Coding) → coding_of values ≡ c → (c ≡ codings.Absent → ⊥)
     → coding_of (values ++ v ∷ []) ≡ codings.Other
 coding_second [] v c e some = absurd (some (sym e))
@@ -106,28 +106,28 @@ form_again [] v form e = cc
 form_again (a ∷ vs) v form e = e
 
 pub form_pushed : (before : List Header) (n v : List ℕ) → eq_ignore_case n (codes "content-type") ≡ true
-    → None ≡ option_map begins_form (first_of (types_said before))
-    → Some (begins_form v) ≡ option_map begins_form (first_of (types_said (before ++ (n, v) ∷ [])))
+    → None ≡ option_map begins_form (first_of (content_types before))
+    → Some (begins_form v) ≡ option_map begins_form (first_of (content_types (before ++ (n, v) ∷ [])))
 form_pushed before n v is none =
     sym (ap (λ l. option_map begins_form (first_of l)) (pushed (codes "content-type") before n v is)
-    ∙ form_first (types_said before) v (sym none))
+    ∙ form_first (content_types before) v (sym none))
 
 pub form_passed : (before : List Header) (n v : List ℕ) → eq_ignore_case n (codes "content-type") ≡ false
-    → None ≡ option_map begins_form (first_of (types_said before))
-    → None ≡ option_map begins_form (first_of (types_said (before ++ (n, v) ∷ [])))
+    → None ≡ option_map begins_form (first_of (content_types before))
+    → None ≡ option_map begins_form (first_of (content_types (before ++ (n, v) ∷ [])))
 form_passed before n v is none =
     none ∙ sym (ap (λ l. option_map begins_form (first_of l)) (passed (codes "content-type") before n v is))
 
 pub form_kept : (before : List Header) (n v : List ℕ) (form : Bool)
-    → Some form ≡ option_map begins_form (first_of (types_said before))
-    → Some form ≡ option_map begins_form (first_of (types_said (before ++ (n, v) ∷ [])))
+    → Some form ≡ option_map begins_form (first_of (content_types before))
+    → Some form ≡ option_map begins_form (first_of (content_types (before ++ (n, v) ∷ [])))
 form_kept before n v form is = by_test (eq_ignore_case n (codes "content-type")) refl
   where
     by_test : (named : Bool) → eq_ignore_case n (codes "content-type") ≡ named
-        → Some form ≡ option_map begins_form (first_of (types_said (before ++ (n, v) ∷ [])))
+        → Some form ≡ option_map begins_form (first_of (content_types (before ++ (n, v) ∷ [])))
     by_test true named =
         sym (ap (λ l. option_map begins_form (first_of l)) (pushed (codes "content-type") before n v named)
-        ∙ form_again (types_said before) v form (sym is))
+        ∙ form_again (content_types before) v form (sym is))
     by_test false named =
         is ∙ sym (ap (λ l. option_map begins_form (first_of l)) (passed (codes "content-type") before n v named))
 
@@ -141,10 +141,10 @@ known_keep : (k : KnownFields) (fields : List Header) → k ≡ known_fields fie
 unfolding known_fields
 known_keep k fields e = ap (λ (x : KnownFields). x.keep_alive) e
 
--- what is kept says whether the connection ends
-pub asks_said : (said : Said) (fields : List Header) (minor : ℕ) → IsSaid said fields
-    → (said.known.close || ((minor == 0) && not said.known.keep_alive)) ≡ asks_to_close minor fields
-asks_said said fields minor is =
-    ap (λ t. t || ((minor == 0) && not said.known.keep_alive)) (known_close said.known fields is.known)
+-- the collected fields tell whether the connection closes
+pub closes_as_asked : (collected : HeadFields) (fields : List Header) (minor : ℕ) → HoldsFields collected fields
+    → (collected.known.close || ((minor == 0) && not collected.known.keep_alive)) ≡ asks_to_close minor fields
+closes_as_asked collected fields minor is =
+    ap (λ t. t || ((minor == 0) && not collected.known.keep_alive)) (known_close collected.known fields is.known)
     ∙ ap (λ t. has_option (codes "close") (elements_named (codes "connection") fields) || ((minor == 0) && not t))
-    (known_keep said.known fields is.known)
+    (known_keep collected.known fields is.known)

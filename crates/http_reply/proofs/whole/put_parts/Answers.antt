@@ -1,5 +1,5 @@
-use Rattle.http_reply.proofs.SendLemmas.{second_cut}
-use Rattle.http_reply.proofs.send.put_parts.Goals as goal
+use Rattle.http_reply.proofs.PartLemmas.{second_cut}
+use Rattle.http_reply.proofs.whole.put_parts.Goals as goal
 
 pub returns-clause-err : goal.returns-clause-err
 returns-clause-err g c =

@@ -1,6 +1,6 @@
 use Rattle.std.proofs.Common.{ap, sym, ◌∙◌, Some}
-use Rattle.http_said.proofs.SaidLemmas.{form_kept, form_passed, form_pushed}
-use Rattle.http_said.proofs.said.form_with.Goals as goal
+use Rattle.http_said.proofs.FieldLemmas.{form_kept, form_passed, form_pushed}
+use Rattle.http_said.proofs.fields.form_with.Goals as goal
 
 pub returns-in-None : goal.returns-in-None
 returns-in-None c before is =

@@ -9,12 +9,12 @@ use Rattle.std.proofs.lemmas.Bool.Decides.{nat_tests}
 use Rattle.std.proofs.lemmas.Int.Digits.{digits_value_more}
 use Rattle.http1.specs.Fields.{is_number}
 use Rattle.http1.proofs.TextLemmas.{list_all_more, list_all_fails, digits_value-take-le}
-use Rattle.http_said.proofs.said.number.Goals as goal
+use Rattle.http_said.proofs.framing.number.Goals as goal
 
 no_number : (ds : List ℕ) → is_number ds ≡ false → None ≡ cond (is_number ds) (Some (digits_value 10 ds)) None
 no_number ds e = sym (cond-false _ _ _ e)
 
--- where the first digits do not fit, the whole does not
+-- if the first digits do not fit, the whole number does not
 too_large : (ds : List ℕ) (i : ℕ) → i < length ds → 2 ^ 64 ≤ digits_value 10 (take i ds) * 10 + digit_value
     (get_or ds i 0) → is_number ds ≡ false
 too_large ds i inside large =

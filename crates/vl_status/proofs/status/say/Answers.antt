@@ -1,5 +1,5 @@
 use Rattle.vl_status.proofs.ReportLemmas.{told}
-use Rattle.vl_status.proofs.report.say.Goals as goal
+use Rattle.vl_status.proofs.status.say.Goals as goal
 
 pub returns : goal.returns
 returns g c = rw (← c.as_bytes.ensures.value)
