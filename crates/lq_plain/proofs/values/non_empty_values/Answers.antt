@@ -2,7 +2,7 @@ use Rattle.std.proofs.Common.{not, ap, ◌∙◌, rules}
 use Rattle.std.proofs.lemmas.Fn.{filter_same}
 use Rattle.std.specs.List.{filter}
 use Rattle.log_model.specs.Field.{is_empty}
-use Rattle.lq_plain.proofs.values.filled.Goals as goal
+use Rattle.lq_plain.proofs.values.non_empty_values.Goals as goal
 
 pub returns : goal.returns
 returns c =

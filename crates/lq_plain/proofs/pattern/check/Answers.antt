@@ -1,5 +1,5 @@
 use Rattle.lq_plain.proofs.Reading.{not_readable, readable_as_read}
-use Rattle.lq_plain.proofs.pattern.read.Goals as goal
+use Rattle.lq_plain.proofs.pattern.check.Goals as goal
 
 pub returns-in-Ok-clause-readable : goal.returns-in-Ok-clause-readable
 returns-in-Ok-clause-readable c =

@@ -1,6 +1,6 @@
 use Rattle.jsonline_in.specs.Reading.{deep, stuck}
 use Rattle.jsonline_in.proofs.Objects.{line_opens, nothing_said, line_deep, left_within, line_stuck, not_deep}
-use Rattle.jsonline_in_plain.proofs.line.fault_in.Goals as goal
+use Rattle.jsonline_in_plain.proofs.line.line_fault.Goals as goal
 
 pub returns-in-TooDeep-clause-refused : goal.returns-in-TooDeep-clause-refused
 returns-in-TooDeep-clause-refused c =

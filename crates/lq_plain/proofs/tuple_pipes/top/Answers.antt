@@ -5,7 +5,7 @@ use Rattle.lq_ast.specs.Sorting.{hits}
 use Rattle.lq_ast.specs.Tuples.{Tuple}
 use Rattle.lq_plain.specs.Named.{IsNamed}
 use Rattle.lq_plain.proofs.Naming.{All-sorted_by}
-use Rattle.lq_plain.proofs.top_pipe.top.Goals as goal
+use Rattle.lq_plain.proofs.tuple_pipes.top.Goals as goal
 
 pub records_of-requires : goal.records_of-requires
 records_of-requires c =

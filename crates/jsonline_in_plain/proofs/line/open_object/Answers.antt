@@ -1,7 +1,7 @@
 use Rattle.std.proofs.Common.{sym, ap, ◌∙◌}
 use Rattle.jsonline_in.specs.Reading.{after_space, past}
 use Rattle.jsonline_in.proofs.Objects.{not_opened, nothing_opened}
-use Rattle.jsonline_in_plain.proofs.line.inside.Goals as goal
+use Rattle.jsonline_in_plain.proofs.line.open_object.Goals as goal
 
 pub returns-in-None-clause-refused : goal.returns-in-None-clause-refused
 returns-in-None-clause-refused c =

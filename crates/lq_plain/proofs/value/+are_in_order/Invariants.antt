@@ -1,7 +1,7 @@
 use Rattle.std.proofs.Common.{◌≡◌, ◌<◌, ◌≤◌, ◌+◌, ◌&&◌, ℕ, false, length}
 use Rattle.log_model.specs.Words.{stands_at}
 use Rattle.lq_ast.specs.Phrases.{in_order}
-use Rattle.lq_plain.proofs.sequence.+are_in_order.Given as goal
+use Rattle.lq_plain.proofs.value.+are_in_order.Given as goal
 
 abbrev pub decreases-are_in_order : goal.decreases-are_in_order
 decreases-are_in_order l = length l.phrases.now
