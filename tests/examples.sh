@@ -179,6 +179,7 @@ fronted() { curl -q -sk --noproxy '*' -m 20 -u "$@"; }
 code() { fronted "$@" -o /dev/null -w '%{http_code}'; }
 
 by_nginx() {
+  local other
   has "nginx" nginx curl openssl || return
   start_front || { judge "nginx" "$(head -n 3 "$work/log")" "listens"; return; }
   judge "nginx: health without a password" "$(code : "$front/health")" 200
@@ -189,14 +190,18 @@ by_nginx() {
     -d '{"_msg":"<b>by nginx</b>","_time":"2020-01-01T00:00:30Z"}' | sed 's/"batch":"[0-9]*",//')" \
     '{"accepted":"1","refused":"0"}'
   judge "nginx: the shipper does not ask" "$(code shipper:ship "$front/select/logsql/query?query=a")" 401
-  judge "nginx: a page of another site" "$(code reader:read "$front/status" -H 'Sec-Fetch-Site: cross-site')" 403
+  other='Sec-Fetch-Site: cross-site'
+  judge "nginx: a query by another site" "$(code reader:read "$front/select/logsql/query?query=a" -H "$other")" 403
+  judge "nginx: an insert by another site" "$(code shipper:ship "$front/insert/jsonline" -H "$other" -d '{"_msg":"a"}')" 403
+  judge "nginx: a link from another site" "$(code reader:read "$front/" -H "$other")" 200
   judge "nginx: the page" "$(fronted reader:read "$front/" | cmp - "$examples/web/index.html" 2>&1)" ''
   judge "nginx: its access log as rows" "$(runs ship.sh '_stream_fields=server_name' < "$work/nginx/duvonka.jsonl")" \
     "status 0"
   judge "nginx: its access log is read whole" \
     "$(ask '{server_name="logs.internal"} "/select/logsql/query" | fields _msg, remote_user, status')" \
     '{"_msg":"POST /select/logsql/query HTTP/1.1","remote_user":"reader","status":"200"}
-{"_msg":"GET /select/logsql/query?query=a HTTP/1.1","remote_user":"shipper","status":"401"}'
+{"_msg":"GET /select/logsql/query?query=a HTTP/1.1","remote_user":"shipper","status":"401"}
+{"_msg":"GET /select/logsql/query?query=a HTTP/1.1","remote_user":"reader","status":"403"}'
   limited_queries
   by_chromium
   stops
@@ -303,7 +308,7 @@ CONF
 # by_syslog_ng [lines]: tries the first destination of the file, or the second
 by_syslog_ng() {
   local folder=$work/syslog_ng$1
-  has "syslog-ng.conf $1" syslog-ng || return
+  has "syslog-ng.conf ${1:-http}" syslog-ng || return
   if ! start_server 2 syslog || ! free_port; then judge "a server for syslog-ng" none one; return; fi
   mkdir "$folder"
   seq -f 'line %g' 20 > "$folder/file"
