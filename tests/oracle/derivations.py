@@ -36,8 +36,8 @@ class Stacks:
 def derive(tokens, end, best_of):
     """Returns the place of the first token that no query has there, or None, and what each derivation has read.
 
-    The place is `end` if tokens are missing. Of derivations that expect the same, one goes on: `best_of` says which, of
-    a list of what they have read.
+    The place is `end` if tokens are missing. Of derivations that expect the same, one goes on: `best_of` says which,
+    of a list of what they have read.
     """
     stacks = Stacks()
     derivations = [(stacks.push("query", None), None, None)]

@@ -31,7 +31,7 @@ def between(low, value, high):
 
 
 def has_folded(text, value):
-    """Returns whether a value has a phrase, whatever the case of their letters. An empty phrase asks for no value."""
+    """Returns whether a value has a phrase in any case of its letters. An empty phrase holds for an empty value."""
     return has_phrase(text.casefold(), value.casefold()) if text else not value
 
 

@@ -91,13 +91,15 @@ def add_filters(rules, inside):
     """Adds the rules of filters. Selectors and times stand in none that is inside of pipes."""
     x = " inside" if inside else ""
     parentheses = [OPEN, Step("enter"), "or" + x, CLOSE, Step("leave")]
-    nots = {word: [[no, Step("enter"), word, Step("leave"), Step("not_")] for no in NOTS] for word in ("unary" + x, "inner" + x)}
+    unary, inner = (
+        [[no, Step("enter"), word + x, Step("leave"), Step("not_")] for no in NOTS] for word in ("unary", "inner")
+    )
     rules["or" + x] = [[Step(MARK), "and" + x, "or more" + x, Step("joined", "Any2")]]
     rules["or more" + x] = [[keyword("or"), "and" + x, "or more" + x], []]
     rules["and" + x] = [[Step(MARK), "unary" + x, "and more" + x, Step("joined", "All2")]]
     rules["and more" + x] = [[keyword("and"), "unary" + x, "and more" + x], ["unary" + x, "and more" + x], []]
-    rules["unary" + x] = nots["unary" + x] + [["unit" + x]]
-    rules["inner" + x] = nots["inner" + x] + [parentheses, ["leaf"]]
+    rules["unary" + x] = unary + [["unit" + x]]
+    rules["inner" + x] = inner + [parentheses, ["leaf"]]
     of_field = [name(but=("_time",)), Step("name"), COLON, Step("field_in"), "inner" + x, Step("field_out")]
     rules["unit" + x] = [parentheses, of_field, ["leaf"]]
     if not inside:
@@ -164,9 +166,14 @@ def add_pipes(rules):
     add_list(rules, "pairs", ["pair"])
     rules["pair"] = [[*LISTED, *maybe, *LISTED, Step("pair")] for maybe in ([as_], [])]
     add_list(rules, "sort keys", [*LISTED, "direction", Step("pair")])
-    rules["direction"] = [[keyword("desc"), Step("constant", True)], [keyword("asc"), Step("constant", False)], [Step("constant", False)]]
+    down, up = Step("constant", True), Step("constant", False)
+    rules["direction"] = [[keyword("desc"), down], [keyword("asc"), up], [up]]
     rules["by"] = [[keyword("by")], []]
     rules["limit"] = [[limit, "N"], [none]]
+    rules["with hits"] = [
+        [keyword("with"), keyword("hits"), Step("constant", True)],
+        [Step("constant", False)],
+    ]
     rules["cut"] = [
         [none, none],
         [limit, "N", none],
@@ -183,8 +190,7 @@ def add_pipes(rules):
         [keyword("limit", "head"), "N", Step("pipe", ("Limit", 1))],
         [keyword("offset", "skip"), "N", Step("pipe", ("Offset", 1))],
         [keyword("sort", "order"), *by, OPEN, "sort keys", CLOSE, "direction", "cut", Step("sort")],
-        [keyword("uniq"), *in_parentheses, keyword("with"), keyword("hits"), Step("constant", True), "limit", Step("pipe", ("Uniq", 3))],
-        [keyword("uniq"), *in_parentheses, Step("constant", False), "limit", Step("pipe", ("Uniq", 3))],
+        [keyword("uniq"), *in_parentheses, "with hits", "limit", Step("pipe", ("Uniq", 3))],
         [keyword("top"), "N", *in_parentheses, Step("pipe", ("Top", 2))],
         [keyword("top"), Step("constant", 10), *in_parentheses, Step("pipe", ("Top", 2))],
         [keyword("filter", "where"), "or inside", Step("pipe", ("Keep", 1))],
@@ -204,7 +210,9 @@ def add_statistics(rules):
     add_list(rules, "functions", ["call", "if", "as", Step("function")])
     rules["if"] = [[keyword("if"), OPEN, Step("enter"), "or inside", CLOSE, Step("leave")], [none]]
     rules["as"] = [[keyword("as"), *LISTED], LISTED, [none]]
-    rules["call"] = [[keyword("count"), OPEN, *star, CLOSE, Step("constant", []), Step("call", "count")] for star in ([], [mark("*")])]
+    rules["call"] = []
+    for star in ([], [mark("*")]):
+        rules["call"].append([keyword("count"), OPEN, *star, CLOSE, Step("constant", []), Step("call", "count")])
     for function in ("count", "count_empty", "count_uniq"):
         rules["call"].append([keyword(function), OPEN, "names", CLOSE, Step("call", function)])
     for function in ("sum", "min", "max", "uniq_values"):

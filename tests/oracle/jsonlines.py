@@ -13,7 +13,7 @@ PLAIN = re.compile(rb'[^"\\\x00-\x1f]*')
 
 
 class Reader:
-    """Reads a line from the left. `at` is the length of the longest part from the start with which an object begins."""
+    """Reads a line from the left. `at` is the length of the longest start of it with which an object begins."""
 
     def __init__(self, line):
         self.line, self.at, self.depth, self.members = line, 0, 0, []

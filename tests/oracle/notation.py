@@ -3,7 +3,7 @@ from values import in_order, record_of
 
 
 def pairs(text, between="&"):
-    """Returns the names and values of fields as `name=value`. What has no name or no `=` is no field."""
+    """Returns the names and values of fields as `name=value`. What has no name or no `=` is ignored."""
     fields = (tuple(field.split("=", 1)) for field in text.split(between) if "=" in field)
     return [field for field in fields if field[0]]
 
@@ -39,7 +39,7 @@ def names(text):
 
 
 def sort(parts):
-    keys = [(key.removeprefix("-") if key.startswith("-") else key, key.startswith("-")) for key in (part(parts, "by=") or "").split(",")]
+    keys = [(key.removeprefix("-"), key.startswith("-")) for key in (part(parts, "by=") or "").split(",")]
     return "Sort", keys, count(parts, "limit="), count(parts, "offset=", 0)
 
 

@@ -9,6 +9,11 @@ TESTS = ("=1", "!1", "=", "!", "~1", "~^[0-9]+$", "~", "=x", "!é", "~.", "~a|b"
 REFUSED = ("~(", "~[", "~*", "~a{2,1}")
 
 
+MIXTURES = (
+    ["small"], ["short"], ["text", "short"], ["number", "stamp", "small"], ["number", "stamp", "text"], ["sum", "small"],
+)  # fmt: skip
+
+
 def value(random, names_of_values):
     """Returns a value that a record in a case may have."""
     kind = random.choice(names_of_values)
@@ -25,7 +30,7 @@ def record(random, kinds):
 
 def records(random, most):
     """Returns records with values of one mixture of kinds, so that some values are equal."""
-    kinds = random.choice((["small"], ["text", "short"], ["number", "stamp", "small"], ["number", "stamp", "text"], ["short"], ["sum", "small"]))
+    kinds = random.choice(MIXTURES)
     return [record(random, kinds) for _ in range(random.randint(0, most))]
 
 
@@ -68,7 +73,7 @@ def stats(random):
     """Returns the words of keys and functions."""
     keys = []
     for _ in range(random.choice((0, 1, 1, 2))):
-        keys.append("by=" + random.choice((random.choice(NAMES), random.choice(NAMES), f"_time:{random.choice(STEPS)}")))
+        keys.append("by=" + random.choice((*NAMES, *(f"_time:{step}" for step in STEPS))))
     return " ".join(keys + [function(random, place) for place in range(random.randint(1, 4))])
 
 

@@ -36,6 +36,10 @@ def tuple_of(record, names):
     return tuple(record.get(name, "") for name in names)
 
 
+def with_names(record, is_kept):
+    return {name: value for name, value in record.items() if is_kept(name)}
+
+
 def moved(record, pairs, keep):
     """Returns a record in which fields have other names, pair by pair from left to right."""
     record = dict(record)
@@ -143,8 +147,8 @@ def of_order(call, values):
 
 
 PIPES = {
-    "Fields": lambda records, names: [record_of((n, v) for n, v in record.items() if n in names) for record in records],
-    "Delete": lambda records, names: [record_of((n, v) for n, v in record.items() if n not in names) for record in records],
+    "Fields": lambda records, names: [with_names(record, lambda name: name in names) for record in records],
+    "Delete": lambda records, names: [with_names(record, lambda name: name not in names) for record in records],
     "Rename": lambda records, pairs: [moved(record, pairs, keep=False) for record in records],
     "Copy": lambda records, pairs: [moved(record, pairs, keep=True) for record in records],
     "Limit": lambda records, n: records[:n],

@@ -32,7 +32,7 @@ def end_of(text):
 
 
 def step_of(text):
-    """Returns the step of a key, or None if the text is no duration above zero."""
+    """Returns the step of a key, or None if the text is not a duration above zero."""
     step = result_of(moments.read_duration, text)
     return None if isinstance(step, Fault) or step == 0 else step
 
@@ -226,7 +226,7 @@ class Reader:
         self.values += self.pop(2)[::-1]
 
     def on_sort(self, _):
-        """`desc` behind the list turns every key around."""
+        """`desc` after the list turns every key around."""
         keys, turned, limit, offset = self.pop(4)
         self.pipes.append(("Sort", [(name, down != turned) for name, down in keys], limit, offset or 0))
 

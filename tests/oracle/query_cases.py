@@ -1,19 +1,36 @@
 """Makes queries: right ones from the grammar, and near misses of them."""
 from chance import mutated
 
-BARE = ("a", "b", "error", "é", "日本", "a.b", "/x", "x-1", "_msg", "_time", "_stream", "_stream_id", "and", "OR", "not", "in", "i", "seq", "range",
-        "len_range", "string_range", "by", "as", "asc", "desc", "limit", "offset", "if", "inf", "with", "hits", "count", "5m", "10", "2024-05-01",
-        "T10", "٣")  # fmt: skip
-QUOTED = ('""', '"a b"', "'x'", "`y`", '"and"', '"_time"', '"\\n"', '"\\""', "'it\\'s'", "`\\`", '"␊"', '"␀␉"', '"é🙂"', '"5"', '"-5"', '"inf"', '"2024"')
-NUMBERS = ("0", "1", "-1", "10", '"5"', "-9223372036854775808", "9223372036854775807", "9223372036854775808", "007", "1.5", "-0", "x", "5m")
+BARE = (
+    "a", "b", "error", "é", "日本", "a.b", "/x", "x-1", "_msg", "_time", "_stream", "_stream_id", "and", "OR", "not",
+    "in", "i", "seq", "range", "len_range", "string_range", "by", "as", "asc", "desc", "limit", "offset", "if", "inf",
+    "with", "hits", "count", "5m", "10", "2024-05-01", "T10", "٣",
+)  # fmt: skip
+QUOTED = (
+    '""', '"a b"', "'x'", "`y`", '"and"', '"_time"', '"\\n"', '"\\""', "'it\\'s'", "`\\`", '"␊"', '"␀␉"', '"é🙂"',
+    '"5"', '"-5"', '"inf"', '"2024"',
+)  # fmt: skip
+NUMBERS = (
+    "0", "1", "-1", "10", '"5"', "-9223372036854775808", "9223372036854775807", "9223372036854775808", "007", "1.5",
+    "-0", "x", "5m",
+)  # fmt: skip
 ENDS = ("inf", "-inf", "INF", *NUMBERS, "-Inf", '"inf"', '"-inf"')
-SPANS = ("5m", "1h30m", "1ms", "1µs", "07us", "0s", "106751d", "1y", "106752d", "15250w", "15251w", '"5m"', "5", "5M", "9223372036854775807ns")
-BOUNDS = ("2024", "2024-05", "2024-05-01", "2024-05-01T10", "2024-05-01T10:00", "2024-05-01T10:00:07", "2024-05-01T10:00:00.5", "2024Z",
-          "2024-05-01Z", "2024-05-01T09+01:00", "2024-05-01T10:00:00-11:30", "2024-05-01T10:00:00.123456789Z", '"2024-05-01T10:00:00Z"', "1969",
-          "1970", "2262", "2261", "2263", "2024-13", "2024-02-30", "2024-05-01T24", "2024-05-01t10", "'2024-05-01 10:00:00'", "now")  # fmt: skip
+SPANS = (
+    "5m", "1h30m", "1ms", "1µs", "07us", "0s", "106751d", "1y", "106752d", "15250w", "15251w", '"5m"', "5", "5M",
+    "9223372036854775807ns",
+)  # fmt: skip
+BOUNDS = (
+    "2024", "2024-05", "2024-05-01", "2024-05-01T10", "2024-05-01T10:00", "2024-05-01T10:00:07",
+    "2024-05-01T10:00:00.5", "2024Z", "2024-05-01Z", "2024-05-01T09+01:00", "2024-05-01T10:00:00-11:30",
+    "2024-05-01T10:00:00.123456789Z", '"2024-05-01T10:00:00Z"', "1969", "1970", "2262", "2261", "2263", "2024-13",
+    "2024-02-30", "2024-05-01T24", "2024-05-01t10", "'2024-05-01 10:00:00'", "now",
+)  # fmt: skip
 PATTERNS = ('"err.r"', "err", '"[0-9]+"', '"("', "`\\d`", '""', "'a|b'")
 STEPS = ("1h", "5m", "1w", "1h30m", "1ms", "9223372036854775807ns", "0s", "1y", "106752d", "x", '"1h"')
-COUNTS = ("0", "1", "2", "3", "10", "9223372036854775807", "9223372036854775808", "18446744073709551615", "-1", "x", "007", '"5"', "1.5")
+COUNTS = (
+    "0", "1", "2", "3", "10", "9223372036854775807", "9223372036854775808", "18446744073709551615", "-1", "x", "007",
+    '"5"', "1.5",
+)  # fmt: skip
 NOTS = ("!", "-", "not", "NOT", "Not")
 LETTERS = "ab01é:|()[]{},=!~*<>-+ \"'`\\␊#"
 
@@ -114,22 +131,27 @@ class Queries:
     def key(self):
         return self.one(([self.name()], [self.name()], ["_time:" + self.often(STEPS)]))
 
+    def pair(self):
+        return [self.name(), *self.one((["as"], ["as"], [])), self.name()]
+
+    def direction(self):
+        return self.one(([], ["asc"], ["desc"]))
+
     def cuts(self):
-        return self.one(([], [], ["limit", self.often(COUNTS)], ["offset", self.often(COUNTS)], ["limit", "1", "offset", "2"], ["offset", "1", "limit", "2"],
-                         ["limit", "1", "limit", "2"]))  # fmt: skip
+        limit, offset = ["limit", self.often(COUNTS)], ["offset", self.often(COUNTS)]
+        return self.one(([], [], limit, offset, limit + offset, offset + limit, limit + limit))
 
     def pipe(self):
-        form, by, direction = self.random.randint(0, 8), self.one((["by"], [])), lambda: self.one(([], ["asc"], ["desc"]))
+        form, by = self.random.randint(0, 8), self.one((["by"], []))
         if form == 0:
             return [self.one(("fields", "keep", "delete", "DEL", "rm", "drop")), *self.names()]
         if form == 1:
-            pair = lambda: [self.name(), *self.one((["as"], ["as"], [])), self.name()]
-            return [self.one(("rename", "mv", "copy", "cp")), *self.list_of(pair)]
+            return [self.one(("rename", "mv", "copy", "cp")), *self.list_of(self.pair)]
         if form == 2:
             return [self.one(("limit", "head", "offset", "skip")), self.often(COUNTS)]
         if form == 3:
-            keys = self.list_of(lambda: [self.name(), *direction()])
-            return [self.one(("sort", "order")), *by, "(", *keys, ")", *direction(), *self.cuts()]
+            keys = self.list_of(lambda: [self.name(), *self.direction()])
+            return [self.one(("sort", "order")), *by, "(", *keys, ")", *self.direction(), *self.cuts()]
         if form == 4:
             hits = self.one(([], ["with", "hits"], ["with"]))
             return ["uniq", *by, "(", *self.names(), ")", *hits, *self.one(([], ["limit", self.often(COUNTS)]))]
@@ -162,10 +184,11 @@ def deep_queries():
     """Returns queries with 64 and 65 parentheses and negations."""
     lines = []
     for depth in (63, 64, 65, 66):
-        lines += ["(" * depth + "a" + ")" * depth, "!" * depth + "a", "not " * depth + "a", "!(" * (depth // 2) + "a" + ")" * (depth // 2)]
-        lines += ["a:" + "(" * depth + "b" + ")" * depth, "(" * depth, "(" * depth + "a", "a:" + "-" * depth + "b", "(" * depth + "in(a)" + ")" * depth]
-        lines += ["* | stats count() if " + "(" * depth + "a" + ")" * depth, "* | filter " + "!" * depth + "a", "(" * depth + "a>x"]
-        lines += ["(" * (depth - 1) + "a" + ")" * (depth - 1) + " | stats count() if (!a)", "(a) " * depth, "!a " * depth]
+        opened, closed, half = "(" * depth, ")" * depth, depth // 2
+        lines += [f"{opened}a{closed}", f"a:{opened}b{closed}", f"{opened}in(a){closed}", opened, f"{opened}a", f"{opened}a>x"]
+        lines += ["!" * depth + "a", "not " * depth + "a", "a:" + "-" * depth + "b", "!(" * half + "a" + ")" * half]
+        lines += [f"* | stats count() if {opened}a{closed}", "* | filter " + "!" * depth + "a", "(a) " * depth, "!a " * depth]
+        lines += [f"{opened[1:]}a{closed[1:]} | stats count() if (!a)"]
     return lines
 
 

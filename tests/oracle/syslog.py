@@ -9,7 +9,7 @@ FRAME = 65536
 COUNTED = tuple(b"%d" % digit for digit in range(1, 10))  # these bytes begin the length of a counted frame
 STREAM = ("hostname", "app_name", "proc_id")
 HEADER = (("hostname", 255), ("app_name", 48), ("proc_id", 128), ("msg_id", 32))
-STAMP = re.compile("([0-9]{4}-[0-9]{2}-[0-9]{2})T([0-9]{2}:[0-9]{2}:[0-9]{2})([.][0-9]{1,9})?(Z|[+-][0-9]{2}:[0-9]{2})")
+STAMP = re.compile("[0-9]{4}-[0-9]{2}-[0-9]{2}T[0-9]{2}:[0-9]{2}:[0-9]{2}([.][0-9]{1,9})?(Z|[+-][0-9]{2}:[0-9]{2})")
 IDENTIFIER = re.compile(rb"[^ \]]*")
 ESCAPED = re.compile(rb'\\(["\\\]])')
 PARAMETER = re.compile(rb' ([^ =\]"]+)="((?:[^"\\\]]|\\["\\\]]|\\(?!["\\\]]))*)"')
@@ -131,7 +131,7 @@ class Parts:
 
 
 def read_message(message):
-    """Returns the time of a message, None for `-`, and its fields. Raises the fault of its first part that is wrong."""
+    """Returns the time of a message, None for `-`, and its fields. Raises the fault of the first part that is wrong."""
     priority = re.match(rb"<(0|[1-9][0-9]{0,2})>", message)
     if not priority or int(priority[1]) > 191:
         raise Fault("BadPri")

@@ -70,24 +70,30 @@ def option_text(options, name, shown):
     return f", {shown} <{options[name]}>" if name in options else ""
 
 
+NAMES = ("--stream-fields", "--http", "--syslog", "--workers", "--seed", "--help", "-h", "-x", "--", "--http=", "--Http")
+VALUES = (
+    "''", "-", "0", "1", "4", "32", "33", "64", "65", "007", "+1", "-1", "1.0", "a,b", "127.0.0.1:0", "٣", "é", "=", "a=b",
+    "9223372036854775807", "9223372036854775808", "1000000", "1000001", "9" * 40,
+)  # fmt: skip
+
+
 def cases(random):
-    names = ("--stream-fields", "--http", "--syslog", "--workers", "--seed", "--help", "-h", "-x", "--", "--http=", "--Http")
-    values = ("''", "-", "0", "1", "4", "32", "33", "64", "65", "007", "+1", "-1", "1.0", "a,b", "127.0.0.1:0", "٣", "é", "=", "a=b",
-              str(2**63 - 1), str(2**63), "1000000", "1000001", "9" * 40)  # fmt: skip
     lines = ["", "''", "-", "--"]
     for command in ("pipe", "trial", "serve", "load", "query", "Pipe", "pip"):
         for _ in range(60):
             count = random.randint(0, 4)
-            words = [random.choice(values) for _ in range(count)]
+            words = [random.choice(VALUES) for _ in range(count)]
             for _ in range(random.randint(0, 3)):
                 at = random.randint(0, len(words))
-                words[at:at] = random.choice(([random.choice(names)], [random.choice(names) + "=" + random.choice(values[1:])]))
+                option = random.choice(NAMES) + random.choice(("", "=" + random.choice(VALUES[1:])))
+                words.insert(at, option)
             lines.append(" ".join([command, *words]))
     for _ in range(120):
-        workers = random.choice(("", "", " --workers " + random.choice(values), " --workers=" + random.choice(values[1:])))
+        count = random.choice(VALUES[1:])
+        workers = random.choice(("", "", f" --workers {count}", f" --workers={count}"))
         syslog = random.choice(("", " --syslog b", " --syslog=", " --syslog"))
         lines.append("serve" + random.choice((" --http a", " --http=a")) + syslog + workers)
         lines.append("serve" + workers + syslog + " --http 127.0.0.1:9428")
         lines.append(mutated(random, lines[-1], "-=ht1").strip().replace("  ", " "))
-        lines.append(f"trial {random.choice(values)} {random.choice(values)}")
+        lines.append(f"trial {random.choice(VALUES)} {random.choice(VALUES)}")
     return table(lines)

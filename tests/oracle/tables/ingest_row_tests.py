@@ -47,15 +47,18 @@ def options_text(options):
     return "; ".join((bracketed(options.stream_fields), options.time_field, *lists))
 
 
+NAMES = ("a", "b", "_msg", "_time", "t", "app", "_stream", "_stream_id", "é", "o.a", "", " a")
+OTHERS = ("7", "0", "1714557600.5", "null", "true", "[1, 2]", '{"a":"x"}', "-1")
+
+
 def arguments(random):
-    names = ("a", "b", "_msg", "_time", "t", "app", "_stream", "_stream_id", "é", "o.a", "", " a")
     pairs = []
     for _ in range(random.randint(0, 3)):
         name = random.choice(("_stream_fields", "_time_field", "_msg_field", "ignore_fields", "extra_fields", "limit"))
-        value = random.choice(names) if name == "_time_field" else ",".join(some(random, names, 3))
+        value = random.choice(NAMES) if name == "_time_field" else ",".join(some(random, NAMES, 3))
         if name == "extra_fields" and random.random() < 0.8:
-            extra = (random.choice(names[:-2]) + "=" + random.choice(("", "x", "é", "7", "a=b")) for _ in range(random.randint(1, 3)))
-            value = ",".join(extra)
+            extra = [name_ + "=" + random.choice(("", "x", "é", "7", "a=b")) for name_ in NAMES[:-2]]
+            value = ",".join(some(random, extra, 3))
         pairs.append(f"{name}={value}")
     return random.choice(("", "&", "x&")) + "&".join(pairs)
 
@@ -64,9 +67,9 @@ def line(random):
     """Returns a line of JSON with names that the arguments ask for."""
     members = []
     for _ in range(random.randint(0, 5)):
-        name = random.choice(("a", "b", "_msg", "_time", "_time", "t", "app", "_stream", "_stream_id", "é", "", " a", "o.a"))
+        name = random.choice((*NAMES, "_time"))
         text = random.choice((random.choice(STAMPS), random.choice(NUMBERS), "x", "", "0", "é"))
-        value = random.choice((f'"{text}"', f'"{text}"', "7", "0", "1714557600.5", "null", "true", "[1, 2]", '{"a":"x"}', "-1"))
+        value = random.choice((f'"{text}"', f'"{text}"', *OTHERS))
         members.append(f'"{name}":{value}')
     return "{" + ",".join(members) + "}"
 

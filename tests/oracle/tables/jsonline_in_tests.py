@@ -4,12 +4,22 @@ from jsonlines import fields_of
 from values import in_order
 
 SPACES = ("", "", " ", "\t", "\r", "  ")
-NAMES = ("a", "b", "a.b", "", "_msg", "é", "日", "\\u0061", "\\u00e9", "a\\n", "_time", "long name of more than a few bytes")
-STRINGS = ("", "x", "é日🙂", "\\u0000", "\\ud83d\\ude00", "\\ud83d", "\\ude00", "\\ud83d\\ud83d\\ude00", "\\uD83Dx\\uDE00", "\\ud83d\\n",
-           "\\b\\f\\n\\r\\t\\/\\\\\\\"", "\x7f", "\\uFFFF", "\\ufffd\\u2028", "v" * 300)  # fmt: skip
+NAMES = (
+    "a", "b", "a.b", "", "_msg", "é", "日", "\\u0061", "\\u00e9", "a\\n", "_time",
+    "long name of more than a few bytes",
+)  # fmt: skip
+STRINGS = (
+    "", "x", "é日🙂", "\\u0000", "\\ud83d\\ude00", "\\ud83d", "\\ude00", "\\ud83d\\ud83d\\ude00", "\\uD83Dx\\uDE00",
+    "\\ud83d\\n", "\\b\\f\\n\\r\\t\\/\\\\\\\"", "\x7f", "\\uFFFF", "\\ufffd\\u2028", "v" * 300,
+)  # fmt: skip
 NUMBERS = ("0", "-0", "1.50", "1E5", "-0.5e+10", "123456789012345678901234567890", "1e-400", "0.0", "9e0")
-WRONG = ("01", "1.", ".5", "+1", "-", "1e", "1e+", "tru", "True", "nul", "NaN", '"\\x"', '"\\u12"', '"\x01"', "'x'", "", "[1,]", "{,}", "[,]",
-         '{"a"}', '{"a":}', '{"a":1,}', "[1 2]", "//", '"open')  # fmt: skip
+WRONG = (
+    "01", "1.", ".5", "+1", "-", "1e", "1e+", "tru", "True", "nul", "NaN", '"\\x"', '"\\u12"', '"\x01"', "'x'", "",
+    "[1,]", "{,}", "[,]", '{"a"}', '{"a":}', '{"a":1,}', "[1 2]", "//", '"open',
+)  # fmt: skip
+
+
+BYTES = (b"", b'"', b"\\", b",", b":", b"{", b"}", b"[", b"]", b"0", b"\x00", b"\x80", b"\xc3", b"\xed\xa0\x80", b"\xf5")
 
 
 def answers(stdin):
@@ -52,8 +62,7 @@ def changed(random, line):
     at = random.randint(0, len(line))
     if random.random() < 0.3:
         return line[:at] + random.choice(WRONG).encode() + line[min(at + 1, len(line)) :]
-    byte = random.choice((b"", b'"', b"\\", b",", b":", b"{", b"}", b"[", b"]", b"0", b"\x00", b"\x80", b"\xc3", b"\xed\xa0\x80", b"\xf5"))
-    return line[:at] + byte + random.choice((line[at + 1 :], line[at:], b""))
+    return line[:at] + random.choice(BYTES) + random.choice((line[at + 1 :], line[at:], b""))
 
 
 def nested(depth, opening, closing):

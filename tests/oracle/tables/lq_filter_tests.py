@@ -5,7 +5,10 @@ from patterns import first_refused
 from rows import Row
 from values import record_of
 
-TEXT_FORMS = {"phrase": "Phrase", "prefix": "Prefix", "exact": "Exact", "exact_prefix": "ExactPrefix", "fold": "Fold", "pattern": "Regex"}
+TEXT_FORMS = {
+    "phrase": "Phrase", "prefix": "Prefix", "exact": "Exact", "exact_prefix": "ExactPrefix", "fold": "Fold",
+    "pattern": "Regex",
+}  # fmt: skip
 LIST_FORMS = {"in": "OneOf", "seq": "Seq"}
 LABEL_FORMS = {"is": "Is", "is_not": "IsNot", "matches": "Matches", "matches_not": "MatchesNot"}
 FIELD_FORMS = {"any": "Any", "empty": "Empty"}
@@ -49,7 +52,8 @@ def filter_of(form, field, first, second):
     if form == "length":
         return "Length", field, integer(first, 0, 0, 2**64), integer(second, 2**64 - 1, 0, 2**64)
     if form == "range":
-        return "Range", field, integer(first, LEAST, LEAST, GREATEST + 1), integer(second, GREATEST, LEAST, GREATEST + 1)
+        low, high = integer(first, LEAST, LEAST, GREATEST + 1), integer(second, GREATEST, LEAST, GREATEST + 1)
+        return "Range", field, low, high
     return ("All",)
 
 
@@ -61,9 +65,10 @@ def integer(text, otherwise, low, high):
 
 
 PATTERNS = (
-    ".", "", "err.r", "[0-9]+", "\\A.$", "\\d+", "[^a-z ]", "(?i)error", "e(rr|xx)or", "x|^a$", "^error$", "\\berror\\b", "(a|b)?", "^a.*a$",
-    "a{2,3}", "a{2,}", "日.語", "^$", "(a+)+b", "[a-z]+-[0-9]+", "\\w+", "\\W", "\\s", "\\S+ \\S+", "a?b*c+", "[]a]", "[^-a]", "\\.", "(?:ab)+",
-    "(?P<n>a)", "a{0}", "(", ")", "[", "a{2,1}", "*", "[z-a]", "(?P<", "\\", "a)(b", "a)|(b", "a{", "+a",
+    ".", "", "err.r", "[0-9]+", "\\A.$", "\\d+", "[^a-z ]", "(?i)error", "e(rr|xx)or", "x|^a$", "^error$",
+    "\\berror\\b", "(a|b)?", "^a.*a$", "a{2,3}", "a{2,}", "日.語", "^$", "(a+)+b", "[a-z]+-[0-9]+", "\\w+", "\\W",
+    "\\s", "\\S+ \\S+", "a?b*c+", "[]a]", "[^-a]", "\\.", "(?:ab)+", "(?P<n>a)", "a{0}", "(", ")", "[", "a{2,1}", "*",
+    "[z-a]", "(?P<", "\\", "a)(b", "a)|(b", "a{", "+a",
 )  # fmt: skip
 LETTERS = "ab_- .é日٣🙂\u0301"
 
@@ -80,7 +85,8 @@ def bound(random):
 def parts(random, form, value):
     """Returns the two texts of a form that is asked of a value."""
     start = random.randint(0, len(value))
-    near = random.choice((value, value[start : start + random.randint(0, 3)], value[:start], random.choice(TEXTS), text_of(random, LETTERS, 3)))
+    piece = value[start : start + random.randint(0, 3)]
+    near = random.choice((value, piece, value[:start], random.choice(TEXTS), text_of(random, LETTERS, 3)))
     if form in LIST_FORMS:
         return ",".join([near, *some(random, TEXTS, 2)][random.randint(0, 1) :]), ""
     if form in ("pattern", "matches", "matches_not"):
@@ -95,11 +101,13 @@ def parts(random, form, value):
 
 
 def cases(random):
-    forms = [*TEXT_FORMS, *TEXT_FORMS, *LIST_FORMS, *LABEL_FORMS, *FIELD_FORMS, *JOINED_FORMS, "between", "length", "range", "none"]
+    forms = [*TEXT_FORMS, *TEXT_FORMS, *LIST_FORMS, *LABEL_FORMS, *FIELD_FORMS, *JOINED_FORMS]
+    forms += ["between", "length", "range", "none"]
     lines = ["", "phrase", "record phrase\tv", "not not phrase\tv\ta\t\ta"]
     for _ in range(1500):
         form = random.choice(forms)
-        value = random.choice((text_of(random, LETTERS, 8), text_of(random, "ab ", 6), random.choice(TEXTS + NUMBERS + STAMPS), "error an ERROR"))
+        any_text = random.choice(TEXTS + NUMBERS + STAMPS)
+        value = random.choice((text_of(random, LETTERS, 8), text_of(random, "ab ", 6), any_text, "error an ERROR"))
         first, second = parts(random, form, value)
         field = random.choice(("v", "v", "v", "v", "a", "b", "_stream", "_stream_id", "_time", "_msg"))
         before = random.choice(("", "", "", "record ")) + random.choice(("", "", "", "not "))

@@ -4,9 +4,11 @@ from faults import Fault
 from queries import parse
 from query_cases import deep_queries, queries
 
-LEAVES = {"Any": "some", "Empty": "empty", "OneOf": "in", "Seq": "seq", "Phrase": "phrase", "Prefix": "prefix", "Exact": "exact",
-          "ExactPrefix": "exact_prefix", "Regex": "regex", "Fold": "fold", "Between": "between", "Length": "length",
-          "Range": "range"}  # fmt: skip
+LEAVES = {
+    "Any": "some", "Empty": "empty", "OneOf": "in", "Seq": "seq", "Phrase": "phrase", "Prefix": "prefix",
+    "Exact": "exact", "ExactPrefix": "exact_prefix", "Regex": "regex", "Fold": "fold", "Between": "between",
+    "Length": "length", "Range": "range",
+}  # fmt: skip
 HOWS = {"Is": "=", "IsNot": "!=", "Matches": "=~", "MatchesNot": "!~"}
 PICTURES = str.maketrans({"\n": "␊", "\r": "␍", "\t": "␉", "\0": "␀"})
 CONTROLS = {0x2400 + c: chr(c) for c in range(32)}
@@ -92,6 +94,7 @@ def function_text(call, names, only, name):
 
 
 def cases(random):
-    lines = ["", " ", "*", "|", "* |", "a | b", "()", "a\u00a0b", "# a", "a" * 16384, "a" * 16385, "é" * 8192, "é" * 8193]
-    lines += ["in(" + "a," * 300 + "a)", "a or " * 300 + "a", "* | fields " + "a," * 300 + "a", "a" + " | limit 1" * 100]
+    lines = ["", " ", "*", "|", "* |", "a | b", "()", "a\u00a0b", "# a"]
+    lines += ["a" * 16384, "a" * 16385, "é" * 8192, "é" * 8193, "a" + " | limit 1" * 100]
+    lines += ["in(" + "a," * 300 + "a)", "a or " * 300 + "a", "* | fields " + "a," * 300 + "a"]
     return table(lines + deep_queries() + queries(random, 400))

@@ -31,6 +31,7 @@ def cases(random):
     names = ("a", "b", "c", "é", "none", "")
     lines = ["", "\t", "a", "a\t", ",\t", "a,a\ta=1"]
     for _ in range(300):
-        fields = "&".join(f"{random.choice(names)}={random.choice((*values, text_of(random)))}" for _ in range(random.randint(0, 4)))
+        count = random.randint(0, 4)
+        fields = "&".join(f"{random.choice(names)}={random.choice((*values, text_of(random)))}" for _ in range(count))
         lines.append(",".join(random.choice(names[:5]) for _ in range(random.randint(1, 4))) + "\t" + fields)
     return table(lines)

@@ -23,8 +23,11 @@ def answer(line):
         return fault.name
 
 
+YEARS = (0, 1, 1969, 1970, 1972, 1999, 2000, 2024, 2100, 2261, 2262, 2263, 9999)
+
+
 def date(random):
-    year = random.choice((0, 1, 1969, 1970, 1972, 1999, 2000, 2024, 2100, 2261, 2262, 2263, 9999, random.randint(1970, 2262)))
+    year = random.choice((*YEARS, random.randint(1970, 2262)))
     return f"{year:04}-{random.randint(0, 13):02}-{random.choice((0, 1, 28, 29, 30, 31, 32)):02}"
 
 
@@ -45,7 +48,8 @@ def moment_case(random):
     if random.random() < 0.3:
         near = random.choice((10**11, 10**14, 10**17, 2**63, 2**63 // 10**9, 2**63 // 10**6, 0, 10**19))
         number = max(0, near + random.randint(-2, 2))
-        return random.choice(("", "", "0", "-", "+")) + str(number) + random.choice(("", "", ".", "." + digits(random, 10)))
+        ending = random.choice(("", "", ".", "." + digits(random, 10)))
+        return random.choice(("", "", "0", "-", "+")) + str(number) + ending
     fraction = random.choice(("", "", ".", "." + digits(random, 10)))
     return date(random) + random.choice("TTTt _") + clock(random) + fraction + zone(random)
 
@@ -60,14 +64,15 @@ def bound_case(random):
 def duration_case(random):
     pieces = ""
     for _ in range(random.randint(0, 3)):
-        count = random.choice((str(random.randint(0, 99)), "0" * 30 + "7", str(2**63 - 1), str(2**63), "106751", "15250", ""))
-        pieces += count + random.choice(UNITS)
+        edge = random.choice(("0" * 30 + "7", str(2**63 - 1), str(2**63), "106751", "15250", ""))
+        pieces += random.choice((edge, str(random.randint(0, 99)))) + random.choice(UNITS)
     return pieces
 
 
 def cases(random):
     lines = ["", "bound ", "duration ", *STAMPS]
-    lines += ["9223372036854775807", "9223372036854775808", "2262-04-11T23:47:16.854775807Z", "2262-04-11T23:47:16.854775808Z"]
+    lines += ["9223372036854775807", "9223372036854775808"]
+    lines += ["2262-04-11T23:47:16.854775807Z", "2262-04-11T23:47:16.854775808Z"]
     lines += ["duration 9223372036854775807ns", "duration 9223372036s854775807ns", "duration 9223372036s854775808ns"]
     lines += ["1969-12-31T23:59:59.999999999Z", "1970-01-01T00:00:00+00:01", "1969-12-31T23:59:00-00:01", "9" * 5000]
     for prefix, case in (("", moment_case), ("bound ", bound_case), ("duration ", duration_case)):

@@ -21,7 +21,8 @@ def cases(random):
     values = NUMBERS + STAMPS + TEXTS
     lines = ["no tab", "", "\t"]
     for _ in range(500):
-        a = random.choice((random.choice(values), text_of(random), str(random.randint(-(2**64), 2**64)), str(random.randint(-99, 99))))
+        integer = random.choice((random.randint(-(2**64), 2**64), random.randint(-99, 99)))
+        a = random.choice((random.choice(values), text_of(random), str(integer)))
         b = random.choice((a, random.choice(values), mutated(random, a, "0159-+.TZ:aé"), random.choice(NUMBERS)))
         lines.append(a + "\t" + b)
     return table(lines + ["9" * 5000 + "\t" + "9" * 5001])

@@ -35,6 +35,7 @@ def cases(random):
     for _ in range(300):
         text = text_of(random, most=12)
         start = random.randint(0, len(text))
-        needle = random.choice((text_of(random, most=3), text[start : start + random.randint(1, 4)], random.choice(TEXTS)))
+        piece = text[start : start + random.randint(1, 4)]
+        needle = random.choice((text_of(random, most=3), piece, random.choice(TEXTS)))
         lines.append(random.choice((text, text + "\t" + needle, text + "\t" + needle)))
     return table(lines + list(TEXTS) + ["a" * 5000, "é " * 2000 + "\té"])
