@@ -1,4 +1,4 @@
-"""Lines of JSON whose rows become blocks (docs/FORMATS.md and docs/BYTES.md): how many rows, bytes and blocks they are.
+"""Lines of JSON whose rows become blocks (docs/FORMATS.md, docs/BYTES.md): how many rows, bytes and blocks they are.
 
 The file `args` of the crate says how many rows after one another become a block, if they are in order and of one
 stream. Those that are no block are not counted.

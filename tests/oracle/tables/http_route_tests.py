@@ -48,7 +48,7 @@ def options_text(options):
 PATHS = [*METHODS, *METHODS, "/", "/status/", "/Health", "/%73tatus", "*", "/insert/jsonline/", "/select/logsql", "/é"]
 NAMES = ("query", "query", "limit", "start", "end", "offset", "timeout", "Query")
 NAMES += ("_stream_fields", "_time_field", "_msg_field", "ignore_fields", "extra_fields", "extra_fields")
-VALUES = ("", "a", "*", "a,b", ",a,,b,", "a=b", "a=b,c=", "=b", "a=", "a=b=c", "é", "a+b", "%2C", "%zz", "%ff", "5", "a%3Db")
+VALUES = ("", "a", "*", "a,b", ",a,,b,", "a=b", "a=b,c=", "=b", "a=", "a=b=c", "é", "a+b", "%2C", "%ff", "a%3Db")
 TYPES = ([], [b"Content-Type: application/x-www-form-urlencoded"], [b"Content-Type: text/plain"])
 MORE = ([], [], [], [b"Connection: close"], [b"Content-Encoding: gzip"], [b"Content-Length: x"])
 

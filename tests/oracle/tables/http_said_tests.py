@@ -38,17 +38,17 @@ def headers_text(data):
 
 BODIES = ["Content-Length", "content-length", "Transfer-Encoding", "Content-Encoding", "Content-Type"]
 NAMES = BODIES * 4 + ["Connection", "Connection", "Host"]
-SIZES = ["0", "5", "05", "5 ", "\t5", "+5", "-0", "5, 5", "0x5", "", "٣", "5;", "5.0", "five", "1" * 5000, "0" * 400 + "7"]
+SIZES = ["0", "5", "05", "5 ", "\t5", "+5", "-0", "5, 5", "0x5", "", "٣", "5;", "5.0", "1" * 5000, "0" * 400 + "7"]
 FORM = "application/x-www-form-urlencoded"
 VALUES = {
     "content-length": SIZES + ["33554432", "33554433", str(2**64 - 1), str(2**64)],
-    "transfer-encoding": ["chunked", "Chunked", "chunked, chunked", "gzip", "gzip, chunked", "identity", "", "chunked;q"],
+    "transfer-encoding": ["chunked", "Chunked", "chunked, chunked", "gzip", "gzip, chunked", "identity", ""],
     "content-encoding": ["identity", "IDENTITY", "gzip", "", "identity, identity", "br"],
     "content-type": [FORM, FORM + ";charset=x", FORM.upper(), "text/plain", ""],
     "connection": ["close", "Close", "keep-alive", "Keep-Alive, x", "x,close", "closed", " , ,", "keep-alive,close"],
     "host": ["a", "", "x:1"],
 }
-PIECES = ["a", "b", "=", "&", "+", "%", "%4", "%41", "%c3%a9", "%C3", "%ff", "%zz", "é", "%00", "%26", "%3D", "%2B", "?"]
+PIECES = ["a", "b", "=", "&", "+", "%", "%4", "%41", "%c3%a9", "%C3", "%ff", "%zz", "é", "%00", "%26", "%3D", "%2B"]
 ENDS = [b"\r\n"] * 6 + [b"\n", b"", b"\r", b"no colon\r\n\r\n", b" a: b\r\n\r\n", b": x\r\n\r\n"]
 
 

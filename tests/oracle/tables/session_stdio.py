@@ -16,7 +16,7 @@ LINES = (
     '{"_time":"2024-05-01T10:00:00Z","_msg":"a b","app":"x"}', '{"_time":1714557600,"_msg":"error","n":7,"app":"y"}',
     '{"_time":"2024-05-01T10:00:00.5+02:00","n":"9223372036854775807"}', "x", '{"_time":"x"}', "", "[]",
 )  # fmt: skip
-QUERIES = ("*", "a", "n:>5", '{app="x"}', "*+|+stats+sum(n)+as+s", "*+|+fields+_msg", "a+b)", "_time:2024-05-01T10", "%zz")
+QUERIES = ("*", "a", "n:>5", '{app="x"}', "*+|+stats+sum(n)+as+s", "*+|+fields+_msg", "a+b)", "_time:2024-05-01T10")
 LAST = (b"GET /status HTTP/1.0\r\n\r\n", b"GET /status HTTP/1.1\r\n", b"what\r\n\r\n", b"")
 OTHER = ["GET /status", "GET /health", "HEAD /status", "PUT /insert/jsonline", "GET /x?y", "GET /select/logsql/query"]
 

@@ -86,7 +86,7 @@ def endless():
     return f"no end: accepted {session.accepted}, refused {session.refused}, Limit"
 
 
-HEADERS = ["<13>1 - - - - - -", "<34>1 2003-10-11T22:14:15.003Z h su - I -", '<0>1 - h a 1 m [x n="v"]', "<191>1 - - - - - - "]
+HEADERS = ("<13>1 - - - - - -", "<34>1 2003-10-11T22:14:15.003Z h su - I -", '<0>1 - h a 1 m [x n="v"]')
 ENDS = [b"12x", b"5 ab", b"x", b"65537 ", b"9", b""]
 TEXTS = ["", " error", " é", ' a\\"b', " \ufeff!", " {x}"]
 WRONG = ["<192>1 - - - - - -", "<13>2 - - - - - -", "<13>1 x - - - - -", "x", "<13>1 - - - - -", "<13>1 - - - - - [x"]
@@ -115,7 +115,7 @@ def cases(random):
         lines.append(f"a counted one of {size} / {counts} / 0 / 1 / {size}\\20;\\61x{size};")
         lines.append(f"a line of {size} / {counts} / 0 / 1 / \\61x{size};\\0a;")
         lines.append(f"a line of {size} with its end / {counts} / 0 / 1 / \\61x{size - 1};\\0d;\\0a;")
-    for n in range(120):
+    for n in range(70):
         data = b"".join(frame(random) for _ in range(random.randint(1, 4)))
         data += random.choice([b"", b"", message(random), random.choice(ENDS)])
         # a query that counts has other lines wherever a read fails, so short inputs have none

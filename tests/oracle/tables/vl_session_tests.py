@@ -29,10 +29,10 @@ LINES = (
     "{}", '{"_time":"2024-05-01T10:00:00Z","_msg":"é"}', '{"_time":"x"}', '{"a":{"b":null,"c":[1, 2]}}', '{"a":',
 )  # fmt: skip
 QUERIES = (
-    "*", "a", "error", "n:>5", '{app="x"}', "* | stats count() as n", "* | stats sum(n) as s", "* | fields _msg", "a b)",
-    "~%22(%22", "", "* | limit 1", "_time:1s", "app:in(x,y) | sort by (app desc)", "* | stats by (app) count()",
+    "*", "a", "error", "n:>5", '{app="x"}', "* | stats count() as n", "* | stats sum(n) as s", "* | fields _msg",
+    "a b)", "~%22(%22", "", "* | limit 1", "_time:1s", "app:in(x,y) | sort by (app desc)", "* | stats by (n) count()",
 )  # fmt: skip
-OPTIONS = ("", "?_stream_fields=app", "?extra_fields=app%3Dz&_msg_field=a.c", "?ignore_fields=app,n", "?extra_fields=x")
+OPTIONS = ("", "?_stream_fields=app", "?extra_fields=app%3Dz&_msg_field=a.c", "?ignore_fields=app", "?extra_fields=x")
 REST = ["GET /status", "GET /health", "HEAD /health", "GET /x", "POST /status", "DELETE /insert/jsonline"]
 
 
@@ -48,7 +48,8 @@ def request(random):
     if kind == 1:
         query = random.choice(QUERIES).replace(" ", "+")
         more = random.choice(["", "", "", "&limit=1", "&timeout=1s"])
-        return f"GET /select/logsql/query?query={query}{more} HTTP/1.{random.choice('111110')}{end}\r\n".encode("utf-8")
+        version = random.choice(["1.1"] * 5 + ["1.0"])
+        return f"GET /select/logsql/query?query={query}{more} HTTP/{version}{end}\r\n".encode("utf-8")
     return f"{random.choice(REST)} HTTP/1.1{end}\r\n".encode("utf-8")
 
 
