@@ -1,19 +1,27 @@
 #!/usr/bin/env bash
 # Runs the built program as a user's shell does, and compares its output, its error text and its status.
+# usage: tests/cli.sh     (the environment variable DUVONKA is the path of another build)
 # Its last line is 'N passed, M failed'.
 set -u
 export LC_ALL=C.UTF-8
 top=$(cd "$(dirname "$0")/.." && pwd)
-program=$top/crates/duvonka/out/duvonka
+program=${DUVONKA:-$top/crates/duvonka/out/duvonka}
+# fail_all WHY: nothing can be tested
+fail_all() {
+  echo "FAILED all: $1"
+  echo "0 passed, 1 failed"
+  exit 1
+}
+
 for tool in mktemp cmp head yes; do
-  command -v "$tool" > /dev/null || { echo "cli.sh: skipped, there is no $tool"; exit 0; }
+  command -v "$tool" > /dev/null || fail_all "there is no $tool"
 done
-[ -x "$program" ] || { echo "cli.sh: skipped, the program is not built"; exit 0; }
+[ -x "$program" ] || fail_all "the program is not built"
 work=$(mktemp -d) || exit 1
 trap 'rm -rf "$work"' EXIT
 passed=0 failed=0
 
-# judge NAME STATUS WANTED_STATUS: compares out and err in the work folder with wanted_out and wanted_err
+# judge NAME STATUS WANTED_STATUS: compares the status, and the files out and err with wanted_out and wanted_err
 judge() {
   local why=
   [ "$2" = "$3" ] || why="status $2, not $3"
@@ -27,13 +35,13 @@ judge() {
   fi
 }
 
-# wants OUT ERR: what the next judge compares with
+# wants OUT ERR: sets the output and the error text that the next judge expects
 wants() {
   printf '%s' "$1" > "$work/wanted_out"
   printf '%s' "$2" > "$work/wanted_err"
 }
 
-# without_time FILE: the lines with each printed moment replaced, since the clock gives it
+# without_time FILE: replaces each printed timestamp by NOW, since it is the time of arrival
 without_time() {
   sed -i 's/"_time":"[0-9]\{4\}-[0-9][0-9]-[0-9][0-9]T[0-9:.]*Z"/"_time":"NOW"/' "$1"
 }
@@ -59,7 +67,7 @@ judge "from a slow pipe, with no line feed at the end" $status 0
 
 printf '{"_msg":"an error: x"}\nx\n' | "$program" pipe error > "$work/out" 2> "$work/err"
 status=$?; without_time "$work/out"; wants "$first" $'line 2: NotObject\n'
-judge "a refused line is named" $status 0
+judge "a refused line is reported" $status 0
 
 "$program" pipe '*' < /dev/null > "$work/out" 2> "$work/err"
 status=$?; wants "" ""
@@ -71,7 +79,7 @@ grep -o '"_msg":"[^"]*"' "$work/out" > "$work/messages"; mv "$work/messages" "$w
 wants $'"_msg":"upstream error: connection reset by peer while reading response header"\n"_msg":"TLS handshake error: no shared cipher"\n"_msg":"请求失败 error 504"\n"_msg":"error"\n' $'line 24: NotJson\n'
 judge "the example in the repository" $status 0
 
-# real logs: an nginx access log as JSON, cut in its last line, and the nested log of an application
+# real logs: a JSON access log of nginx with its last line cut off, and the nested log of an application
 fields() { sed 's/"_stream":.*"_time"/"_time"/' "$work/out" > "$work/fields"; mv "$work/fields" "$work/out"; }
 "$program" pipe orders < "$top/examples/nginx.jsonl" > "$work/out" 2> "$work/err"
 status=$?; fields
@@ -85,7 +93,7 @@ judge "the nested log of an application" $status 0
 
 "$program" pipe 'a b)' < "$work/three" > "$work/out" 2> "$work/err"
 status=$?; wants "" $'query: Syntax at 3\n'
-judge "a parenthesis too many" $status 1
+judge "an extra parenthesis" $status 1
 
 "$program" pipe 'fine or error' < "$work/three" > "$work/out" 2> "$work/err"
 status=$?; without_time "$work/out"; fields
@@ -99,19 +107,19 @@ judge "requests and bytes by status" $status 0
 
 "$program" pipe 'status:404 | top 2 by (host)' < "$top/examples/access.jsonl" > "$work/out" 2> "$work/err"
 status=$?; wants $'{"hits":"4","host":"web-3"}\n{"hits":"3","host":"web-2"}\n' $'line 24: NotJson\n'
-judge "the servers with most misses" $status 0
+judge "the servers with most 404 replies" $status 0
 
 printf '{"n":"9223372036854775807"}\n{"n":"1"}\n' | "$program" pipe '* | stats sum(n) as total' > "$work/out" 2> "$work/err"
 status=$?; wants "" $'query: Overflow in total\n'
-judge "a total that is no 64-bit integer" $status 1
+judge "a sum that does not fit 64 bits" $status 1
 
 "$program" pipe 'a | filter ~"("' < "$work/three" > "$work/out" 2> "$work/err"
 status=$?; wants "" $'query: RegexRefused number 0\n'
-judge "a regular expression that cannot be read" $status 1
+judge "an invalid regular expression" $status 1
 
 "$program" < "$work/three" > "$work/out" 2> "$work/err"
 status=$?; wants "" "$usage"
-judge "no words" $status 2
+judge "no command" $status 2
 
 "$program" pipe < "$work/three" > "$work/out" 2> "$work/err"
 status=$?; wants "" "$usage"
@@ -119,11 +127,11 @@ judge "no query" $status 2
 
 "$program" pipe error more < "$work/three" > "$work/out" 2> "$work/err"
 status=$?; wants "" "$usage"
-judge "a word too many" $status 2
+judge "an extra argument" $status 2
 
 "$program" pipe $'\xff' < "$work/three" > "$work/out" 2> "$work/err"
 status=$?; wants "" "$usage"
-judge "a word that is not UTF-8" $status 2
+judge "an argument that is not UTF-8" $status 2
 
 "$program" pipe error < "$work" > "$work/out" 2> "$work/err"
 status=$?; wants "" $'read fault\n'
@@ -135,16 +143,16 @@ if [ -c /dev/full ]; then
   judge "a full device as output" $status 4
 fi
 
-# the reader is gone before the answer is written
+# the reader of the pipe ends before the answer is written
 { sleep 0.3; "$program" pipe error < "$work/three" 2> "$work/err"; echo $? > "$work/status"; } | true
 : > "$work/out"; wants "" ""
 judge "a closed pipe as output" "$(cat "$work/status")" 4
 
-# lines at the limits of a line and of a row, between two that are read: a line of 1,048,576 bytes, and one more; a name of
-# 128 bytes; 1,000 fields; a weight of 262,144 bytes; and, behind a blank line that is longer than a line may be, 64 open brackets
+# lines at their limits, and with argument 1 just above them: a line of 1,048,576 bytes; a name of 128 bytes; 1,000
+# fields; names and values of 262,144 bytes; a blank line above the limit of a line, which is ignored; 64 open brackets
 many() { head -c "$2" /dev/zero | tr '\0' "$1"; }
 numbered() { seq -f ',"%g":"x"' 2 "$1" | tr -d '\n'; }
-limits() { # END OF THE NAME: what the sizes are raised by
+limits() { # EXTRA: is added to each size
   printf '%s{"a":"b"}\n' "$(many ' ' $((1048567 + $1)))"
   printf '{"%s":"v"}\n' "$(many n $((128 + $1)))"
   printf '{"1":"x"%s}\n' "$(numbered $((1000 + $1)))"
@@ -161,21 +169,21 @@ limits 1 | "$program" pipe zebra > "$work/out" 2> "$work/err"
 status=$?; wants "" $'line 1: LineLong\nline 2: NameLong\nline 3: ManyFields\nline 4: RowLarge\nline 6: TooDeep\n'
 judge "lines above their limits" $status 0
 
-# 2,500 lines are three groups
+# 2,500 lines are three groups of at most 1,000
 seq -f '{"_msg":"error","n":"%g"}' 2500 | "$program" pipe error > "$work/out" 2> "$work/err"
 status=$?
 sed 's/.*"n":"\([0-9]*\)"}/\1/' "$work/out" > "$work/numbers"; mv "$work/numbers" "$work/out"
 seq 2500 > "$work/wanted_out"; : > "$work/wanted_err"
 judge "2,500 lines in their order" $status 0
 
-# a refused line of each group, and the third group is too heavy for a batch
+# each group has a refused line, and the third group has too many bytes for a batch
 { echo x; seq -f '{"n":"%g"}' 999; seq -f '{"n":"%g"}' 999; echo y; echo z
   value=$(many v 262143); for _ in $(seq 257); do printf '{"a":"%s"}\n' "$value"; done; } > "$work/heavy"
 "$program" pipe error < "$work/heavy" > "$work/out" 2> "$work/err"
 status=$?; wants "" $'line 1: NotObject\nline 2000: NotObject\nlarge 67371008\n'
-judge "a group above the weight of a batch" $status 8
+judge "a group with too many bytes for a batch" $status 8
 
-# 4,096 groups with a row, and groups without any between them
+# 4,096 groups with a row, and groups without a row before and after them
 group() { echo '{"a":"b"}'; yes '' | head -n 999; }
 one_group=$(group; echo .); one_group=${one_group%.}
 { yes '' | head -n 1000; for _ in $(seq 4096); do printf '%s' "$one_group"; done; yes '' | head -n 3000; } > "$work/many"

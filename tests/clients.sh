@@ -7,22 +7,22 @@ set -u
 export LC_ALL=C.UTF-8
 top=$(cd "$(dirname "$0")/.." && pwd)
 program=${DUVONKA:-$top/crates/duvonka/out/duvonka}
-# skip_all WHY
-skip_all() {
-  echo "SKIPPED all: $1"
-  echo "0 passed, 0 failed, 1 skipped"
-  exit 0
+# fail_all WHY: nothing can be tested
+fail_all() {
+  echo "FAILED all: $1"
+  echo "0 passed, 1 failed, 0 skipped"
+  exit 1
 }
 
 for tool in mktemp timeout sha256sum sed seq; do
-  command -v "$tool" > /dev/null || skip_all "there is no $tool"
+  command -v "$tool" > /dev/null || fail_all "there is no $tool"
 done
-[ -x "$program" ] || skip_all "the program is not built"
+[ -x "$program" ] || fail_all "the program is not built"
 work=$(mktemp -d) || exit 1
 # shellcheck source=tests/serving.sh
 . "$top/tests/serving.sh"
 senders=()
-# end: ends what this script started and may still run
+# end: stops everything that this script started
 end() {
   local id
   for id in "${senders[@]}"; do kill "$id" 2> /dev/null; done
@@ -50,7 +50,7 @@ skip() {
   echo "SKIPPED $1: $2"
 }
 
-# has NAME TOOLS..: whether the tools of a part are here; the part is skipped where one is missing
+# has NAME TOOLS..: succeeds if these tools are installed; otherwise reports that the part is skipped
 has() {
   local name=$1 tool
   shift
@@ -62,8 +62,8 @@ has() {
 text='text/plain; charset=utf-8' json=application/json records=application/stream+json
 bad='400 Bad Request' large='413 Content Too Large' no_method='405 Method Not Allowed'
 
-# page STATUS TYPE CONTENT [ALLOW] [close]: a whole reply, with the lines of docs/HTTP.md in their order. The content
-# ends with a line feed, if there is any
+# page STATUS TYPE CONTENT [ALLOW] [close]: prints a whole reply, with the header lines of docs/HTTP.md in their order.
+# Content that is not empty ends with a line feed
 page() {
   local content=$3 size=0 lines
   [ -z "$content" ] || { content=$content$'\n'; size=$(printf %s "$content" | wc -c); }
@@ -74,14 +74,14 @@ page() {
   printf '%s\r\n%s' "$lines" "$content"
 }
 
-# bare ALLOW [close]: a whole reply to HEAD
+# bare ALLOW [close]: prints a whole reply to HEAD
 bare() {
   local lines="HTTP/1.1 $no_method"$'\r\n'"Allow: $1"$'\r\n'"Content-Type: $text"$'\r\n'
   [ -z "${2:-}" ] || lines+=$'Connection: close\r\n'
   printf '%s\r\n' "$lines"
 }
 
-# accepted ROWS BATCH [FAULTS REFUSED]: what the reply to an insert says
+# accepted ROWS BATCH [FAULTS REFUSED]: prints the body of the reply to an insert
 accepted() {
   printf '{"accepted":"%s",' "$1"
   [ -z "$2" ] || printf '"batch":"%s",' "$2"
@@ -89,21 +89,22 @@ accepted() {
   printf '"refused":"%s"}' "${4:-0}"
 }
 
-# taken ROWS BATCH [close]: the whole reply to an insert of which no line is refused
+# taken ROWS BATCH [close]: prints the whole reply to an insert without refused lines
 taken() { page '200 OK' $json "$(accepted "$1" "$2")" '' "${3:-}"; }
 
-# labelled LABELS: how a record shows the stream of this text
+# labelled LABELS: prints _stream and _stream_id of a record for these labels
 labelled() {
   printf '"_stream":"%s","_stream_id":"%s"' "${1//\"/\\\"}" "$(printf %s "$1" | sha256sum | head -c 32)"
 }
 
-# replies NAME BYTES WANTED: the whole reply to bytes that bash sends, up to the end of the connection
+# replies NAME BYTES WANTED: judges all that comes back for these bytes until the connection ends
 replies() { judge "$1" "$(exchange "$http" "$2"; echo .)" "$3"$'\n.'; }
 
-# refuses NAME BYTES STATUS FAULT: bytes that are no request are refused so, and the connection ends
+# refuses NAME BYTES STATUS FAULT: judges the reply to a malformed request, after which the connection ends
 refuses() { replies "$1" "$2" "$(page "$3" "$text" "$4" '' close)"; }
 
-# comes_to NAME QUERY WANTED: the records of a query, once they are so; what comes by syslog takes its time
+# comes_to NAME QUERY WANTED: judges the records of a query, and asks for up to 10 s until they are the wanted ones,
+# since syslog has no replies to wait for
 comes_to() {
   local got
   for _ in {1..100}; do
@@ -126,44 +127,44 @@ by_bytes() {
     "$(page '200 OK' "$text" OK; page '200 OK' "$text" OK '' close)"
   judge "HEAD in bytes" "$(exchange "$http" 'HEAD /health HTTP/1.1\r\nConnection: close\r\n\r\n'; echo .)" \
     "$(bare GET close; echo .)"
-  refuses "a head that is none" 'GET /health\r\n\r\n' "$bad" BadHead
-  refuses "a blank before a colon" "${health}Host : x\r\n\r\n" "$bad" BadHead
-  refuses "a length that is no number" "${insert}Content-Length: 1x\r\n\r\n" "$bad" BadLength
+  refuses "a request line without a version" 'GET /health\r\n\r\n' "$bad" BadHead
+  refuses "a space before a colon" "${health}Host : x\r\n\r\n" "$bad" BadHead
+  refuses "a Content-Length that is not a number" "${insert}Content-Length: 1x\r\n\r\n" "$bad" BadLength
   refuses "two lengths" "${insert}Content-Length: 5\r\nContent-Length: 6\r\n\r\n" "$bad" BadLength
-  refuses "a length beside chunks" "${chunked}Content-Length: 5\r\n\r\n" "$bad" BadLength
-  refuses "a coding around chunks" "${insert}Transfer-Encoding: gzip, chunked\r\n\r\n" "$bad" BadLength
+  refuses "Content-Length beside Transfer-Encoding" "${chunked}Content-Length: 5\r\n\r\n" "$bad" BadLength
+  refuses "a transfer coding around chunks" "${insert}Transfer-Encoding: gzip, chunked\r\n\r\n" "$bad" BadLength
   refuses "a chunk without a length" "$chunked\r\nx\r\n" "$bad" BadChunk
-  refuses "a chunk that is longer than its length" "$chunked\r\n1\r\nabc\r\n" "$bad" BadChunk
+  refuses "more data than the chunk length says" "$chunked\r\n1\r\nabc\r\n" "$bad" BadChunk
   refuses "a content coding" "${insert}Content-Encoding: gzip\r\nContent-Length: 1\r\n\r\nx" \
     '415 Unsupported Media Type' Coding
-  # the front up to the blank behind X: has 25 bytes
+  # up to the space after X: there are 25 bytes
   many=$(printf 'a%.0s' {1..16359})
-  refuses "16,384 bytes of a head without its end" "${health}X: $many" "$bad" HeadLarge
+  refuses "16,384 bytes of a header section without its end" "${health}X: $many" "$bad" HeadLarge
   many=$(printf 'X: y\\r\\n%.0s' {1..101})
   refuses "101 header lines" "$health$many\r\n" "$bad" HeadLarge
   refuses "a declared length above the limit" "${insert}Content-Length: 33554433\r\n\r\n" "$large" BodyLarge
   refuses "chunks above the limit" "$chunked\r\n1\r\na\r\n2000000\r\n" "$large" BodyLarge
-  # twice as many clients as there are workers leave in the middle of a request
+  # twice as many clients as workers disconnect in the middle of a request
   for _ in {1..8}; do
     (exec 3<> "/dev/tcp/127.0.0.1/$http" && printf %b "${insert}Content-Length: 9\r\n\r\n{\"a\"" >&3)
   done
-  replies "after half requests" "$status" "$(page '200 OK' $json '{"batches":"1","settled":"0"}' '' close)"
+  replies "after unfinished requests" "$status" "$(page '200 OK' $json '{"batches":"1","settled":"0"}' '' close)"
 }
 
-# curled ARGUMENTS..: what curl gets
+# curled ARGUMENTS..: runs curl
 curled() { timeout 30 curl -q --noproxy '*' -s -m 20 "$@"; }
 
-# curls NAME WANTED ARGUMENTS..: the whole reply that curl gets, head and all
+# curls NAME WANTED ARGUMENTS..: judges the whole reply that curl gets, with its header lines
 curls() {
   local name=$1 wanted=$2
   shift 2
   judge "$name" "$(curled -i "$@"; echo .)" "$wanted"$'\n.'
 }
 
-# asks NAME RECORDS QUERY ARGUMENTS..: the reply to a query by curl
+# asks NAME RECORDS QUERY ARGUMENTS..: judges the reply to a query by curl
 asks() { curls "$1" "$(page '200 OK' $records "$2")" "$select" --data-urlencode "query=$3" "${@:4}"; }
 
-# is_refused NAME STATUS CONTENT ARGUMENTS..: the same, where it is refused
+# is_refused NAME STATUS CONTENT ARGUMENTS..: judges the reply to a request that is refused
 is_refused() { curls "$1" "$(page "$2" "$text" "$3")" "${@:4}"; }
 
 by_curl() {
@@ -182,7 +183,7 @@ inserts_by_curl() {
   local options='_stream_fields=host,env&_time_field=ts&_msg_field=log,text&ignore_fields=pid'
   curls "an insert" "$(taken 1 2)" "$insert?_stream_fields=app" \
     --data-binary '{"_msg":"started","app":"web","_time":"2026-11-27T10:00:00Z"}'
-  curls "a file with a line that is refused" "$(page '200 OK' $json "$(accepted 39 3 '24 NotJson' 1)")" \
+  curls "a file with a refused line" "$(page '200 OK' $json "$(accepted 39 3 '24 NotJson' 1)")" \
     "$insert" --data-binary "@$top/examples/access.jsonl"
   curls "lines without a row" "$(page '200 OK' $json "$(accepted 0 '' '1 NotObject, 2 Empty' 2)")" \
     "$insert" --data-binary $'x\n{}\n'
@@ -204,12 +205,12 @@ queries_by_curl() {
   wanted='{"bytes":"217163","requests":"13","status":"200"}
 {"bytes":"55244","requests":"3","status":"304"}
 {"bytes":"152548","requests":"9","status":"404"}'
-  asks "a query by a form" "$wanted" 'status:* | stats by (status) count() as requests, sum(bytes) as bytes'
-  asks "a query without a record" '' no_such_word
-  asks "what came from pipes" $'{"_msg":"from a pipe"}\n{"_msg":"in chunks"}' 'part:pipe | fields _msg'
+  asks "a query in a form" "$wanted" 'status:* | stats by (status) count() as requests, sum(bytes) as bytes'
+  asks "a query that finds nothing" '' no_such_word
+  asks "the rows of the uploads from pipes" $'{"_msg":"from a pipe"}\n{"_msg":"in chunks"}' 'part:pipe | fields _msg'
   wanted='{"_msg":"as arguments say",'$(labelled '{env="test",host="a"}')
   wanted+=',"_time":"2024-05-01T10:00:00Z","env":"test","host":"a","part":"all"}'
-  asks "what arguments made" "$wanted" part:all
+  asks "the row that all arguments make" "$wanted" part:all
   judge "two requests on a connection" "$(curled -w '%{num_connects} %{http_code}\n' \
     -o "$work/out" "$at/health" -o "$work/out" "$at/status")" $'1 200\n0 200'
   judge "HEAD by curl" "$(curled -I "$select"; echo .)" "$(bare 'GET, POST'; echo .)"
@@ -219,7 +220,7 @@ refusals_by_curl() {
   local argument many
   is_refused "no such path" '404 Not Found' 'no such path' "$at/"
   is_refused "an escape in a path" '404 Not Found' 'no such path' "$at/%73tatus"
-  is_refused "a slash too many" '404 Not Found' 'no such path' "$at/status/"
+  is_refused "a slash at the end of a path" '404 Not Found' 'no such path' "$at/status/"
   curls "GET of an insert" "$(page "$no_method" "$text" 'no such method' POST)" "$insert"
   curls "PUT of a query" "$(page "$no_method" "$text" 'no such method' 'GET, POST')" "$select" -X PUT
   curls "POST of the status" "$(page "$no_method" "$text" 'no such method' GET)" "$at/status" -d ''
@@ -229,24 +230,24 @@ refusals_by_curl() {
   done
   is_refused "extra fields without =" "$bad" 'BadArgument extra_fields' "$insert?extra_fields=a=b,c" -d '{"a":"b"}'
   is_refused "extra fields without a name" "$bad" 'BadArgument extra_fields' "$insert?extra_fields==b" -d '{"a":"b"}'
-  is_refused "a parenthesis too many" "$bad" 'Syntax at 3' "$select" --data-urlencode 'query=a b)'
+  is_refused "an extra parenthesis" "$bad" 'Syntax at 3' "$select" --data-urlencode 'query=a b)'
   is_refused "an open quote" "$bad" 'OpenQuote at 0' "$select" --data-urlencode 'query="abc'
-  is_refused "a query of nothing" "$bad" 'Syntax at 0' "$select?query="
-  is_refused "a regular expression that cannot be read" "$bad" 'RegexRefused number 1' \
+  is_refused "an empty query" "$bad" 'Syntax at 0' "$select?query="
+  is_refused "an invalid regular expression" "$bad" 'RegexRefused number 1' \
     "$select" --data-urlencode 'query=~"a" | filter ~"("'
-  curls "two numbers" "$(taken 2 9)" "$insert" --data-binary \
+  curls "two numbers whose sum does not fit 64 bits" "$(taken 2 9)" "$insert" --data-binary \
     $'{"n":"9223372036854775807","part":"total"}\n{"n":"1","part":"total"}'
-  is_refused "a total that is no 64-bit integer" '422 Unprocessable Content' 'Overflow in total' \
+  is_refused "a sum that does not fit 64 bits" '422 Unprocessable Content' 'Overflow in total' \
     "$select" --data-urlencode 'query=part:total | stats sum(n) as total'
   # 7,000 rows of 10,003 bytes: a, b, x and 10,000 bytes
   many=$(printf 'y%.0s' {1..10000})
   printf '{"a":"b"}\n%.0s' {1..7000} > "$work/heavy"
   is_refused "rows that weigh too much" "$large" 'Large 70021000' \
     "$insert?extra_fields=x=$many" --data-binary "@$work/heavy"
-  curls "the batches after all that" "$(page '200 OK' $json '{"batches":"9","settled":"0"}')" "$at/status"
+  curls "the status after all inserts" "$(page '200 OK' $json '{"batches":"9","settled":"0"}')" "$at/status"
 }
 
-# python TASK: what a task of clients.py says
+# python TASK: runs a task of clients.py
 python() { timeout 60 python3 "$work/clients.py" "$1" "$http" "$syslog" 2>&1; }
 
 write_python() {
@@ -272,7 +273,7 @@ def said(connection, method, path, body=None, headers={}):
 
 
 def several():
-    """Requests on one connection, which keeps its socket."""
+    """Several requests on one connection, which stays open."""
     connection = connected()
     lines = '{"_msg":"one","part":"python"}\n{"_msg":"zwei ü","part":"python"}\n'
     print(*said(connection, "POST", "/insert/jsonline?_stream_fields=part", lines.encode())[:2], end="")
@@ -288,7 +289,7 @@ def several():
 
 
 def large():
-    """The client sends all of a body that is refused, and then reads."""
+    """The client sends the whole of a body that is refused, and then reads the reply."""
     print(*said(connected(), "POST", "/insert/jsonline", b"x" * 33554433))
 
 
@@ -305,7 +306,7 @@ def slow():
 
 
 def unread():
-    """Three clients that don't read a large reply, and leave; one beside them is served."""
+    """Three clients do not read a large reply, and disconnect; another client is served meanwhile."""
     line = b'{"_msg":"' + b"y" * 262000 + b'","part":"large"}\n'
     print(said(connected(), "POST", "/insert/jsonline", line * 100)[0])
     idle = []
@@ -326,7 +327,7 @@ def unread():
 
 
 def full():
-    """Inserts up to the limit of batches, as many on a connection as it has, and then more."""
+    """Fills the log with batches, 1,000 on each connection, and then inserts more."""
     accepted, ends = 0, []
     while accepted < 4096:
         connection = connected()
@@ -365,10 +366,10 @@ by_python() {
 200
 the same connection"
   judge "python3: the reply to a large body" "$(python large)" $'413 BodyLarge\n close'
-  judge "python3: a large reply that nobody reads" "$(python unread)" $'200\n200\n[200, 200, 200, 200]'
+  judge "python3: a large reply that clients do not read" "$(python unread)" $'200\n200\n[200, 200, 200, 200]'
 }
 
-# start_slow_client: starts a client that sends a byte a second, beside the others
+# start_slow_client: starts a client in the background that sends a byte a second
 start_slow_client() {
   command -v python3 > /dev/null || return
   timeout 60 python3 "$work/clients.py" slow "$http" "$syslog" > "$work/slow" 2>&1 &
@@ -384,7 +385,7 @@ judge_slow_client() {
 
 by_syslog_bytes() {
   local message wanted
-  # the third example of RFC 5424, section 6.5, in a counted frame, and a line behind it
+  # the third example of RFC 5424, section 6.5, in a counted frame, and then a message on a line
   message='<165>1 2003-10-11T22:14:15.003Z mymachine.example.com evntslog - ID47 '
   message+='[exampleSDID@32473 iut="3" eventSource="Application" eventID="1011"] An application event log entry...'
   (exec 3<> "/dev/tcp/127.0.0.1/$syslog" &&
@@ -394,7 +395,7 @@ by_syslog_bytes() {
   wanted+=',"_time":"2003-10-11T22:14:15.003Z","app_name":"evntslog","exampleSDID@32473.eventID":"1011",'
   wanted+='"exampleSDID@32473.eventSource":"Application","exampleSDID@32473.iut":"3","facility":"20",'
   wanted+='"format":"rfc5424","hostname":"mymachine.example.com","msg_id":"ID47","priority":"165","severity":"5"}'
-  comes_to "a counted message" 'app_name:="evntslog"' "$wanted"
+  comes_to "a message in a counted frame" 'app_name:="evntslog"' "$wanted"
   comes_to "a message on a line" 'app_name:="liner" | fields _msg, _time, proc_id, priority' \
     '{"_msg":"one\\two","_time":"2003-10-11T22:14:16Z","priority":"13","proc_id":"7"}'
 }
@@ -407,15 +408,15 @@ by_logger() {
   done
   timeout 20 logger --rfc5424 --tcp --octet-count -n 127.0.0.1 -P "$syslog" -t from-logger --id=42 \
     -p local0.warning --msgid M1 --sd-id 'made@32473' --sd-param 'by="a test"' 'counted by logger'
-  comes_to "logger, counted" 'app_name:="from-logger" counted | fields _msg, app_name, hostname, proc_id' \
+  comes_to "logger, in a counted frame" 'app_name:="from-logger" counted | fields _msg, app_name, hostname, proc_id' \
     "{\"_msg\":\"counted by logger\",\"app_name\":\"from-logger\",\"hostname\":\"$(uname -n)\",\"proc_id\":\"42\"}"
-  comes_to "logger, by its hostname" "hostname:=\"$(uname -n)\" counted | fields priority, msg_id, \"made@32473.by\"" \
+  comes_to "logger, found by its hostname" "hostname:=\"$(uname -n)\" counted | fields priority, msg_id, \"made@32473.by\"" \
     '{"made@32473.by":"a test","msg_id":"M1","priority":"132"}'
   timeout 20 logger --rfc5424 --tcp -n 127.0.0.1 -P "$syslog" -t from-logger 'a line of logger'
   comes_to "logger, on a line" 'app_name:="from-logger" line | fields _msg' '{"_msg":"a line of logger"}'
 }
 
-# sends NAME SENDER..: runs a daemon until 100 lines of it have come, and judges them
+# sends NAME SENDER..: starts a daemon and judges the 100 lines that it sends
 sends() {
   local name=$1 sender before=$failed
   shift
@@ -427,7 +428,7 @@ sends() {
   [ "$failed" = "$before" ] || head -n 5 "$work/log"
 }
 
-# quiet: ends the daemon that was started last
+# quiet: stops the daemon that was started last
 quiet() {
   kill "${senders[-1]}" 2> /dev/null
   wait "${senders[-1]}" 2> /dev/null
@@ -450,10 +451,10 @@ input(type="imfile" File="$folder/own" Tag="from-rsyslogd" Facility="local0" Sev
 input(type="imfile" File="$folder/documented" Tag="documented" ruleset="documented")
 CONF
   sends rsyslogd timeout 60 rsyslogd -n -i "$folder/pid" -f "$folder/conf"
-  # rsyslog's own template ends in a line feed, that of docs/SYSLOG.md does not
+  # rsyslog's own template ends with a line feed; drop-last-lf leaves it out
   comes_to "rsyslogd, its own template" 'app_name:="from-rsyslogd" "line 7 of" | fields _msg, facility, severity' \
     '{"_msg":"line 7 of rsyslog\n","facility":"16","severity":"5"}'
-  comes_to "rsyslogd as in docs/SYSLOG.md" 'app_name:="documented" "line 7 of" | fields _msg, hostname' \
+  comes_to "rsyslogd, a template with drop-last-lf" 'app_name:="documented" "line 7 of" | fields _msg, hostname' \
     "{\"_msg\":\"line 7 of rsyslog\",\"hostname\":\"$(uname -n)\"}"
   quiet
 }
@@ -475,16 +476,16 @@ log { source(s_lines); destination(d_lines); };
 CONF
   sends syslog-ng timeout 60 syslog-ng -F --no-caps -f "$folder/conf" -R "$folder/persist" -p "$folder/pid" \
     -c "$folder/control"
-  # both destinations end a message with a line feed, which a counted frame keeps
-  comes_to "syslog-ng, counted" 'app_name:="from-syslog-ng" "line 7 of" | fields _msg, hostname' \
+  # both destinations end a message with a line feed, which a counted frame keeps in the message
+  comes_to "syslog-ng, in counted frames" 'app_name:="from-syslog-ng" "line 7 of" | fields _msg, hostname' \
     "{\"_msg\":\"line 7 of syslog-ng\\n\",\"hostname\":\"$(uname -n)\"}"
   comes_to "syslog-ng, on lines" 'app_name:="on-lines" "line 7 of" | fields _msg, hostname' \
     "{\"_msg\":\"line 7 of syslog-ng\",\"hostname\":\"$(uname -n)\"}"
   quiet
 }
 
-# 64 connections to 4 workers post lines for 3 seconds. When wrk ends, at most one request of each connection has come
-# that it counts no answer to.
+# 64 connections to 4 workers post lines for 3 seconds. When wrk ends, each connection may have one request that the
+# server accepted and wrk did not count.
 by_wrk() {
   has "wrk" wrk || return
   start_server 4 || { judge "a server for wrk" none "one that answers"; return; }
@@ -509,7 +510,7 @@ function done(summary)
 end
 LUA
   timeout 30 wrk -t 2 -c 64 -d 3s -s "$work/wrk.lua" "http://127.0.0.1:$http/insert/jsonline" > "$work/out" 2>&1
-  judge "wrk: no errors of sockets but timeouts" "$(grep '^errors' "$work/out" || cat "$work/out")" \
+  judge "wrk: no socket errors except timeouts" "$(grep '^errors' "$work/out" || cat "$work/out")" \
     "errors 0 0 0, others 0"
   judge_rows_of_wrk
   stop_server
@@ -518,7 +519,7 @@ LUA
 judge_rows_of_wrk() {
   local ok=0 full=0 rows='' before=none
   read -r _ ok full <<< "$(grep '^counted' "$work/out" || echo counted 0 0)"
-  # those that wait at the listener come before this question, which is asked until nothing more comes
+  # connections that still wait are served before this query, which is repeated until the count stays the same
   for _ in {1..50}; do
     rows=$(ask '"from wrk" | stats count() as n' | sed 's/[^0-9]//g')
     [ "$rows" = "$before" ] && break
@@ -527,9 +528,9 @@ judge_rows_of_wrk() {
   done
   rows=${rows:-0}
   echo "wrk: $ok accepted, $full refused, $rows rows"
-  judge "wrk: each line that was accepted is a row, and no others are but those whose reply was not read" \
+  judge "wrk: every accepted line is a row, and at most 64 more are, whose replies wrk did not read" \
     "$((ok > 0 && rows >= ok && rows <= ok + 64))" 1
-  judge "wrk: 503 above 4,096 batches alone" "$((full == 0 || rows == 4096))" 1
+  judge "wrk: 503 only when 4,096 batches are held" "$((full == 0 || rows == 4096))" 1
 }
 
 by_filling() {
@@ -544,7 +545,7 @@ syslog ended"
   stop_server
 }
 
-# ends NAME STATUS ERROR WORDS..: the program ends by itself so, and writes nothing else
+# ends NAME STATUS ERROR WORDS..: judges a run that ends by itself: its status, and that it writes only this error
 ends() {
   local name=$1 status=$2 error=$3 got
   shift 3
@@ -556,12 +557,12 @@ ends() {
 by_words() {
   local usage='usage: pipe, load, query, trial or serve' address=127.0.0.1:$http
   ends "serve without an address" 2 "$usage" serve
-  ends "no workers" 2 "$usage" serve --http "$address" --workers 0
+  ends "0 workers" 2 "$usage" serve --http "$address" --workers 0
   ends "65 workers at one address" 2 "$usage" serve --http "$address" --workers 65
-  ends "33 workers at each of two" 2 "$usage" serve --http "$address" --syslog "$address" --workers 33
+  ends "33 workers at each of two addresses" 2 "$usage" serve --http "$address" --syslog "$address" --workers 33
   ends "an address twice" 2 "$usage" serve --http "$address" --http "$address"
   ends "a port in use" 7 "door fault" serve --http "$address"
-  ends "a port in use for both" 7 "door fault" serve --http "$address" --syslog "$address"
+  ends "the same port in use for both addresses" 7 "door fault" serve --http "$address" --syslog "$address"
   ends "an address without a port" 7 "door fault" serve --http 127.0.0.1
 }
 
@@ -578,7 +579,7 @@ if start_server 4 syslog; then
   by_words
   judge_slow_client
   stop_server
-  judge "a server that a signal ends" "$? $(cat "$work/server_out" "$work/server_err"; echo .)" "143 ."
+  judge "a server that SIGTERM stops" "$? $(cat "$work/server_out" "$work/server_err"; echo .)" "143 ."
   by_wrk
   by_filling
 else

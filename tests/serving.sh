@@ -1,8 +1,8 @@
-# Servers of the program, for scripts that try or time it. A script sources this file once it has set `program`, the
-# path of the program, and `work`, a folder of its own, and calls stop_servers when it exits.
+# Starts and stops servers of the program, for scripts that test or time it. A script sets `program`, the path of the
+# program, and `work`, a temporary folder, before it sources this file, and calls stop_servers when it exits.
 servers=()
 
-# free_port: sets port to one of this machine at which nobody listens, below those that the system gives out itself
+# free_port: sets port to a free port of this machine, below the range that the system hands out itself
 free_port() {
   for _ in {1..100}; do
     port=$((20000 + RANDOM % 12000))
@@ -11,20 +11,21 @@ free_port() {
   return 1
 }
 
-# exchange PORT BYTES: what comes back for these bytes, with the escapes of printf, until the connection ends
+# exchange PORT BYTES: sends these bytes (with escapes of printf) and prints what comes back until the connection ends
 exchange() {
   timeout 20 bash -c 'exec 3<> "/dev/tcp/127.0.0.1/$1" && printf %b "$2" >&3 && exec cat <&3' exchange "$1" "$2" \
     2> /dev/null
 }
 
-# is_healthy: whether the server that was started last answers, and takes syslog if it has an address for that
+# is_healthy: succeeds if the server that was started last answers, and accepts syslog connections if it has an address
+# for them
 is_healthy() {
   [[ "$(exchange "$http" 'GET /health HTTP/1.1\r\nConnection: close\r\n\r\n')" = *$'\r\nOK' ]] || return 1
   [ -z "$syslog" ] || (exec 3<> "/dev/tcp/127.0.0.1/$syslog") 2> /dev/null
 }
 
-# start_server WORKERS [syslog]: starts a server with so many workers an address and waits until it answers. Sets
-# server to its process, http to its port, and syslog to that for syslog or to nothing
+# start_server WORKERS [syslog]: starts a server with this number of workers at each address, and waits until it
+# answers. Sets server to its process id, http to its port, and syslog to its syslog port, if it has one
 start_server() {
   local words
   for _ in {1..5}; do
@@ -49,7 +50,7 @@ start_server() {
   return 1
 }
 
-# stop_server: ends the server that was started last, and returns its status
+# stop_server: stops the server that was started last, and returns its status
 stop_server() {
   local id=$server
   unset 'servers[-1]'
@@ -57,7 +58,7 @@ stop_server() {
   wait "$id" 2> /dev/null
 }
 
-# stop_servers: ends all servers
+# stop_servers: stops all servers
 stop_servers() {
   local id
   for id in "${servers[@]}"; do
@@ -67,7 +68,7 @@ stop_servers() {
   servers=()
 }
 
-# encoded TEXT: the text as a value of a form
+# encoded TEXT: prints the text as a form-encoded value
 encoded() {
   local LC_ALL=C text=$1 at byte
   for ((at = 0; at < ${#text}; at++)); do
@@ -79,7 +80,7 @@ encoded() {
   done
 }
 
-# ask QUERY: the records that it selects
+# ask QUERY: prints the records of a query
 ask() {
   local body
   body=query=$(encoded "$1")

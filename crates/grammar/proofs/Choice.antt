@@ -1,4 +1,4 @@
--- What holds of a choice by the next token, and of a repetition.
+-- Choices by the next token, and repetitions.
 use Rattle.std.proofs.Common.{◌≡◌, ℕ, zero, suc, ◌<◌, ◌≤◌, Bool, true, false, cond, List, [], ◌∷◌, ◌++◌, length}
 use Rattle.std.proofs.Common.{Option, Ok, Err, refl, sym, ap, ◌∙◌, ◌⊎◌, inl, inr, arith}
 use Rattle.std.proofs.lemmas.Bool.{cond-true, cond-false}
@@ -18,7 +18,7 @@ choice k r s u = cond (next k u) (r u) (s u)
 abbrev pub Choice : {X F A : Type 0} → Span X F A → Span X F A → Span X F A
 Choice P Q o u w = P o u w ⊎ Q o u w
 
--- a front that is not empty, or where nothing was taken the same token, decides the same
+-- the next token stays the same if the prefix is not empty, or if it is empty and the same token follows
 module _ {X F A : Type 0} (k : Class) (r s : Reader X F A) (P Q : Span X F A) (c d : Class) (can : Bool)
     (some : (u : List (Token X)) (x : A) (w : List (Token X)) → r u ≡ Ok (x, w) → length w < length u)
     (null : (u : List (Token X)) (x : A) → s u ≡ Ok (x, u) → can ≡ true) where
@@ -33,7 +33,7 @@ module _ {X F A : Type 0} (k : Class) (r s : Reader X F A) (P Q : Span X F A) (c
   in_right w other (inl h) = inl h
   in_right w other (inr h) = inr (out_left d (cond can k []) other (out_right c (d ++ cond can k []) other h))
 
-  -- the first token of what was taken, or of what follows where nothing was
+  -- the first token that was read, or the next token if none was read
   decides_some : (text w other : List (Token X)) (u : List (Token X)) → u ≡ text ++ w → length w < length u
       → next k (text ++ other) ≡ next k u
   decides_some [] w other u e less = absurd (omega (arith, less, ap length e))
@@ -124,7 +124,7 @@ module _ {X F A : Type 0} (k : Class) (r s : Reader X F A) (P Q : Span X F A) (c
       by_test true e left right = by_left (r u) refl e (left e)
       by_test false e left right = by_right (s u) refl e (right e)
 
--- ---- as long as there is one more
+-- ---- repetitions
 
 abbrev pub all_at : {X F A : Type 0} → Class → Reader X F A → Reader X F (List A)
 all_at k r u = series_at k r (length u) u
@@ -190,7 +190,7 @@ module _ {X F A : Type 0} (k : Class) (r : Reader X F A)
       turn (Ok x) e = ap (λ (a : Answer X F (List A)). a >>= λ xs. Ok (x.0 ∷ xs.0, xs.1))
           (enough (length ts) (length x.1) x.1 (omega (arith, some (t ∷ ts) x.0 x.1 e)) (omega arith))
 
-  -- what is taken is a before
+  -- what is read is a before
   series_shorter : (n : ℕ) (u : List (Token X)) → length u ≤ n → (xs : List A) (w : List (Token X))
       → all_at k r u ≡ Ok (xs, w) → length w ≤ length u
   series_shorter zero [] h xs w e = omega (arith, ap length (rest_is [] xs [] w e))

@@ -1,16 +1,16 @@
--- What is spelled is read.
+-- Completeness: the parser reads every text that a rule spells.
 use Rattle.std.proofs.Common.{◌≡◌, ℕ, zero, suc, ◌<◌, ◌≤◌, Bool, true, false, not, ◌&&◌, ◌||◌, cond, List, [], ◌∷◌}
 use Rattle.std.proofs.Common.{◌++◌, length, Result, Ok, Err, refl, sym, ap, ◌∙◌, subst, ◌⊎◌, inl, inr, arith}
 use Rattle.std.proofs.lemmas.Bool.{and_parts, cond-true, cond-false, and_from}
 use Rattle.grammar.specs.Rule.{Token}
 use Rattle.grammar.specs.Rule.{Class, next, has, Rule, empty, one, unless, both, either, many, checked, deeper}
-use Rattle.grammar.specs.Spelling.{Outcome, all, judged, place, Span, Series, Spelled, ◌>>=◌}
-use Rattle.grammar.specs.Reading.{nullable, first, stuck, flawed, Reader, Answer, one_at, series_at, passes, read}
+use Rattle.grammar.specs.Spelling.{Outcome, all, outcome_at, place, Span, Series, Spelled, ◌>>=◌}
+use Rattle.grammar.specs.Reading.{nullable, first, stuck, flawed, Reader, Answer, one_at, series_at, check_value, read}
 use Rattle.grammar.proofs.Sets.{or_left, or_right, in_left, in_right, out_left, out_right, apart, apart_back}
 use Rattle.grammar.proofs.Sets.{not_both, not_true, without, out_without}
 use Rattle.grammar.proofs.Table.{bar, more, none, fits}
 
--- It takes tokens, the first of which is of this class, or it takes none and may.
+-- It reads tokens, the first of which is in this class, or it reads none and is nullable.
 abbrev pub Begins : {X : Type 0} → Class → Bool → List (Token X) → List (Token X) → Type 0
 Begins class can u w = ((length w < length u) × (next class u ≡ true)) ⊎ ((can ≡ true) × (u ≡ w))
 
@@ -24,12 +24,12 @@ pub takes_some : {X : Type 0} → (class : Class) (can : Bool) (u w : List (Toke
 takes_some class can u w never (inl h) = h
 takes_some class can u w never (inr h) = absurd (not_both can h.0 never)
 
--- what is read where the outcome is this
+-- what the parser reads for this outcome
 abbrev pub answer : {X F A : Type 0} → List (Token X) → Outcome F A → Answer X F A
 answer w (Ok x) = Ok (x, w)
 answer w (Err flaw) = Err (flawed flaw.0 flaw.1)
 
--- the outcome of one after the other
+-- the outcome of a sequence
 answer_both : {X F A B C : Type 0} (f : A → B → C) (m w : List (Token X)) (next_one : Reader X F B) (p : Outcome F A)
     (q : Outcome F B) → next_one m ≡ answer w q
     → (answer m p >>= λ x. next_one x.1 >>= λ y. Ok (f x.0 y.0, y.1)) ≡ answer w (p >>= λ x. q >>= λ y. Ok (f x y))
@@ -47,10 +47,10 @@ answer_made f w (Ok x) = refl
 answer_made f w (Err flaw) = refl
 
 answer_checked : {X F A B : Type 0} (f : A → Result B F) (at : ℕ) (w : List (Token X)) (p : Outcome F A)
-    → (answer w p >>= λ x. passes at x.1 (f x.0)) ≡ answer w (p >>= λ x. judged (f x) at)
+    → (answer w p >>= λ x. check_value at x.1 (f x.0)) ≡ answer w (p >>= λ x. outcome_at (f x) at)
 answer_checked {X} {F} {A} {B} f at w (Ok x) = by_case (f x)
   where
-    by_case : (r : Result B F) → passes at w r ≡ answer w (judged r at)
+    by_case : (r : Result B F) → check_value at w r ≡ answer w (outcome_at r at)
     by_case (Ok y) = refl
     by_case (Err flaw) = refl
 answer_checked f at w (Err flaw) = refl
@@ -108,7 +108,7 @@ module _ {X F N V : Type 0} (heads : N → Class) (inner : N → Span X F V)
   begins (checked f a) r u w (p, s, is) = begins a p u w s
   begins (deeper n f) r u w (x, s, is) = inl (starts n x u w s)
 
-  -- what bars a token where nothing was taken
+  -- the tokens that may not follow if nothing was read
   pub barred : {A : Type 0} (e : Rule X F N V A) (r : Outcome F A) (u w : List (Token X)) → Spelled inner e r u w
       → u ≡ w → next (bar e) w ≡ false
   barred (empty x) r u w s same = next_none w
@@ -129,7 +129,7 @@ module _ {X F N V : Type 0} (heads : N → Class) (inner : N → Span X F V)
   barred (checked f a) r u w (p, s, is) same = barred a p u w s same
   barred (deeper n f) r u w s same = next_none w
 
-  -- ---- with a reader of the names
+  -- ---- with a parser of the names
 
   module _ (ends : N → Class) (by_name : N → Reader X F V)
       (known : (n : N) (r : Outcome F V) (u w : List (Token X)) → inner n r u w → next (ends n) w ≡ false
@@ -137,7 +137,7 @@ module _ {X F N V : Type 0} (heads : N → Class) (inner : N → Span X F V)
     abbrev Last : {A : Type 0} → Rule X F N V A → Class
     Last e = more false heads ends e
 
-    -- what may be empty, and is, leaves what may follow as it was
+    -- a nullable rule that reads nothing leaves the tokens that may follow unchanged
     clear_before : {A B : Type 0} (a : Rule X F N V A) (b : Rule X F N V B) (m w : List (Token X))
         → apart (Last a) (first heads b) ≡ true → next (Last b ++ cond (nullable b) (without (bar b) (Last a)) [])
         w ≡ false → (m ≡ w → next (bar b) w ≡ false) → Begins (first heads b) (nullable b) m w → next (Last a) m ≡ false
@@ -244,7 +244,7 @@ module _ {X F N V : Type 0} (heads : N → Class) (inner : N → Span X F V)
         (complete_series a (not_true (nullable a) t'.0) t'.1 (complete a t.0) xs u w s clear (length u) (omega arith))
         ∙ answer_made f w (all xs) ∙ ap (answer w) (sym is)
     complete (checked {A} f a) fit r u w (p, s, is) clear =
-        ap (λ (r : Answer X F A). r >>= λ x. passes (place u) x.1 (f x.0))
+        ap (λ (r : Answer X F A). r >>= λ x. check_value (place u) x.1 (f x.0))
         (complete a (and_parts (fits heads ends a) (not (nullable a) && none (Last a)) fit).0 p u w s clear)
         ∙ answer_checked f (place u) w p ∙ ap (answer w) (sym is)
     complete (deeper {A} n f) fit r u w (x, s, is) clear =

@@ -1,11 +1,11 @@
--- The first of the flaws of a text is the one that reading comes to.
+-- The parser reports the first flaw of a text.
 use Rattle.std.proofs.Common.{◌≡◌, ℕ, zero, suc, ◌<◌, ◌≤◌, true, false, cond, List, [], ◌∷◌, ◌++◌}
 use Rattle.std.proofs.Common.{length, Result, Ok, Err, refl, sym, ap, ◌∙◌, subst, ◌⊎◌, inl, inr, arith, append_assoc}
 use Rattle.std.proofs.lemmas.Bool.{cond-true, cond-false}
 use Rattle.grammar.specs.Rule.{Token, Class, next, has, Rule}
 use Rattle.grammar.specs.Rule.{empty, one, unless, both, either, many, checked, deeper}
 use Rattle.grammar.specs.Spelling.{Flaw, refused, Outcome, all, place, Span, Series, Spelled, ◌>>=◌, FlawsOf, FlawIn}
-use Rattle.grammar.specs.Reading.{nullable, first, stuck, flawed, Reader, Answer, series_at, passes, read}
+use Rattle.grammar.specs.Reading.{nullable, first, stuck, flawed, Reader, Answer, series_at, check_value, read}
 use Rattle.grammar.proofs.Sets.{in_left, in_right, apart, apart_back}
 use Rattle.grammar.proofs.Table.{none}
 use Rattle.grammar.proofs.Parts.{Fits, Last, both_fits, either_fits, many_fits, checked_fits}
@@ -20,7 +20,7 @@ stopped flaw = Err (flawed flaw.0 flaw.1)
 abbrev given : {X F A : Type 0} → A → List (Token X) → Answer X F A
 given x w = Ok (x, w)
 
--- what reading one thing and then another stops at
+-- where the parser stops in a sequence
 bind_err : {A B E : Type 0} (r : Result A E) (f : A → Result B E) (stop : E) → (r >>= f) ≡ Err stop
     → (r ≡ Err stop) ⊎ ((x : A) × (r ≡ Ok x) × (f x ≡ Err stop))
 bind_err (Ok x) f stop e = inr (x, refl, e)
@@ -36,12 +36,12 @@ pub same_flaw : {X F A : Type 0} (one other : Flaw F × ℕ) → stopped {X = X}
 same_flaw (a, m) (b, n) e = let p : a ≡ b = cc in let q : m ≡ n = cc in ap (λ x. (x, m)) p ∙ ap (λ k. (b, k)) q
 
 passes_err : {X F B : Type 0} (at : ℕ) (w : List (Token X)) (r : Result B F) (flaw : Flaw F × ℕ)
-    → passes at w r ≡ stopped flaw → (reason : F) × (r ≡ Err reason) × (flaw ≡ (refused reason, at))
+    → check_value at w r ≡ stopped flaw → (reason : F) × (r ≡ Err reason) × (flaw ≡ (refused reason, at))
 passes_err at w (Ok y) flaw e = absurd (not_given y w flaw e)
 passes_err {X} {F} {B} at w (Err reason) flaw e =
     (reason, refl, sym (same_flaw {X = X} {A = B} (refused reason, at) flaw e))
 
--- ---- what is read has the flaw
+-- ---- the text has the flaw that the parser reports
 
 module _ {X F N V : Type 0} (heads : N → Class) (inner : N → Span X F V) (deep : N → FlawsOf X F)
     (by_name : N → Reader X F V)
@@ -164,7 +164,7 @@ module _ {X F N V : Type 0} (heads : N → Class) (inner : N → Span X F V) (de
       by_case (inl h) behind = behind h
       by_case (inr h) behind = absurd (not_given (f h.0.0) h.0.1 flaw h.2)
   sound_flaw (checked {A} {B} f a) flaw u e =
-      by_case (bind_err (read heads by_name a u) (λ x. passes (place u) x.1 (f x.0)) (flawed flaw.0 flaw.1) e)
+      by_case (bind_err (read heads by_name a u) (λ x. check_value (place u) x.1 (f x.0)) (flawed flaw.0 flaw.1) e)
       (sound_flaw a)
     where
       by_value : (x : A) (w : List (Token X)) → read heads by_name a u ≡ Ok (x, w)
@@ -173,7 +173,8 @@ module _ {X F N V : Type 0} (heads : N → Class) (inner : N → Span X F V) (de
       by_value x w was (reason, is, same) = inr (x, reason, w, sound_of a x u w was, is, same)
 
       by_case : (read heads by_name a u ≡ stopped flaw)
-          ⊎ ((x : A × List (Token X)) × (read heads by_name a u ≡ Ok x) × (passes (place u) x.1 (f x.0) ≡ stopped flaw))
+          ⊎ ((x : A × List (Token X)) × (read heads by_name a u ≡ Ok x)
+          × (check_value (place u) x.1 (f x.0) ≡ stopped flaw))
           → SoundFlaw a → FlawIn inner deep (checked f a) flaw u
       by_case (inl h) here = inl (here flaw u h)
       by_case (inr h) here = by_value h.0.0 h.0.1 h.1 (passes_err (place u) h.0.1 (f h.0.0) flaw h.2)
@@ -185,9 +186,9 @@ module _ {X F N V : Type 0} (heads : N → Class) (inner : N → Span X F V) (de
       by_case (inl h) = flaw_name n flaw u h
       by_case (inr h) = absurd (not_given (f h.0.0) h.0.1 flaw h.2)
 
--- ---- what has a flaw is read so, or another one before it
+-- ---- the parser reports a flaw of the text, or another one before it
 
--- the place of the first stands before that of the other
+-- the first flaw is before the other one
 pub record Behind {X : Type 0} (u : List (Token X)) (here there : ℕ) : Type 0 where
   pub front : List (Token X)
   pub rest : List (Token X)
@@ -195,12 +196,12 @@ pub record Behind {X : Type 0} (u : List (Token X)) (here there : ℕ) : Type 0 
   pub here_in : PlaceIn here front
   pub there_in : PlaceIn there rest
 
--- what is read stops at this flaw, or at one before it
+-- the parser stops at this flaw, or at one before it
 abbrev pub StopsAt : {X F A : Type 0} → Answer X F A → Flaw F × ℕ → List (Token X) → Type 0
 StopsAt {X} {F} answer flaw u =
     (first : Flaw F × ℕ) × (answer ≡ stopped first) × ((first ≡ flaw) ⊎ Behind u first.1 flaw.1)
 
--- the same behind other tokens
+-- the same after other tokens
 pub later : {X F : Type 0} (here there : Flaw F × ℕ) (u front m : List (Token X)) → u ≡ front ++ m
     → (here ≡ there) ⊎ Behind m here.1 there.1 → (here ≡ there) ⊎ Behind u here.1 there.1
 later here there u front m parts (inl same) = inl same
@@ -226,7 +227,7 @@ module _ {X F N V : Type 0} (heads : N → Class) (inner : N → Span X F V) (de
       → Begins (first heads a) (nullable a) u w
   begins_of a r u w s = begins heads inner starts a r u w s
 
-  -- its tokens begin with one that the rule begins with
+  -- its first token is one of the rule's first tokens
   flaw_begins : {A : Type 0} (e : Rule X F N V A) → Fits heads ends e → (flaw : Flaw F × ℕ) (u : List (Token X))
       → FlawIn inner deep e flaw u → next (first heads e) u ≡ true
   flaw_begins (empty x) fit flaw u s = absurd s
@@ -269,7 +270,7 @@ module _ {X F N V : Type 0} (heads : N → Class) (inner : N → Span X F V) (de
       → FlawIn inner deep a flaw u → PlaceIn flaw.1 u
   stands_of a fit flaw u s = flaw_stands heads inner ends starts span_name deep flaw_name a fit flaw u s
 
-  -- a flaw of what is spelled stands before what follows
+  -- a flaw of a text of the rule is before what follows that text
   spelled_before : {A : Type 0} (u m : List (Token X)) (flaw : Flaw F × ℕ) (other : ℕ)
       → Spans {A = A} (Err flaw) u m → PlaceIn other m → Behind u flaw.1 other
   spelled_before u m flaw other s p =
@@ -284,7 +285,7 @@ module _ {X F N V : Type 0} (heads : N → Class) (inner : N → Span X F V) (de
     Completes a = (flaw : Flaw F × ℕ) (u : List (Token X)) → FlawIn inner deep a flaw u
         → StopsAt (read heads by_name a u) flaw u
 
-    -- what stands before another thing
+    -- a place before another one
     before_next : {A : Type 0} (a : Rule X F N V A) → Fits heads ends a → (c : Class)
         → apart (Last heads ends a) c ≡ true → (p : Outcome F A) (u m : List (Token X)) → Spelled inner a p u m
         → next c m ≡ true
@@ -293,7 +294,7 @@ module _ {X F N V : Type 0} (heads : N → Class) (inner : N → Span X F V) (de
         complete heads inner starts ends by_name known a fit p u m s
         (apart_back (Last heads ends a) c m test is)
 
-    -- what is made of what was read stops where that stops
+    -- a function of a value stops where reading the value stops
     stops_then : {A B : Type 0} (r : Answer X F A) (f : A × List (Token X) → Answer X F B) (flaw : Flaw F × ℕ)
         (u : List (Token X)) → StopsAt r flaw u → StopsAt (r >>= f) flaw u
     stops_then {A} r f flaw u (first, is, comes) = (first, ap (λ (a : Answer X F A). a >>= f) is, comes)
@@ -422,7 +423,7 @@ module _ {X F N V : Type 0} (heads : N → Class) (inner : N → Span X F V) (de
         stops_then (series_at (first heads a) (read heads by_name a) (length u) u) (λ xs. Ok (f xs.0, xs.1)) flaw u
         (flaw_series a k.0 k.1 k.2 (complete_flaw a k.0) xs m flaw behind u s (length u) (omega arith))
     complete_flaw (checked {A} f a) fit flaw u (inl s) =
-        stops_then (read heads by_name a u) (λ x. passes (place u) x.1 (f x.0)) flaw u
+        stops_then (read heads by_name a u) (λ x. check_value (place u) x.1 (f x.0)) flaw u
         (complete_flaw a (checked_fits heads ends a fit).0 flaw u s)
     complete_flaw (checked {A} {B} f a) fit flaw u (inr (x, reason, w, s, is, same)) =
         let k = checked_fits heads ends a fit in
@@ -430,7 +431,7 @@ module _ {X F N V : Type 0} (heads : N → Class) (inner : N → Span X F V) (de
         complete heads inner starts ends by_name known a k.0 (Ok x) u w s
         (none_next (Last heads ends a) w k.2) in (
           flaw,
-          ap (λ (r : Answer X F A). r >>= λ x. passes (place u) x.1 (f x.0)) whole ∙ ap (passes (place u) w) is
+          ap (λ (r : Answer X F A). r >>= λ x. check_value (place u) x.1 (f x.0)) whole ∙ ap (check_value (place u) w) is
               ∙ ap (λ (k : Flaw F × ℕ). stopped k) (sym same),
           inl refl,
         )

@@ -1,13 +1,13 @@
--- What holds of each reader: only the tokens up to the next one matter, and where it stops some text of its kind goes
--- on.
+-- What each parser satisfies: only the tokens up to the next one matter, and some text of the rule continues where it
+-- stops.
 use Rattle.std.proofs.Common.{◌≡◌, ℕ, ◌<◌, Bool, true, false, cond, List, [], ◌∷◌, ◌++◌, length, Option, Some, None}
 use Rattle.std.proofs.Common.{Result, Ok, Err, refl, sym, ap, ◌∙◌, subst, ◌⊎◌, inl, inr, arith, append_assoc}
 use Rattle.std.proofs.lemmas.Bool.{cond-true}
 use Rattle.grammar.specs.Rule.{Token}
 use Rattle.grammar.specs.Spelling.{Flaw, refused}
 use Rattle.grammar.specs.Rule.{Class, next, has}
-use Rattle.grammar.specs.Spelling.{SameHead, Outcome, judged, place, Span, ◌>>=◌}
-use Rattle.grammar.specs.Reading.{Stop, stuck, flawed, Reader, Answer, passes}
+use Rattle.grammar.specs.Spelling.{SameHead, Outcome, outcome_at, place, Span, ◌>>=◌}
+use Rattle.grammar.specs.Reading.{Stop, stuck, flawed, Reader, Answer, check_value}
 use Rattle.grammar.proofs.Sets.{out_left, out_right}
 
 pub same_itself : {X : Type 0} → (u : List (Token X)) → SameHead u u
@@ -30,7 +30,7 @@ same_place [] (y ∷ b) h = absurd h
 same_place (x ∷ a) [] h = absurd h
 same_place {X} (x ∷ a) (y ∷ b) h = ap (λ (t : Token X). t.place) h
 
--- what may stand in the place of the rest
+-- what may replace the rest
 abbrev pub Near : {X : Type 0} → Class → List (Token X) → List (Token X) → Type 0
 Near c w other = SameHead w other ⊎ (next c other ≡ false)
 
@@ -81,7 +81,7 @@ module _ {X F A : Type 0} (r : Reader X F A) (P : Span X F A) (c : Class) (u : L
     pub parts : u ≡ text ++ w
     pub again : (other : List (Token X)) → Near c w other → r (text ++ other) ≡ Ok (x, other)
 
-  -- some text begins so, whatever may follow it, and has this first flaw, if one is named
+  -- some text begins like this, with anything that may follow, and has this first flaw, if one is given
   pub record Begun (flaw : Option (Flaw F × ℕ)) (text : List (Token X)) : Type 0 where
     pub head : Token X
     pub tail : List (Token X)
@@ -90,7 +90,7 @@ module _ {X F A : Type 0} (r : Reader X F A) (P : Span X F A) (c : Class) (u : L
     pub spelled : (w : List (Token X)) → next c w ≡ false → (o : Outcome F A) × FlawIs flaw o
         × P o (text ++ (rest ++ w)) w
 
-  -- nothing was taken, or some text begins so; an item that has the flaw was taken
+  -- nothing was read, or some text begins like this; an item with the flaw was read
   abbrev pub Viable : Stop F → List (Token X) → Type 0
   Viable (stuck n) text = (text ≡ []) ⊎ Begun None text
   Viable (flawed flaw at) text = Begun (Some (flaw, at)) text × PlaceIn at text
@@ -106,7 +106,7 @@ module _ {X F A : Type 0} (r : Reader X F A) (P : Span X F A) (c : Class) (u : L
   GoodAt (Ok x) = Goes x.0 x.1
   GoodAt (Err stop) = Halts stop
 
--- the same of a text that this one ends
+-- the same for a text that ends with this one
 pub viable_as : {X F A B : Type 0} (r : Reader X F A) (P : Span X F A) (c : Class) (u : List (Token X))
     (s : Reader X F B) (Q : Span X F B) (d : Class) (v : List (Token X)) (text longer : List (Token X))
     → (text ≡ [] → (longer ≡ []) ⊎ Begun s Q d v None longer)
@@ -117,7 +117,7 @@ viable_as r P c u s Q d v text longer none some place (stuck n) (inl h) = none h
 viable_as r P c u s Q d v text longer none some place (stuck n) (inr h) = inr (some None h)
 viable_as r P c u s Q d v text longer none some place (flawed flaw at) h = (some (Some (flaw, at)) h.0, place at h.1)
 
--- ---- the same reader in other words, for more texts
+-- ---- an equal parser, for more texts
 
 module _ {X F A : Type 0} (r s : Reader X F A) (P Q : Span X F A) (c d : Class)
     (same : (u : List (Token X)) → s u ≡ r u) (more : (o : Outcome F A) (u w : List (Token X)) → P o u w → Q o u w)
@@ -157,17 +157,17 @@ module _ {X F A : Type 0} (r s : Reader X F A) (P Q : Span X F A) (c d : Class)
             viable_as r P c u s Q d u g.text g.text inl (wider_begun u g.text) (λ at p. p) stop g.viable;
       }
 
--- ---- a value that is checked
+-- ---- checked values
 
 abbrev pub IsErr : {A E : Type 0} → Result A E → Type 0
 IsErr (Ok x) = ⊥
 IsErr (Err e) = Unit {0}
 
 abbrev pub checks : {X F A B : Type 0} → (A → Result B F) → Reader X F A → Reader X F B
-checks f r u = r u >>= λ x. passes (place u) x.1 (f x.0)
+checks f r u = r u >>= λ x. check_value (place u) x.1 (f x.0)
 
 abbrev pub Checked : {X F A B : Type 0} → (A → Result B F) → Span X F A → Span X F B
-Checked {X} {F} {A} f P o u w = (p : Outcome F A) × P p u w × (o ≡ (p >>= λ x. judged (f x) (place u)))
+Checked {X} {F} {A} f P o u w = (p : Outcome F A) × P p u w × (o ≡ (p >>= λ x. outcome_at (f x) (place u)))
 
 module _ {X F A B : Type 0} (f : A → Result B F) (r : Reader X F A) (P : Span X F A) (c : Class)
     (sound : (u : List (Token X)) (x : A) (w : List (Token X)) → r u ≡ Ok (x, w) → P (Ok x) u w)
@@ -183,10 +183,10 @@ module _ {X F A B : Type 0} (f : A → Result B F) (r : Reader X F A) (P : Span 
       spelled = λ w clear.
           let o = h.spelled w clear in
           let at = place (text ++ (h.rest ++ w)) in
-          ((o.0 >>= λ x. judged (f x) at), still_flawed flaw o.0 (λ x. judged (f x) at) o.1, (o.0, o.2, refl));
+          ((o.0 >>= λ x. outcome_at (f x) at), still_flawed flaw o.0 (λ x. outcome_at (f x) at) o.1, (o.0, o.2, refl));
     }
 
-    -- where all of it was read, and its value has a flaw
+    -- all of it was read, and its value has a flaw
     whole_begun : (u text : List (Token X)) (x : A) (w : List (Token X)) (reason : F) → f x ≡ Err reason
         → u ≡ text ++ w → length w < length u → ((w : List (Token X)) → next c w ≡ false → r (text ++ w) ≡ Ok (x, w))
         → Viable (checks f r) (Checked f P) c u (flawed (refused reason) (place u)) text
@@ -199,8 +199,8 @@ module _ {X F A B : Type 0} (f : A → Result B F) (r : Reader X F A) (P : Span 
         rest = [];
         spelled =
             λ w clear. (
-              judged (f x) t.place,
-              ap (λ (q : Result B F). judged q t.place) e
+              outcome_at (f x) t.place,
+              ap (λ (q : Result B F). outcome_at q t.place) e
                   ∙ ap (λ (at : ℕ). Err (refused reason, at)) (sym (ap place parts)),
               (Ok x, sound ((t ∷ ts) ++ w) x w (again w clear), refl),
             );
@@ -213,20 +213,20 @@ module _ {X F A B : Type 0} (f : A → Result B F) (r : Reader X F A) (P : Span 
     good_checked u good = by_case (r u) refl good
       where
         by_value : (x : A) (w : List (Token X)) → r u ≡ Ok (x, w) → Goes r P c u x w → (q : Result B F) → f x ≡ q
-            → GoodAt (checks f r) (Checked f P) c u (passes (place u) w q)
+            → GoodAt (checks f r) (Checked f P) c u (check_value (place u) w q)
         by_value x w was g (Ok y) e = record {
           text = g.text;
           parts = g.parts;
           again =
-              λ other near. ap (λ (a : Answer X F A). a >>= λ x. passes (place (g.text ++ other)) x.1 (f x.0))
-              (g.again other near) ∙ ap (passes (place (g.text ++ other)) other) e;
+              λ other near. ap (λ (a : Answer X F A). a >>= λ x. check_value (place (g.text ++ other)) x.1 (f x.0))
+              (g.again other near) ∙ ap (check_value (place (g.text ++ other)) other) e;
         }
         by_value x w was g (Err reason) e = record {
           text = g.text;
           left = w;
           parts = g.parts;
-          again = λ other same. ap (λ (a : Answer X F A). a >>= λ x. passes (place (g.text ++ other)) x.1 (f x.0))
-              (g.again other (inl same)) ∙ ap (passes (place (g.text ++ other)) other) e
+          again = λ other same. ap (λ (a : Answer X F A). a >>= λ x. check_value (place (g.text ++ other)) x.1 (f x.0))
+              (g.again other (inl same)) ∙ ap (check_value (place (g.text ++ other)) other) e
               ∙ ap (λ (at : ℕ). Err (flawed (refused reason) at))
               (sym (same_place (g.text ++ w) (g.text ++ other) (same_behind g.text w other same))
               ∙ ap place (sym g.parts));
@@ -235,20 +235,20 @@ module _ {X F A B : Type 0} (f : A → Result B F) (r : Reader X F A) (P : Span 
         }
 
         by_case : (a : Answer X F A) → r u ≡ a → GoodAt r P c u a
-            → GoodAt (checks f r) (Checked f P) c u (a >>= λ x. passes (place u) x.1 (f x.0))
+            → GoodAt (checks f r) (Checked f P) c u (a >>= λ x. check_value (place u) x.1 (f x.0))
         by_case (Ok x) was g = by_value x.0 x.1 was g (f x.0) refl
         by_case (Err stop) was g = record {
           text = g.text;
           left = g.left;
           parts = g.parts;
           again =
-              λ other same. ap (λ (a : Answer X F A). a >>= λ x. passes (place (g.text ++ other)) x.1 (f x.0))
+              λ other same. ap (λ (a : Answer X F A). a >>= λ x. check_value (place (g.text ++ other)) x.1 (f x.0))
               (g.again other same);
           viable = viable_as r P c u (checks f r) (Checked f P) c u g.text g.text inl
               (checked_begun u g.text) (λ at p. p) stop g.viable;
         }
 
--- ---- one after the other
+-- ---- sequences
 
 abbrev pub in_turn : {X F A B C : Type 0} → (A → B → C) → Reader X F A → Reader X F B → Reader X F C
 in_turn f r s u = r u >>= λ x. s x.1 >>= λ y. Ok (f x.0 y.0, y.1)
@@ -272,12 +272,12 @@ module _ {X F A B C : Type 0} (f : A → B → C) (r : Reader X F A) (P : Span X
   abbrev pair : Outcome F A → Outcome F B → Outcome F C
   pair o q = o >>= λ x. q >>= λ y. Ok (f x y)
 
-  -- the second is read from here on
+  -- the second rule starts here
   near_second : (w other : List (Token X)) → Near Joint w other → Near d w other
   near_second w other (inl h) = inl h
   near_second w other (inr h) = inr (out_left d (cond can c []) other h)
 
-  -- what stands behind the first, if the second took this text
+  -- what follows the first rule if the second one read this text
   near_first : (text m w other : List (Token X)) → m ≡ text ++ w → (text ≡ [] → can ≡ true) → Near Joint w other
       → Near c m (text ++ other)
   near_first (t ∷ ts) m w other e is near =
@@ -286,7 +286,7 @@ module _ {X F A B C : Type 0} (f : A → B → C) (r : Reader X F A) (P : Span X
   near_first [] m w other e is (inr h) = inr (ap (λ (k : Class). next k other) (sym (cond-true can c [] (is refl)))
       ∙ out_right d (cond can c []) other h)
 
-  -- the first was read, and the second stopped where it began
+  -- the first rule was read, and the second one stopped at its start
   begun_between : (u text : List (Token X)) (x : A) (m : List (Token X)) → (g : Goes r P c u x m) → text ≡ []
       → (g.text ++ text ≡ []) ⊎ Begun (in_turn f r s) (InTurn f P Q) Joint u None (g.text ++ text)
   begun_between u text x m g none = go g.text (λ w clear. g.again w (inr clear)) none

@@ -1,4 +1,4 @@
--- What holds of the readers of the names, and of a whole text.
+-- The parsers of names, and of whole texts.
 use Rattle.std.proofs.Common.{◌≡◌, ℕ, zero, suc, ◌+◌, ◌<◌, ◌≤◌, Bool, true, false, not, ◌&&◌, cond, List, [], ◌∷◌}
 use Rattle.std.proofs.Common.{◌++◌, length, Option, Some, None, Result, Ok, Err, refl, sym, ap, ◌∙◌, subst, ◌⊎◌, inl}
 use Rattle.std.proofs.Common.{inr, arith}
@@ -10,7 +10,7 @@ use Rattle.grammar.specs.Spelling.{too_deep}
 use Rattle.grammar.specs.Rule.{Class, next, has, Grammar, Rule, empty, one, unless, both, either, many, checked, deeper}
 use Rattle.grammar.specs.Spelling.{SameHead, Outcome, place, Span, Series, Spelled, Opened, Within, Named, ◌>>=◌}
 use Rattle.grammar.specs.Spelling.{Spells, IsStuck}
-use Rattle.grammar.specs.Reading.{nullable, first, Stop, stuck, flawed, Reader, Answer, read, reads, end_at, whole}
+use Rattle.grammar.specs.Reading.{nullable, first, Stop, stuck, flawed, Reader, Answer, read, read_name, end_at, whole}
 use Rattle.grammar.specs.Reading.{as_read}
 use Rattle.grammar.proofs.Sets.{inside, outside_next}
 use Rattle.grammar.proofs.Table.{more, fits, least, plain, solid}
@@ -19,7 +19,7 @@ use Rattle.grammar.proofs.Sound.{sound, taken, rest_is, chosen}
 use Rattle.grammar.proofs.Good.{same_itself, PlaceIn, Goes, Begun, GoodAt, good_as, FlawIs}
 use Rattle.grammar.proofs.Rules.{completes, good}
 
--- This is the place of a token up to which some text begins so.
+-- The place of a token before which the text is a prefix of some text of the rule.
 pub record IsReached {X F A : Type 0} (S : Outcome F A → List (Token X) → Type 0) (u : List (Token X))
     (at : ℕ) : Type 0 where
   pub before : List (Token X)
@@ -28,7 +28,7 @@ pub record IsReached {X F A : Type 0} (S : Outcome F A → List (Token X) → Ty
   pub inside : PlaceIn at before
   pub begins : (more : List (Token X)) × (r : Outcome F A) × S r (before ++ more)
 
--- what an answer to a whole text says of it
+-- what the result for a whole text tells about the text
 abbrev pub Answers : {X F A : Type 0} → (Outcome F A → List (Token X) → Type 0) → List (Token X) → Result A (Stop F)
     → Type 0
 Answers S u (Ok x) = S (Ok x) u
@@ -38,7 +38,7 @@ Answers S u (Err (flawed flaw at)) = IsReached S u at
 abbrev grammar_of : {X F N V : Type 0} → (N → Class) → (N → Rule X F N V V) → Grammar X F N V
 grammar_of heads rules = record { heads = heads; rules = rules }
 
--- ---- more names
+-- ---- deeper nesting
 
 lift_series : {X F A : Type 0} (P Q : Span X F A) → ((r : Outcome F A) (u w : List (Token X)) → P r u w → Q r u w)
     → (xs : List (Outcome F A)) (u w : List (Token X)) → Series P xs u w → Series Q xs u w
@@ -126,7 +126,7 @@ module _ {X F N V : Type 0} (heads : N → Class) (rules : N → Rule X F N V V)
   collect (checked f a) depth r u w (p, s, is) = let c = collect a depth p u w s in (c.0, (p, c.1, is))
   collect (deeper n f) depth r u w (p, s, is) = (s.0, (p, s.1, is))
 
-  -- ---- a name takes the token that opens it
+  -- ---- a name reads the token that opens it
 
   pub starts_at : (h depth : ℕ) (n : N) (r : Outcome F V) (u w : List (Token X)) → At h depth n r u w
       → (length w < length u) × (next (heads n) u ≡ true)
@@ -150,28 +150,28 @@ module _ {X F N V : Type 0} (heads : N → Class) (rules : N → Rule X F N V V)
       (fit : (n : N) → fits heads ends (rules n) ≡ true)
       (ends_in : (n : N) → inside (more false heads ends (rules n)) (ends n) ≡ true) where
     pub known_at : (h depth : ℕ) (n : N) (r : Outcome F V) (u w : List (Token X)) → At h depth n r u w
-        → next (ends n) w ≡ false → reads heads rules depth n u ≡ answer w r
-    unfolding reads
+        → next (ends n) w ≡ false → read_name heads rules depth n u ≡ answer w r
+    unfolding read_name
     known_at zero depth n r u w s clear = absurd s
     known_at (suc h) zero n r u w s clear =
         cond-true (next (heads n) u) (Err (flawed too_deep (place u))) (Err (stuck (length u)))
         (starts_at (suc h) zero n r u w s).1 ∙ ap (answer w) (sym s.0)
     known_at (suc h) (suc depth) n r u w (t, m, parts, head, s) clear =
-        ap (reads heads rules (suc depth) n) parts ∙ cond-true (has (heads n) t)
-        (read heads (reads heads rules depth) (rules n) m) (Err (stuck (suc (length m)))) head
-        ∙ complete heads (At h depth) (starts_at h depth) ends (reads heads rules depth) (known_at h depth) (rules n)
+        ap (read_name heads rules (suc depth) n) parts ∙ cond-true (has (heads n) t)
+        (read heads (read_name heads rules depth) (rules n) m) (Err (stuck (suc (length m)))) head
+        ∙ complete heads (At h depth) (starts_at h depth) ends (read_name heads rules depth) (known_at h depth) (rules n)
         (fit n) r m w s (outside_next (more false heads ends (rules n)) (ends n) w (ends_in n) clear)
 
-    -- what is spelled is read
+    -- the parser reads every text that the rule spells
     pub spells_read : {A : Type 0} (e : Rule X F N V A) → fits heads ends e ≡ true
         → (depth : ℕ) (r : Outcome F A) (u : List (Token X)) → Spells (grammar_of heads rules) depth e r u
-        → read heads (reads heads rules depth) e u ≡ answer [] r
-    spells_read e f depth r u s = complete heads (At s.0 depth) (starts_at s.0 depth) ends (reads heads rules depth)
+        → read heads (read_name heads rules depth) e u ≡ answer [] r
+    spells_read e f depth r u s = complete heads (At s.0 depth) (starts_at s.0 depth) ends (read_name heads rules depth)
         (known_at s.0 depth) e f r u [] s.1 refl
 
-  pub sound_name : (depth : ℕ) (n : N) (v : V) (u w : List (Token X)) → reads heads rules depth n u ≡ Ok (v, w)
+  pub sound_name : (depth : ℕ) (n : N) (v : V) (u w : List (Token X)) → read_name heads rules depth n u ≡ Ok (v, w)
       → Some_at depth n (Ok v) u w
-  unfolding reads
+  unfolding read_name
   sound_name zero n v u w e = by_case (chosen (next (heads n) u) (Err (flawed too_deep (place u)))
       (Err (stuck (length u))) (Ok (v, w)) e)
     where
@@ -181,19 +181,19 @@ module _ {X F N V : Type 0} (heads : N → Class) (rules : N → Rule X F N V V)
       by_case (inr h) = absurd cc
   sound_name (suc depth) n v [] w e = absurd cc
   sound_name (suc depth) n v (t ∷ ts) w e =
-      by_case (chosen (has (heads n) t) (read heads (reads heads rules depth) (rules n) ts)
+      by_case (chosen (has (heads n) t) (read heads (read_name heads rules depth) (rules n) ts)
       (Err (stuck (suc (length ts)))) (Ok (v, w)) e)
-      (λ e. collect (rules n) depth (Ok v) ts w (sound heads (Some_at depth) (reads heads rules depth)
+      (λ e. collect (rules n) depth (Ok v) ts w (sound heads (Some_at depth) (read_name heads rules depth)
       (sound_name depth) (rules n) v ts w e))
     where
-      by_case : ((has (heads n) t ≡ true) × (read heads (reads heads rules depth) (rules n) ts ≡ Ok (v, w)))
+      by_case : ((has (heads n) t ≡ true) × (read heads (read_name heads rules depth) (rules n) ts ≡ Ok (v, w)))
           ⊎ ((has (heads n) t ≡ false) × (Err (stuck (suc (length ts))) ≡ taken {F = F} v w))
-          → (read heads (reads heads rules depth) (rules n) ts ≡ Ok (v, w) → (h : ℕ)
+          → (read heads (read_name heads rules depth) (rules n) ts ≡ Ok (v, w) → (h : ℕ)
           × Spelled (At h depth) (rules n) (Ok v) ts w) → Some_at (suc depth) n (Ok v) (t ∷ ts) w
       by_case (inl h) behind = let s = behind h.1 in (suc s.0, (t, ts, refl, h.0, s.1))
       by_case (inr h) behind = absurd cc
 
-  -- ---- where it stops
+  -- ---- where the parser stops
 
   module _ (ends shuts : N → Class) (sample : Class → Token X)
       (fit : (n : N) → fits heads ends (rules n) ≡ true)
@@ -208,7 +208,7 @@ module _ {X F N V : Type 0} (heads : N → Class) (rules : N → Rule X F N V V)
 
     module _ (plain_solid : (n : N) → solid sample no_leasts heads shuts (rules n) ≡ true)
         (is_solid : (n : N) → solid sample leasts heads shuts (rules n) ≡ true) where
-      -- behind a token that opens, at any depth
+      -- after a token that opens a name, at any depth
       rest_least : (depth : ℕ) (n : N) (w : List (Token X)) → next (shuts n) w ≡ false → (o : Outcome F V)
           × Spelled (At zero depth) (rules n) o (least sample no_leasts (rules n) ++ w) w
       rest_least depth n w clear = completes heads (At zero depth) (starts_at zero depth) sample no_leasts shuts
@@ -226,7 +226,7 @@ module _ {X F N V : Type 0} (heads : N → Class) (rules : N → Rule X F N V V)
           let s = rest_least depth n w clear in
           (s.0, (suc zero, (sample (heads n), least sample no_leasts (rules n) ++ w, refl, head_is n, s.1)))
 
-      -- the token that opens, and the rest
+      -- the token that opens a name, and the rest
       abbrev entered : N → Rule X F N V V
       entered n = both (λ _ x. x) (one (heads n) (λ t. t)) (rules n)
 
@@ -235,16 +235,16 @@ module _ {X F N V : Type 0} (heads : N → Class) (rules : N → Rule X F N V V)
       again_ok (Err e) = refl
 
       reads_entered : (depth : ℕ) (n : N) (u : List (Token X))
-          → reads heads rules (suc depth) n u ≡ read heads (reads heads rules depth) (entered n) u
-      unfolding reads
+          → read_name heads rules (suc depth) n u ≡ read heads (read_name heads rules depth) (entered n) u
+      unfolding read_name
       reads_entered depth n [] = refl
       reads_entered depth n (t ∷ ts) = by_test (has (heads n) t)
         where
-          by_test : (b : Bool) → cond b (read heads (reads heads rules depth) (rules n) ts)
+          by_test : (b : Bool) → cond b (read heads (read_name heads rules depth) (rules n) ts)
               (Err (stuck (suc (length ts))))
-              ≡ (cond b (taken t ts) (Err (stuck (suc (length ts)))) >>= λ x. read heads (reads heads rules depth)
+              ≡ (cond b (taken t ts) (Err (stuck (suc (length ts)))) >>= λ x. read heads (read_name heads rules depth)
               (rules n) x.1 >>= λ y. Ok (y.0, y.1))
-          by_test true = sym (again_ok (read heads (reads heads rules depth) (rules n) ts))
+          by_test true = sym (again_ok (read heads (read_name heads rules depth) (rules n) ts))
           by_test false = refl
 
       enters : (depth : ℕ) (n : N) (o : Outcome F V) (u w : List (Token X))
@@ -289,17 +289,17 @@ module _ {X F N V : Type 0} (heads : N → Class) (rules : N → Rule X F N V V)
           (is_solid n) (ap not (next_none (least sample leasts (rules n)))))
 
       good_name : (depth : ℕ) (n : N) (u : List (Token X))
-          → GoodAt (reads heads rules depth n) (Some_at depth n) (shuts n) u (reads heads rules depth n u)
-      unfolding reads
+          → GoodAt (read_name heads rules depth n) (Some_at depth n) (shuts n) u (read_name heads rules depth n u)
+      unfolding read_name
       good_name zero n [] = record { text = []; left = []; parts = refl; again = again; viable = inl refl }
         where
           again : (other : List (Token X)) → SameHead [] other
-              → reads heads rules zero n other ≡ Err (stuck (length other))
+              → read_name heads rules zero n other ≡ Err (stuck (length other))
           again [] same = refl
           again (t ∷ ts) same = absurd same
       good_name zero n (t ∷ ts) = by_test (has (heads n) t) refl
         where
-          by_test : (b : Bool) → has (heads n) t ≡ b → GoodAt (reads heads rules zero n) (Some_at zero n) (shuts n)
+          by_test : (b : Bool) → has (heads n) t ≡ b → GoodAt (read_name heads rules zero n) (Some_at zero n) (shuts n)
               (t ∷ ts) (cond b (Err (flawed too_deep t.place)) (Err (stuck (suc (length ts)))))
           by_test true e = record {
             text = t ∷ [];
@@ -325,20 +325,20 @@ module _ {X F N V : Type 0} (heads : N → Class) (rules : N → Rule X F N V V)
           by_test false e = record { text = []; left = t ∷ ts; parts = refl; again = again; viable = inl refl }
             where
               again : (other : List (Token X)) → SameHead (t ∷ ts) other
-                  → reads heads rules zero n other ≡ Err (stuck (length other))
+                  → read_name heads rules zero n other ≡ Err (stuck (length other))
               again [] same = absurd same
               again (x ∷ xs) same = cond-false (has (heads n) x) (Err (flawed too_deep x.place))
                   (Err (stuck (suc (length xs)))) (ap (has (heads n)) (sym same) ∙ e)
       good_name (suc depth) n u =
-          good_as (read heads (reads heads rules depth) (entered n)) (reads heads rules (suc depth) n)
+          good_as (read heads (read_name heads rules depth) (entered n)) (read_name heads rules (suc depth) n)
           (Spelled (Some_at depth) (entered n)) (Some_at (suc depth) n) (more true heads shuts (entered n)) (shuts n)
           (reads_entered depth n) (enters depth n)
           (λ w clear. append_none (more true heads shuts (rules n)) w
           (outside_next (more true heads shuts (rules n)) (shuts n) w (shuts_in n) clear) (nullable (rules n))) u
-          (good heads (Some_at depth) (starts depth) sample leasts shuts ends (reads heads rules depth)
+          (good heads (Some_at depth) (starts depth) sample leasts shuts ends (read_name heads rules depth)
           (sound_name depth) (good_name depth) (least_name depth) (entered n) (entered_fits n) (entered_solid n) u)
 
-      -- ---- a whole text
+      -- ---- whole texts
 
       module _ {A : Type 0} (e : Rule X F N V A) (fit_e : fits heads ends e ≡ true)
           (solid_e : solid sample leasts heads shuts e ≡ true) (depth : ℕ) where
@@ -346,7 +346,7 @@ module _ {X F N V : Type 0} (heads : N → Class) (rules : N → Rule X F N V V)
         Text = Spells (grammar_of heads rules) depth e
 
         abbrev text_at : Reader X F A
-        text_at = read heads (reads heads rules depth) e
+        text_at = read heads (read_name heads rules depth) e
 
         spelled_text : (o : Outcome F A) (u : List (Token X)) → Spelled (Some_at depth) e o u [] → Text o u
         spelled_text o u s = collect e depth o u [] s
@@ -394,12 +394,12 @@ module _ {X F N V : Type 0} (heads : N → Class) (rules : N → Rule X F N V V)
 
         pub answers : (u : List (Token X)) → Answers Text u (whole text_at u)
         answers u = by_case (text_at u) refl (good heads (Some_at depth) (starts depth) sample leasts shuts ends
-            (reads heads rules depth) (sound_name depth) (good_name depth) (least_name depth) e fit_e solid_e u)
+            (read_name heads rules depth) (sound_name depth) (good_name depth) (least_name depth) e fit_e solid_e u)
           where
             by_end : (x : A) (w : List (Token X)) → text_at u ≡ Ok (x, w)
                 → Goes text_at (Spelled (Some_at depth) e) (more true heads shuts e) u x w → Answers Text u (end_at x w)
             by_end x [] is g = spelled_text (Ok x) u
-                (sound heads (Some_at depth) (reads heads rules depth) (sound_name depth) e x u [] is)
+                (sound heads (Some_at depth) (read_name heads rules depth) (sound_name depth) e x u [] is)
             by_end x (t ∷ ts) is g = (
               t ∷ ts,
               refl,
@@ -410,7 +410,7 @@ module _ {X F N V : Type 0} (heads : N → Class) (rules : N → Rule X F N V V)
                   [],
                   Ok x,
                   spelled_text (Ok x) (g.text ++ [])
-                      (sound heads (Some_at depth) (reads heads rules depth) (sound_name depth) e x (g.text ++ []) []
+                      (sound heads (Some_at depth) (read_name heads rules depth) (sound_name depth) e x (g.text ++ []) []
                       (g.again [] (inr refl))),
                 );
                 longest = longest;

@@ -1,4 +1,4 @@
--- The parts of the tests of rules that are made of others.
+-- The tests of a composite rule, split into the tests of its parts.
 use Rattle.std.proofs.Common.{◌≡◌, true, false, not, ◌&&◌}
 use Rattle.std.proofs.lemmas.Bool.{and_parts}
 use Rattle.grammar.specs.Rule.{Class, Rule}
@@ -13,7 +13,7 @@ module _ {X F N V : Type 0} (heads ends : N → Class) where
   abbrev pub Last : {A : Type 0} → Rule X F N V A → Class
   Last e = more false heads ends e
 
-  -- one after the other
+  -- sequences
   pub both_fits : {A B : Type 0} (a : Rule X F N V A) (b : Rule X F N V B)
       → (fits heads ends a && (fits heads ends b && apart (Last a) (first heads b))) ≡ true
       → Fits a × Fits b × (apart (Last a) (first heads b) ≡ true)
@@ -22,7 +22,7 @@ module _ {X F N V : Type 0} (heads ends : N → Class) where
       let l = and_parts (fits heads ends b) (apart (Last a) (first heads b)) k.1 in
       (k.0, l.0, l.1)
 
-  -- a choice
+  -- choices
   pub either_fits : {A : Type 0} (a b : Rule X F N V A)
       → (fits heads ends a && (fits heads ends b && (not (nullable a) && apart (first heads a) (first heads b)))) ≡ true
       → Fits a × Fits b × (apart (first heads a) (first heads b) ≡ true)
@@ -32,7 +32,7 @@ module _ {X F N V : Type 0} (heads ends : N → Class) where
       let l = and_parts (fits heads ends b) distinct k.1 in
       (k.0, l.0, (and_parts (not (nullable a)) (apart (first heads a) (first heads b)) l.1).1)
 
-  -- a repetition
+  -- repetitions
   pub many_fits : {A : Type 0} (a : Rule X F N V A)
       → (fits heads ends a && (not (nullable a) && apart (Last a) (first heads a))) ≡ true
       → Fits a × (nullable a ≡ false) × (apart (Last a) (first heads a) ≡ true)
@@ -41,7 +41,7 @@ module _ {X F N V : Type 0} (heads ends : N → Class) where
       let l = and_parts (not (nullable a)) (apart (Last a) (first heads a)) k.1 in
       (k.0, not_true (nullable a) l.0, l.1)
 
-  -- an item whose value is checked
+  -- checked values
   pub checked_fits : {A : Type 0} (a : Rule X F N V A)
       → (fits heads ends a && (not (nullable a) && none (Last a))) ≡ true
       → Fits a × (nullable a ≡ false) × (none (Last a) ≡ true)

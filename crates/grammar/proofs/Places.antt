@@ -1,11 +1,11 @@
--- Where a text is stuck, and where its flaws stand.
+-- Where the parser is stuck in a text, and where the text's flaws are.
 use Rattle.std.proofs.Common.{◌≡◌, ℕ, List, [], ◌∷◌, ◌++◌, refl, sym, ap, ◌∙◌, subst, append_assoc}
 use Rattle.grammar.specs.Rule.{Token}
 use Rattle.grammar.specs.Spelling.{Outcome, SameHead, IsStuck}
 use Rattle.grammar.proofs.Good.{PlaceIn, place_ahead}
 use Rattle.grammar.proofs.Names.{IsReached}
 
--- two cuts of a text: at the same place, or the one before the other
+-- two splits of a text: at the same place, or one before the other
 data Cuts {X : Type 0} (one one_rest other other_rest : List (Token X)) : Type 0 where
   same : one ≡ other → one_rest ≡ other_rest → Cuts one one_rest other other_rest
   earlier : (x : Token X) (between : List (Token X)) → other ≡ one ++ x ∷ between
@@ -33,7 +33,7 @@ cuts {X} (x ∷ a) u (y ∷ b) w e = by_tail (cuts a u b w (tails x y (a ++ u) (
         later z l (ap (λ (t : Token X). t ∷ a) heads ∙ ap (λ (v : List (Token X)). y ∷ v) h) k
 
 module _ {X F A : Type 0} (S : Outcome F A → List (Token X) → Type 0) (u : List (Token X)) where
-  -- no text goes on behind a place where none does
+  -- no text continues past a place where none continues
   none_longer : (rest : List (Token X)) (s : IsStuck S u rest) (x : Token X) (between text behind : List (Token X))
       → rest ≡ x ∷ behind → text ≡ s.before ++ x ∷ between
       → ((more : List (Token X)) × (r : Outcome F A) × S r (text ++ more)) → ⊥
@@ -43,7 +43,7 @@ module _ {X F A : Type 0} (S : Outcome F A → List (Token X) → Type 0) (u : L
       (subst (λ (l : List (Token X)). S r l)
       (ap (λ (l : List (Token X)). l ++ more) parts ∙ append_assoc s.before (x ∷ between) more) spelled)
 
-  -- it is stuck at one place
+  -- the parser is stuck at one place only
   pub stuck_once : (one other : List (Token X)) → IsStuck S u one → IsStuck S u other → one ≡ other
   stuck_once one other s t = by_cuts (cuts s.before one t.before other (sym s.parts ∙ t.parts))
     where
@@ -52,7 +52,7 @@ module _ {X F A : Type 0} (S : Outcome F A → List (Token X) → Type 0) (u : L
       by_cuts (earlier x between h k) = absurd (none_longer one s x between t.before (between ++ other) k h t.begins)
       by_cuts (later x between h k) = absurd (none_longer other t x between s.before (between ++ one) k h s.begins)
 
-  -- and its flaw stands before that place
+  -- the text's flaw is before that place
   pub flaw_before : (rest : List (Token X)) (at : ℕ) → (s : IsStuck S u rest) → IsReached S u at → PlaceIn at s.before
   flaw_before rest at s t = by_cuts (cuts s.before rest t.before t.rest (sym s.parts ∙ t.parts))
     where

@@ -1,10 +1,10 @@
--- What holds of the reader of each rule that passes the tests.
+-- What the parser of each rule that passes the tests satisfies.
 use Rattle.std.proofs.Common.{◌≡◌, suc, ◌<◌, Bool, true, false, not, ◌&&◌, cond, List, [], ◌∷◌, ◌++◌, length, Ok, Err}
 use Rattle.std.proofs.Common.{refl, sym, ap, ◌∙◌, subst, ◌⊎◌, inl, inr, arith, append_assoc}
 use Rattle.std.proofs.lemmas.Bool.{cond-true, cond-false, and_parts}
 use Rattle.grammar.specs.Rule.{Token}
 use Rattle.grammar.specs.Rule.{Class, next, has, Rule, empty, one, unless, both, either, many, checked, deeper}
-use Rattle.grammar.specs.Spelling.{SameHead, Outcome, judged, place, Span, Spelled, ◌>>=◌}
+use Rattle.grammar.specs.Spelling.{SameHead, Outcome, outcome_at, place, Span, Spelled, ◌>>=◌}
 use Rattle.grammar.specs.Reading.{nullable, first, stuck, Reader, one_at, read}
 use Rattle.grammar.proofs.Sets.{out_left, out_right, apart, not_true}
 use Rattle.grammar.proofs.Table.{more, none, fits, least, plain, solid}
@@ -13,7 +13,7 @@ use Rattle.grammar.proofs.Sound.{sound, sound_series}
 use Rattle.grammar.proofs.Good.{same_next, Near, GoodAt, good_as, checks, Checked, good_checked, good_both}
 use Rattle.grammar.proofs.Choice.{good_choice, all_at, Serial, good_series}
 
--- a list that is not empty begins with no token of the class
+-- a list that is not empty does not begin with a token of the class
 calm_list : {X : Type 0} → (c : Class) (l w : List (Token X)) → next c l ≡ false → (l ≡ [] → next c w ≡ false)
     → next c (l ++ w) ≡ false
 calm_list c [] w e f = f refl
@@ -49,7 +49,7 @@ module _ {X F N V : Type 0} (heads : N → Class) (inner : N → Span X F V)
   right_plain a b (inl h) = inl (and_parts a b h).1
   right_plain a b (inr h) = inr h
 
-  -- what may be empty and least is empty
+  -- the shortest text of a nullable rule is empty
   can_be : {A : Type 0} (b : Rule X F N V A) → (o : Outcome F A) → Spelled inner b o [] [] → nullable b ≡ true
   can_be b o s = by_case (begins heads inner starts b o [] [] s)
     where
@@ -96,12 +96,12 @@ module _ {X F N V : Type 0} (heads : N → Class) (inner : N → Span X F V)
       (y.0, inr y.1)
   completes (many f a) fit p w clear = (Ok (f []), ([], refl, refl))
   completes (checked f a) fit p w clear = let x = completes a fit p w clear in
-      ((x.0 >>= λ y. judged (f y) (place (least sample leasts a ++ w))), (x.0, x.1, refl))
+      ((x.0 >>= λ y. outcome_at (f y) (place (least sample leasts a ++ w))), (x.0, x.1, refl))
   completes (deeper {A} n f) fit (inl h) w clear = absurd cc
   completes (deeper n f) fit (inr names) w clear = let x =
       names n w clear in ((x.0 >>= λ y. Ok (f y)), (x.0, x.1, refl))
 
-  -- ---- with a reader of the names
+  -- ---- with a parser of the names
 
   module _ (ends : N → Class) (by_name : N → Reader X F V)
       (sound_name : (n : N) (v : V) (u w : List (Token X)) → by_name n u ≡ Ok (v, w) → inner n (Ok v) u w)

@@ -1,4 +1,4 @@
--- Classes of tokens, as lists of codes.
+-- Token classes, as lists of codes.
 use Rattle.std.proofs.Common.{◌≡◌, ℕ, Bool, true, false, not, cond, eqb, ◌||◌, ◌&&◌, List, [], ◌∷◌, ◌++◌, refl, subst}
 use Rattle.std.proofs.Common.{◌⊎◌, inl, inr}
 use Rattle.std.proofs.lemmas.Bool.{and_parts, or_cases, eqb-true, false_from_ne_true}
@@ -45,12 +45,12 @@ pub out_right : {X : Type 0} → (a b : Class) (u : List (Token X)) → next (a 
 out_right a b u e = false_from_ne_true (next b u)
     (λ (h : next b u ≡ true). not_both (next (a ++ b) u) (in_right a b u h) e)
 
--- no code is in both
+-- no code is in both classes
 abbrev pub apart : Class → Class → Bool
 apart [] b = true
 apart (k ∷ a) b = not (member k b) && apart a b
 
--- each code of the first is in the second
+-- every code of the first class is in the second
 abbrev pub inside : Class → Class → Bool
 inside [] b = true
 inside (k ∷ a) b = member k b && inside a b
@@ -127,7 +127,7 @@ out_of_both a b (t ∷ ts) e f = false_from_ne_true (member t.kind (a ++ b))
     by_case (inl i) = not_both (member t.kind a) i e
     by_case (inr i) = not_both (member t.kind b) i f
 
--- the codes that are not in the other class
+-- the codes of the first class that are not in the second
 abbrev pub without : Class → Class → Class
 without b [] = []
 without b (k ∷ a) = cond (member k b) (without b a) (k ∷ without b a)

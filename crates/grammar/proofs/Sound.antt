@@ -1,10 +1,10 @@
--- What is read is spelled so.
+-- Soundness: the rule spells every text that the parser reads.
 use Rattle.std.proofs.Common.{◌≡◌, ℕ, zero, suc, Bool, true, false, cond, List, [], ◌∷◌, length, Result, Ok, Err}
 use Rattle.std.proofs.Common.{refl, sym, ap, ◌∙◌, subst, ◌⊎◌, inl, inr}
 use Rattle.grammar.specs.Rule.{Token}
 use Rattle.grammar.specs.Rule.{Class, next, has, Rule, empty, one, unless, both, either, many, checked, deeper}
-use Rattle.grammar.specs.Spelling.{Outcome, all, judged, place, Span, Series, Spelled, ◌>>=◌}
-use Rattle.grammar.specs.Reading.{first, stuck, Reader, Answer, series_at, passes, read}
+use Rattle.grammar.specs.Spelling.{Outcome, all, outcome_at, place, Span, Series, Spelled, ◌>>=◌}
+use Rattle.grammar.specs.Reading.{first, stuck, Reader, Answer, series_at, check_value, read}
 
 pub bind_ok : {A B E : Type 0} (r : Result A E) (f : A → Result B E) (y : B) → (r >>= f) ≡ Ok y → (x : A)
     × (r ≡ Ok x) × (f x ≡ Ok y)
@@ -34,7 +34,7 @@ pub rest_is : {X F A : Type 0} (x y : A) (u w : List (Token X)) → taken {F = F
 rest_is x y u w e = ap (snd_of (x, u)) e
 
 passes_ok : {X F B : Type 0} (at : ℕ) (m : List (Token X)) (r : Result B F) (y : B) (w : List (Token X))
-    → passes at m r ≡ Ok (y, w) → (judged r at ≡ Ok y) × (m ≡ w)
+    → check_value at m r ≡ Ok (y, w) → (outcome_at r at ≡ Ok y) × (m ≡ w)
 passes_ok at m (Ok x) y w e = (ap Ok (value_is x y m w e), rest_is x y m w e)
 passes_ok at m (Err flaw) y w e = absurd cc
 
@@ -138,7 +138,7 @@ module _ {X F N V : Type 0} (heads : N → Class) (inner : N → Span X F V) (by
         sym (ap (λ (r : Outcome F (List A)). r >>= λ ys. Ok (f ys)) s.2 ∙ ap Ok (value_is (f p.0.0) x p.0.1 w p.2)),
       )
   sound (checked f a) x u w e =
-      let p = bind_ok (read heads by_name a u) (λ y. passes (place u) y.1 (f y.0)) (x, w) e in
+      let p = bind_ok (read heads by_name a u) (λ y. check_value (place u) y.1 (f y.0)) (x, w) e in
       let q = passes_ok (place u) p.0.1 (f p.0.0) x w p.2 in
       (Ok p.0.0, subst (Spelled inner a (Ok p.0.0) u) q.1 (sound a p.0.0 u p.0.1 p.1), sym q.0)
   sound (deeper n f) x u w e =

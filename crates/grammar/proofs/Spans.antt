@@ -1,9 +1,9 @@
--- Where the flaw of what is spelled stands, and where an item with a flaw does.
+-- The places of the flaws of texts and of items.
 use Rattle.std.proofs.Common.{◌≡◌, ℕ, zero, suc, ◌<◌, true, false, List, [], ◌∷◌, ◌++◌}
 use Rattle.std.proofs.Common.{length, Result, Ok, Err, refl, sym, ap, ◌∙◌, subst, inl, inr, arith, append_assoc}
 use Rattle.grammar.specs.Rule.{Token, Class, next, Rule}
 use Rattle.grammar.specs.Rule.{empty, one, unless, both, either, many, checked, deeper}
-use Rattle.grammar.specs.Spelling.{Flaw, too_deep, Outcome, ◌>>=◌, all, judged, place, Span, Series, Spelled}
+use Rattle.grammar.specs.Spelling.{Flaw, too_deep, Outcome, ◌>>=◌, all, outcome_at, place, Span, Series, Spelled}
 use Rattle.grammar.specs.Spelling.{Within, Named, FlawsOf, FlawIn, FlawInside}
 use Rattle.grammar.specs.Reading.{nullable, first}
 use Rattle.grammar.proofs.Table.{fits}
@@ -11,12 +11,12 @@ use Rattle.grammar.proofs.Parts.{Fits, both_fits, either_fits, many_fits, checke
 use Rattle.grammar.proofs.Complete.{begins, takes_some}
 use Rattle.grammar.proofs.Good.{PlaceIn, place_behind, place_ahead}
 
--- among these tokens, where there is one
+-- the flaw, if there is one, is among these tokens
 abbrev pub FlawStands : {X F A : Type 0} → Outcome F A → List (Token X) → Type 0
 FlawStands (Ok x) front = Unit {0}
 FlawStands (Err flaw) front = PlaceIn flaw.1 front
 
--- The text goes on with the rest behind some tokens, and the flaw of the outcome stands among these.
+-- The text is some tokens followed by the rest, and the flaw of the outcome is among those tokens.
 pub record Spans {X F A : Type 0} (r : Outcome F A) (u w : List (Token X)) : Type 0 where
   pub front : List (Token X)
   pub parts : u ≡ front ++ w
@@ -34,15 +34,15 @@ stands_made f a (Ok x) s = tt
 stands_made f a (Err flaw) s = s
 
 stands_judged : {X F A B : Type 0} (f : A → Result B F) (at : ℕ) (a : List (Token X)) (p : Outcome F A) → PlaceIn at a
-    → FlawStands p a → FlawStands (p >>= λ x. judged (f x) at) a
+    → FlawStands p a → FlawStands (p >>= λ x. outcome_at (f x) at) a
 stands_judged {X} {F} {A} {B} f at a (Ok x) here s = by_value (f x)
   where
-    by_value : (r : Result B F) → FlawStands (judged r at) a
+    by_value : (r : Result B F) → FlawStands (outcome_at r at) a
     by_value (Ok y) = tt
     by_value (Err reason) = here
 stands_judged f at a (Err flaw) here s = s
 
--- one after the other
+-- sequences
 spans_both : {X F A B C : Type 0} (f : A → B → C) (p : Outcome F A) (q : Outcome F B) (u m w : List (Token X))
     → Spans p u m → Spans q m w → Spans (p >>= λ x. q >>= λ y. Ok (f x y)) u w
 spans_both {X} f p q u m w s t = record {
@@ -57,7 +57,7 @@ spans_as {X} {F} {A} r q u w e s = subst (λ (o : Outcome F A). Spans o u w) (sy
 spans_none : {X F A : Type 0} (x : A) (u w : List (Token X)) → u ≡ w → Spans {F = F} (Ok x) u w
 spans_none x u w e = record { front = []; parts = e; stands = tt }
 
--- the next token's place is one of those of what is taken
+-- the next token's place is one of the places of the tokens that are read
 place_taken : {X : Type 0} (u front w : List (Token X)) → u ≡ front ++ w → length w < length u → PlaceIn (place u) front
 place_taken u [] w parts less = absurd (omega (arith, less, ap length parts))
 place_taken u (t ∷ ts) w parts less =
@@ -77,7 +77,7 @@ module _ {X F N V : Type 0} (heads : N → Class) (inner : N → Span X F V) (en
   spans_series P each (x ∷ xs) u w (m, p, s) =
       spans_both (λ y ys. y ∷ ys) x (all xs) u m w (each x u m p) (spans_series P each xs m w s)
 
-  -- an item takes a token or more
+  -- an item has at least one token
   item_takes : {A : Type 0} (a : Rule X F N V A) → nullable a ≡ false → (r : Outcome F A) (u w : List (Token X))
       → Spelled inner a r u w → (length w < length u) × (next (first heads a) u ≡ true)
   item_takes a some r u w s =
@@ -103,21 +103,21 @@ module _ {X F N V : Type 0} (heads : N → Class) (inner : N → Span X F V) (en
       let k = checked_fits heads ends a fit in
       let t = spans a k.0 p u w s in
       let here = place_taken u t.front w t.parts (item_takes a k.1 p u w s).0 in
-      spans_as r (p >>= λ x. judged (f x) (place u)) u w e
+      spans_as r (p >>= λ x. outcome_at (f x) (place u)) u w e
       (record { front = t.front; parts = t.parts; stands = stands_judged f (place u) t.front p here t.stands })
   spans (deeper n f) fit r u w (p, s, e) =
       let t = span_name n p u w s in
       spans_as r (p >>= λ x. Ok (f x)) u w e
       (record { front = t.front; parts = t.parts; stands = stands_made f t.front p t.stands })
 
-  -- behind what is spelled
+  -- after the text of the rule
   pub behind_span : {A : Type 0} (r : Outcome F A) (at : ℕ) (u m : List (Token X)) → Spans r u m → PlaceIn at m
       → PlaceIn at u
   behind_span r at u m s p = subst (PlaceIn at) (sym s.parts) (place_behind at s.front m p)
 
   module _ (deep : N → FlawsOf X F)
       (flaw_name : (n : N) (flaw : Flaw F × ℕ) (u : List (Token X)) → deep n flaw u → PlaceIn flaw.1 u) where
-    -- an item with a flaw stands in the text
+    -- an item with a flaw is in the text
     pub flaw_stands : {A : Type 0} (e : Rule X F N V A) → Fits heads ends e → (flaw : Flaw F × ℕ) (u : List (Token X))
         → FlawIn inner deep e flaw u → PlaceIn flaw.1 u
     flaw_stands (empty x) fit flaw u s = absurd s
@@ -139,7 +139,7 @@ module _ {X F N V : Type 0} (heads : N → Class) (inner : N → Span X F V) (en
         (place_of_next (first heads a) u (item_takes a (checked_fits heads ends a fit).1 (Ok x) u w s).1)
     flaw_stands (deeper n f) fit flaw u s = flaw_name n flaw u s
 
--- ---- the names
+-- ---- names
 
 module _ {X F N V : Type 0} (heads : N → Class) (rules : N → Rule X F N V V) (ends : N → Class)
     (fit : (n : N) → fits heads ends (rules n) ≡ true)

@@ -1,11 +1,11 @@
--- The tests by which a grammar can be read with one token of sight.
+-- The tests that a grammar has to pass so that one token of lookahead is enough to parse it.
 use Rattle.std.proofs.Common.{Bool, true, false, not, ◌&&◌, cond, List, [], ◌∷◌, ◌++◌}
 use Rattle.grammar.specs.Rule.{Token}
 use Rattle.grammar.specs.Rule.{Class, has, next, Rule, empty, one, unless, both, either, many, checked, deeper}
 use Rattle.grammar.specs.Reading.{nullable, first}
 use Rattle.grammar.proofs.Sets.{apart, without}
 
--- what may not follow where the rule took nothing
+-- the tokens that may not follow if the rule read nothing
 abbrev pub bar : {X F N V A : Type 0} → Rule X F N V A → Class
 bar (empty x) = []
 bar (one class f) = []
@@ -16,7 +16,7 @@ bar (many f a) = []
 bar (checked f a) = bar a
 bar (deeper n f) = []
 
--- The tokens that go on with what has come to its end, and, if guards count, those that may not follow it.
+-- The tokens that can continue a complete text of the rule, and, if guards count, those that may not follow it.
 abbrev pub more : {X F N V A : Type 0} → Bool → (N → Class) → (N → Class) → Rule X F N V A → Class
 more guards heads ends (empty x) = []
 more guards heads ends (one class f) = []
@@ -33,7 +33,7 @@ abbrev pub none : Class → Bool
 none [] = true
 none (k ∷ ks) = false
 
--- One token decides each choice, and nothing goes on with an item whose value is checked.
+-- One token decides each choice, and no token continues a checked item.
 abbrev pub fits : {X F N V A : Type 0} → (N → Class) → (N → Class) → Rule X F N V A → Bool
 fits heads ends (empty x) = true
 fits heads ends (one class f) = true
@@ -46,7 +46,7 @@ fits heads ends (many f a) = fits heads ends a && (not (nullable a) && apart (mo
 fits heads ends (checked f a) = fits heads ends a && (not (nullable a) && none (more false heads ends a))
 fits heads ends (deeper n f) = true
 
--- Some short text of a rule. The last side of a choice is the one to take, and stands for itself.
+-- A short text of a rule. In a choice it is the text of the last alternative.
 abbrev pub least : {X F N V A : Type 0} → (Class → Token X) → (N → List (Token X)) → Rule X F N V A → List (Token X)
 least sample leasts (empty x) = []
 least sample leasts (one class f) = sample class ∷ []
@@ -57,14 +57,14 @@ least sample leasts (many f a) = []
 least sample leasts (checked f a) = least sample leasts a
 least sample leasts (deeper n f) = leasts n
 
--- A short text of each name: a token that opens it, and a short text of its rule.
+-- A short text of each name: an opening token, and a short text of the name's rule.
 abbrev pub nothing : {X N : Type 0} → N → List (Token X)
 nothing n = []
 
 abbrev pub shortest : {X F N V : Type 0} → (Class → Token X) → (N → Class) → (N → Rule X F N V V) → N → List (Token X)
 shortest sample heads rules n = sample (heads n) ∷ least sample nothing (rules n)
 
--- That text needs no name.
+-- That text uses no names.
 abbrev pub plain : {X F N V A : Type 0} → Rule X F N V A → Bool
 plain (empty x) = true
 plain (one class f) = true
@@ -75,7 +75,7 @@ plain (many f a) = true
 plain (checked f a) = plain a
 plain (deeper n f) = false
 
--- That text is one of the rule, and may follow what comes before it.
+-- The rule spells that text, and it may follow what comes before it.
 abbrev pub solid : {X F N V A : Type 0} → (Class → Token X) → (N → List (Token X)) → (N → Class) → (N → Class)
     → Rule X F N V A → Bool
 solid sample leasts heads shuts (empty x) = true

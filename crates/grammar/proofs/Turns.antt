@@ -1,11 +1,11 @@
--- One turn of a repetition, and the names by their depth: what a parser's loops and functions go by.
+-- One iteration of a repetition, and names by their depth, for the loops and functions of a parser.
 use Rattle.std.proofs.Common.{◌≡◌, ℕ, zero, suc, ◌<◌, ◌-◌, true, false, cond, List, [], ◌∷◌, ◌++◌, length, Ok, Err}
 use Rattle.std.proofs.Common.{refl, sym, ap, ◌∙◌, arith, append_assoc}
 use Rattle.std.proofs.lemmas.Bool.{cond-true, cond-false}
 use Rattle.std.proofs.lemmas.List.{append-nil}
 use Rattle.grammar.specs.Rule.{Token, next, has, Rule, Grammar}
 use Rattle.grammar.specs.Spelling.{too_deep, place, ◌>>=◌}
-use Rattle.grammar.specs.Reading.{first, nullable, Stop, stuck, flawed, Answer, reads, read_at, mapped, items_at}
+use Rattle.grammar.specs.Reading.{first, nullable, Stop, stuck, flawed, Answer, read_name, read_at, mapped, items_at}
 use Rattle.grammar.proofs.Choice.{unrolled}
 use Rattle.grammar.proofs.Whole.{takes}
 
@@ -37,7 +37,7 @@ module _ {X F N V A : Type 0} (g : Grammar X F N V) (depth : ℕ) (e : Rule X F 
 
 -- ---- lists
 
--- no more, one more, and one that is not whole
+-- no more values, one more, and one that is incomplete
 module _ {X F N V A : Type 0} (g : Grammar X F N V) (depth : ℕ) (e : Rule X F N V A) (list : List A) where
   pub list_end : (u : List (Token X)) → nullable e ≡ false → next (first g.heads e) u ≡ false
       → mapped (λ xs. list ++ xs) (items_at g depth e u) ≡ Ok (list, u)
@@ -59,7 +59,7 @@ module _ {X F N V A : Type 0} (g : Grammar X F N V) (depth : ℕ) (e : Rule X F 
       → read_at g depth e u ≡ Err stop → mapped (λ xs. list ++ xs) (items_at g depth e u) ≡ Err stop
   list_bad u stop some h is = ap (mapped (λ xs. list ++ xs)) (bad_turn g depth e some u stop h is)
 
-  -- what a loop keeps that appends each item
+  -- the invariant of a loop that appends each item
   pub list_step : (longer : List A) (u : List (Token X)) (x : A) (w : List (Token X)) (whole : Answer X F (List A))
       → nullable e ≡ false → next (first g.heads e) u ≡ true → read_at g depth e u ≡ Ok (x, w) → longer ≡ list ++ x ∷ []
       → mapped (λ xs. list ++ xs) (items_at g depth e u) ≡ whole
@@ -73,22 +73,22 @@ pub ruleset list_steps = (list_end, list_more, list_bad)
 
 module _ {X F N V : Type 0} (g : Grammar X F N V) where
   pub named_none : (depth : ℕ) (n : N) (u : List (Token X)) → next (g.heads n) u ≡ false
-      → reads g.heads g.rules depth n u ≡ Err (stuck (length u))
-  unfolding reads
+      → read_name g.heads g.rules depth n u ≡ Err (stuck (length u))
+  unfolding read_name
   named_none zero n u h = cond-false (next (g.heads n) u) (Err (flawed too_deep (place u))) (Err (stuck (length u))) h
   named_none (suc depth) n [] h = refl
   named_none (suc depth) n (t ∷ ts) h = cond-false (has (g.heads n) t) (read_at g depth (g.rules n) ts)
       (Err (stuck (suc (length ts)))) h
 
   pub named_deep : (depth : ℕ) (n : N) (u : List (Token X)) → depth ≡ 0 → next (g.heads n) u ≡ true
-      → reads g.heads g.rules depth n u ≡ Err (flawed too_deep (place u))
-  unfolding reads
+      → read_name g.heads g.rules depth n u ≡ Err (flawed too_deep (place u))
+  unfolding read_name
   named_deep zero n u e h = cond-true (next (g.heads n) u) (Err (flawed too_deep (place u))) (Err (stuck (length u))) h
   named_deep (suc depth) n u e h = absurd (omega arith)
 
   pub named_more : (depth : ℕ) (n : N) (t : Token X) (ts : List (Token X)) → 0 < depth → has (g.heads n) t ≡ true
-      → reads g.heads g.rules depth n (t ∷ ts) ≡ read_at g (depth - 1) (g.rules n) ts
-  unfolding reads
+      → read_name g.heads g.rules depth n (t ∷ ts) ≡ read_at g (depth - 1) (g.rules n) ts
+  unfolding read_name
   named_more zero n t ts e h = absurd (omega arith)
   named_more (suc depth) n t ts e h =
       let less : depth ≡ suc depth - 1 = omega arith in

@@ -2,7 +2,7 @@
 use Rattle.std.proofs.Common.{◌≡◌, ℕ, ◌<◌, true, false, List, [], ◌∷◌, length, Result, Ok, Err, ap, ◌⊎◌}
 use Rattle.grammar.specs.Rule.{Token, Class, has, Rule, Grammar}
 use Rattle.grammar.specs.Spelling.{Flaw, Outcome, Named, Spells, FlawInside, HasFlaw, ◌>>=◌}
-use Rattle.grammar.specs.Reading.{first, nullable, Stop, flawed, Answer, read_at, reads, end_at, whole, as_read}
+use Rattle.grammar.specs.Reading.{first, nullable, Stop, flawed, Answer, read_at, read_name, end_at, whole, as_read}
 use Rattle.grammar.proofs.Sets.{inside}
 use Rattle.grammar.proofs.Table.{more, fits, plain, solid, nothing, shortest}
 use Rattle.grammar.proofs.Complete.{takes_some, begins}
@@ -11,8 +11,8 @@ use Rattle.grammar.proofs.Names.{Some_at, starts_at, sound_name, Answers, answer
 use Rattle.grammar.proofs.Flaws.{stopped, Behind, sound_flaw}
 use Rattle.grammar.proofs.FlawNames.{sound_names, complete_at, complete_names}
 
--- What a grammar has to pass, each by computing. `ends` and `shuts` list for each name the tokens that go on with what
--- it spells, without and with those that may not follow it, and `sample` gives a token of each class.
+-- The tests that a grammar has to pass, each by computing. For each name, `ends` lists the tokens that can continue its
+-- texts, and `shuts` those and the ones that may not follow it. `sample` is a token of each class.
 pub record Passes {X F N V : Type 0} (g : Grammar X F N V) : Type 0 where
   pub ends : N → Class
   pub shuts : N → Class
@@ -25,30 +25,30 @@ pub record Passes {X F N V : Type 0} (g : Grammar X F N V) : Type 0 where
   pub plain_solid : (n : N) → solid sample nothing g.heads shuts (g.rules n) ≡ true
   pub is_solid : (n : N) → solid sample (shortest sample g.heads g.rules) g.heads shuts (g.rules n) ≡ true
 
--- each rule that is read as whole texts passes them too
+-- the tests of a rule that is used for whole texts
 pub record PassesAt {X F N V A : Type 0} {g : Grammar X F N V} (p : Passes g) (e : Rule X F N V A) : Type 0 where
   pub fit : fits g.heads p.ends e ≡ true
   pub is_solid : solid p.sample (shortest p.sample g.heads g.rules) g.heads p.shuts e ≡ true
 
--- what a text comes to is this flaw, or one before it
+-- the result for the text is this flaw, or one before it
 abbrev pub StopsFirst : {X F A : Type 0} → Result A (Stop F) → Flaw F × ℕ → List (Token X) → Type 0
 StopsFirst {X} {F} r flaw u =
     (first : Flaw F × ℕ) × (r ≡ Err (flawed first.0 first.1)) × ((first ≡ flaw) ⊎ Behind u first.1 flaw.1)
 
 module _ {X F N V A : Type 0} {g : Grammar X F N V} (p : Passes g) (e : Rule X F N V A) (q : PassesAt p e)
     (depth : ℕ) where
-  -- What reading a text answers says of it: its value, where no text goes on, or the place of a flaw.
+  -- The parser returns the text's value, or the place where no text continues, or the place of a flaw.
   pub answered : (u : List (Token X)) → Answers (Spells g depth e) u (whole (read_at g depth e) u)
   answered u = answers g.heads g.rules p.ends p.shuts p.sample p.fit p.ends_in p.shuts_in p.head_is p.is_plain
       p.plain_solid p.is_solid e q.fit q.is_solid depth u
 
-  -- What is spelled is read. So no text has two outcomes.
+  -- The parser returns the outcome of every text that the rule spells. So no text has two outcomes.
   pub answered_only : (r : Outcome F A) (u : List (Token X)) → Spells g depth e r u
       → whole (read_at g depth e) u ≡ as_read r
   answered_only r u s = only g.heads g.rules p.ends p.shuts p.sample p.fit p.ends_in p.shuts_in p.head_is p.is_plain
       p.plain_solid p.is_solid e q.fit q.is_solid depth r u s
 
-  -- What has a flaw is read so, or a flaw before it is, and what is read so has it.
+  -- The parser reports each flaw of a text, or one before it, and every reported flaw is a flaw of the text.
   pub flawed_only : (flaw : Flaw F × ℕ) (u : List (Token X)) → HasFlaw g depth e flaw u
       → StopsFirst (whole (read_at g depth e) u) flaw u
   flawed_only flaw u s =
@@ -59,7 +59,7 @@ module _ {X F N V A : Type 0} {g : Grammar X F N V} (p : Passes g) (e : Rule X F
   pub flawed_so : (flaw : Flaw F × ℕ) (u : List (Token X)) → whole (read_at g depth e) u ≡ Err (flawed flaw.0 flaw.1)
       → HasFlaw g depth e flaw u
   flawed_so flaw u is =
-      sound_flaw g.heads (Named g.heads g.rules depth) (FlawInside g.heads g.rules depth) (reads g.heads g.rules depth)
+      sound_flaw g.heads (Named g.heads g.rules depth) (FlawInside g.heads g.rules depth) (read_name g.heads g.rules depth)
       (sound_name g.heads g.rules depth) (sound_names g.heads g.rules depth) e flaw u
       (by_answer (read_at g depth e u) is)
     where
@@ -71,11 +71,11 @@ module _ {X F N V A : Type 0} {g : Grammar X F N V} (p : Passes g) (e : Rule X F
       by_answer (Ok x) is = absurd (ended x.0 x.1 is)
       by_answer (Err stop) is = let same : stop ≡ flawed flaw.0 flaw.1 = cc in ap (λ (s : Stop F). Err s) same
 
--- what is not nullable takes a token or more
+-- a rule that is not nullable reads at least one token
 pub takes : {X F N V A : Type 0} (g : Grammar X F N V) (depth : ℕ) (e : Rule X F N V A) → nullable e ≡ false
     → (u : List (Token X)) (x : A) (w : List (Token X)) → read_at g depth e u ≡ Ok (x, w) → length w < length u
 takes g depth e some u x w is =
-    let s = sound g.heads (Some_at g.heads g.rules depth) (reads g.heads g.rules depth)
+    let s = sound g.heads (Some_at g.heads g.rules depth) (read_name g.heads g.rules depth)
     (sound_name g.heads g.rules depth) e x u w is in
     (takes_some (first g.heads e) (nullable e) u w some
     (begins g.heads (Some_at g.heads g.rules depth) (λ n r u w s. starts_at g.heads g.rules s.0 depth n r u w s.1) e

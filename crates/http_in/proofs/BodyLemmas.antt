@@ -8,8 +8,8 @@ use Rattle.httparse.specs.Ascii.{crlf_bytes}
 use Rattle.httparse.specs.Grammar.{ChunkLine, Field, LineEnd, chunk_size, print_chunk_line, print_section}
 use Rattle.http_in.specs.Chunks.{AreChunks, Chunk, IsChunk, IsInChunk, IsLine, IsTrailer, IsWholeBody}
 use Rattle.http_in.specs.Chunks.{Leads, print_chunk}
-use Rattle.http_said.specs.declared.said.Framing.{Framing}
-use Rattle.http_said.specs.declared.said.Framing.TheVariants as framings
+use Rattle.http_said.specs.declared.framing.Framing.{Framing}
+use Rattle.http_said.specs.declared.framing.Framing.TheVariants as framings
 use Rattle.http_in.specs.declared.stage.Stage.TheVariants as stages
 
 pub leads_rest : (framing : Framing) (raw body taken : List ℕ) (left rest : ℕ) → left ≡ length taken + rest

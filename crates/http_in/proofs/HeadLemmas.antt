@@ -22,12 +22,12 @@ use Rattle.http_in.specs.Head.{ExplainsHead, HasHeadFault, IsHeadAt}
 use Rattle.http_in.specs.Limits.{field_limit, head_limit}
 use Rattle.http_in.specs.Lines.{GoesOver}
 use Rattle.http_in.specs.Unframed.{request_fault}
-use Rattle.http_said.specs.declared.fault.FieldFault.{FieldFault}
-use Rattle.http_said.specs.declared.fault.FieldFault.TheVariants as fields
+use Rattle.http_said.specs.declared.framing.FieldFault.{FieldFault}
+use Rattle.http_said.specs.declared.framing.FieldFault.TheVariants as fields
 use Rattle.http_in.specs.Message.{BeginsHead, fields_of}
 use Rattle.http_in.specs.Progress.{IsOutside}
 use Rattle.http_in.specs.declared.head.Head.{Head}
-use Rattle.http_said.specs.declared.said.Framing.{Framing}
+use Rattle.http_said.specs.declared.framing.Framing.{Framing}
 use Rattle.http_in.specs.declared.fault.RequestFault.{RequestFault}
 use Rattle.http_in.specs.declared.fault.RequestFault.TheVariants as faults
 use Rattle.http_said.proofs.FramingLemmas.{framing_within}

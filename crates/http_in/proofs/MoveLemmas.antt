@@ -15,7 +15,7 @@ use Rattle.http_in.specs.Progress.{IsData, IsLineAt, IsTrailerAt, Moves, Progres
 use Rattle.http_in.specs.Progress.{stage_with}
 use Rattle.http_in.specs.declared.body.Body.{Body}
 use Rattle.http_in.specs.declared.line.Line.{Line}
-use Rattle.http_said.specs.declared.said.Framing.{Framing}
+use Rattle.http_said.specs.declared.framing.Framing.{Framing}
 use Rattle.http_in.specs.declared.stage.Stage.{Stage}
 use Rattle.http_in.specs.declared.stage.Stage.TheVariants as stages
 use Rattle.http_in.proofs.BodyLemmas.{leads_data, leads_end, leads_last, leads_line, leads_rest, leads_to_end}

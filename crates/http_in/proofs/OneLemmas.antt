@@ -13,10 +13,10 @@ use Rattle.httparse.proofs.ChunkLemmas.{chunk_line_unique}
 use Rattle.httparse.proofs.GrammarLemmas.{request_unique}
 use Rattle.http_said.specs.Fields.{framing_of}
 use Rattle.http_said.specs.Limits.{body_limit}
-use Rattle.http_said.specs.declared.fault.FieldFault.{FieldFault}
-use Rattle.http_said.specs.declared.fault.FieldFault.TheVariants as fields
-use Rattle.http_said.specs.declared.said.Framing.{Framing}
-use Rattle.http_said.specs.declared.said.Framing.TheVariants as framings
+use Rattle.http_said.specs.declared.framing.FieldFault.{FieldFault}
+use Rattle.http_said.specs.declared.framing.FieldFault.TheVariants as fields
+use Rattle.http_said.specs.declared.framing.Framing.{Framing}
+use Rattle.http_said.specs.declared.framing.Framing.TheVariants as framings
 use Rattle.http_in.specs.Chunks.{Chunk, HasRoom, IsChunk, Leads, print_chunk}
 use Rattle.http_in.specs.Faults.{HasBadHead, HasBodyFault, HasCome, HasFault, HasLargeHead, HasUnframed}
 use Rattle.http_in.specs.Faults.{IsInHead, IsInside, place_behind}

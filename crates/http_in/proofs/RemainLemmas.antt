@@ -13,8 +13,8 @@ use Rattle.httparse.specs.Grammar.{print_section}
 use Rattle.httparse.proofs.ChunkLemmas.{chunk_line_unique}
 use Rattle.httparse.proofs.GrammarLemmas.{section_unique}
 use Rattle.http_said.specs.Limits.{body_limit}
-use Rattle.http_said.specs.declared.said.Framing.{Framing}
-use Rattle.http_said.specs.declared.said.Framing.TheVariants as framings
+use Rattle.http_said.specs.declared.framing.Framing.{Framing}
+use Rattle.http_said.specs.declared.framing.Framing.TheVariants as framings
 use Rattle.http_in.specs.Chunks.{AreAllChunks, Chunk, IsChunk, IsChunkedBody, IsInChunk, IsLine, IsTrailer}
 use Rattle.http_in.specs.Chunks.{IsWholeBody, Leads, print_chunk}
 use Rattle.http_in.specs.Faults.{HasBadLine, HasBadSection, HasLargeSection, HasSectionLine, Hits, IsTooMuch, Waits}

@@ -2,7 +2,7 @@
 use Rattle.std.proofs.Common.{ℕ, ◌-◌, List, [], ◌∷◌, ◌++◌, take, length, get_or}
 use Rattle.std.proofs.Common.{ap, ◌∙◌, inl, inr, arith, append_assoc, length-append}
 use Rattle.std.proofs.lemmas.List.{take-append-le}
-use Rattle.http_said.specs.declared.fault.FieldFault.TheVariants as fields
+use Rattle.http_said.specs.declared.framing.FieldFault.TheVariants as fields
 use Rattle.http_in.specs.Faults.{HasBadLine, HasBadSection, HasBodyFault, HasCome, HasFault, HasLargeSection, Hits}
 use Rattle.http_in.specs.Faults.{IsNoEnd, IsTooMuch, place_behind}
 use Rattle.http_in.specs.Limits.{field_limit, head_limit}

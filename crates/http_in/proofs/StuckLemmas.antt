@@ -9,8 +9,8 @@ use Rattle.httparse.specs.Ascii.{crlf_bytes, line_feed}
 use Rattle.httparse.specs.Grammar.{ChunkLine, MayBecomeSection, chunk_size, print_chunk_line, print_section}
 use Rattle.httparse.proofs.ChunkLemmas.{chunk_line_unique}
 use Rattle.http_said.specs.Limits.{body_limit}
-use Rattle.http_said.specs.declared.said.Framing.{Framing}
-use Rattle.http_said.specs.declared.said.Framing.TheVariants as framings
+use Rattle.http_said.specs.declared.framing.Framing.{Framing}
+use Rattle.http_said.specs.declared.framing.Framing.TheVariants as framings
 use Rattle.http_in.specs.Chunks.{Chunk, HasRoom, IsChunk, IsChunkedBody, IsInChunk, IsLine, IsWholeBody, Leads}
 use Rattle.http_in.specs.Chunks.{print_chunk}
 use Rattle.http_in.specs.Faults.{HasBadLine, HasBadSection, HasLargeSection, Hits, IsInEnd, IsInLine, IsInSection}

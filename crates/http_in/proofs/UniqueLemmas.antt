@@ -6,8 +6,8 @@ use Rattle.httparse.specs.Grammar.{RequestHead, ReadsRequest, print_request}
 use Rattle.httparse.proofs.GrammarLemmas.{request_unique}
 use Rattle.http_said.specs.Arguments.{arguments_of, path_of}
 use Rattle.http_said.specs.Fields.{asks_to_close, framing_of, is_form}
-use Rattle.http_said.specs.declared.fault.FieldFault.{FieldFault}
-use Rattle.http_said.specs.declared.fault.FieldFault.TheVariants as fields
+use Rattle.http_said.specs.declared.framing.FieldFault.{FieldFault}
+use Rattle.http_said.specs.declared.framing.FieldFault.TheVariants as fields
 use Rattle.http_in.specs.Chunks.{IsWholeBody, Leads}
 use Rattle.http_in.specs.Faults.{HasBadHead, HasBodyFault, HasCome, HasFault, HasHeadLine, HasLargeHead, HasUnframed}
 use Rattle.http_in.specs.Faults.{IsInside}
@@ -17,7 +17,7 @@ use Rattle.http_in.specs.Message.{Asked, Asks, Begins, BeginsHead, fields_of}
 use Rattle.http_in.specs.Reading.{Explains}
 use Rattle.http_in.specs.declared.fault.RequestFault.{RequestFault}
 use Rattle.http_in.specs.declared.fault.RequestFault.TheVariants as faults
-use Rattle.http_said.specs.declared.said.Framing.{Framing}
+use Rattle.http_said.specs.declared.framing.Framing.{Framing}
 use Rattle.http_in.specs.declared.stage.Stage.{Stage}
 use Rattle.http_in.specs.declared.stage.Stage.TheVariants as stages
 use Rattle.http_in.proofs.CountLemmas.{head_lines}

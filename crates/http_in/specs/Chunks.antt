@@ -6,8 +6,8 @@ use Rattle.httparse.specs.Grammar.{ChunkLine, Field, IsChunkLine, IsField, LineE
 use Rattle.httparse.specs.Grammar.{print_section}
 use Rattle.http_said.specs.Limits.{body_limit}
 use Rattle.http_in.specs.Limits.{field_limit, head_limit}
-use Rattle.http_said.specs.declared.said.Framing.{Framing}
-use Rattle.http_said.specs.declared.said.Framing.TheVariants as framings
+use Rattle.http_said.specs.declared.framing.Framing.{Framing}
+use Rattle.http_said.specs.declared.framing.Framing.TheVariants as framings
 use Rattle.http_in.specs.declared.stage.Stage.{Stage}
 use Rattle.http_in.specs.declared.stage.Stage.TheVariants as stages
 

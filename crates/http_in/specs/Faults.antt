@@ -10,11 +10,11 @@ use Rattle.http_said.specs.Limits.{body_limit}
 use Rattle.http_in.specs.Limits.{field_limit, head_limit, place}
 use Rattle.http_in.specs.Lines.{GoesOver, lines_in}
 use Rattle.http_in.specs.Message.{BeginsHead, fields_of}
-use Rattle.http_said.specs.declared.fault.FieldFault.{FieldFault}
-use Rattle.http_said.specs.declared.fault.FieldFault.TheVariants as fields
+use Rattle.http_said.specs.declared.framing.FieldFault.{FieldFault}
+use Rattle.http_said.specs.declared.framing.FieldFault.TheVariants as fields
 use Rattle.http_in.specs.declared.fault.RequestFault.{RequestFault}
 use Rattle.http_in.specs.declared.fault.RequestFault.TheVariants as faults
-use Rattle.http_said.specs.declared.said.Framing.{Framing}
+use Rattle.http_said.specs.declared.framing.Framing.{Framing}
 use Rattle.http_in.specs.declared.stage.Stage.{Stage}
 use Rattle.http_in.specs.declared.stage.Stage.TheVariants as stages
 

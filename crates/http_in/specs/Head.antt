@@ -9,7 +9,7 @@ use Rattle.http_in.specs.Message.{fields_of}
 use Rattle.http_in.specs.declared.head.Head.{Head}
 use Rattle.http_in.specs.declared.head.HeadFault.{HeadFault}
 use Rattle.http_in.specs.declared.head.HeadFault.TheVariants as whys
-use Rattle.http_said.specs.declared.fault.FieldFault.TheVariants as fields
+use Rattle.http_said.specs.declared.framing.FieldFault.TheVariants as fields
 use Rattle.http_in.specs.declared.fault.RequestFault.{RequestFault}
 use Rattle.http_in.specs.declared.fault.RequestFault.TheVariants as faults
 

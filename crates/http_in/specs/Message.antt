@@ -8,7 +8,7 @@ use Rattle.http_in.specs.Chunks.{IsWholeBody}
 use Rattle.http_said.specs.Fields.{asks_to_close, framing_of, is_form}
 use Rattle.http_said.specs.Limits.{body_limit}
 use Rattle.http_in.specs.Limits.{field_limit, head_limit}
-use Rattle.http_said.specs.declared.said.Framing.{Framing}
+use Rattle.http_said.specs.declared.framing.Framing.{Framing}
 
 -- a request, as what serves it sees it
 pub record Asked : Type 0 where

@@ -10,7 +10,7 @@ use Rattle.http_in.specs.declared.body.Body.{Body}
 use Rattle.http_in.specs.declared.fault.RequestFault.{RequestFault}
 use Rattle.http_in.specs.declared.fault.RequestFault.TheVariants as faults
 use Rattle.http_in.specs.declared.line.Line.{Line}
-use Rattle.http_said.specs.declared.said.Framing.{Framing}
+use Rattle.http_said.specs.declared.framing.Framing.{Framing}
 use Rattle.http_in.specs.declared.stage.Stage.{Stage}
 use Rattle.http_in.specs.declared.stage.Stage.TheVariants as stages
 

@@ -13,8 +13,8 @@ use Rattle.http_in.specs.declared.body.Body.{Body}
 use Rattle.http_in.specs.declared.head.Head.{Head}
 use Rattle.http_in.specs.declared.fault.RequestFault.{RequestFault}
 use Rattle.http_in.specs.declared.fault.RequestFault.TheVariants as faults
-use Rattle.http_said.specs.declared.said.Framing.{Framing}
-use Rattle.http_said.specs.declared.said.Framing.TheVariants as framings
+use Rattle.http_said.specs.declared.framing.Framing.{Framing}
+use Rattle.http_said.specs.declared.framing.Framing.TheVariants as framings
 use Rattle.http_in.specs.declared.stage.Stage.{Stage}
 use Rattle.http_in.specs.declared.stage.Stage.TheVariants as stages
 use Rattle.http_in.specs.declared.request.Request.{Request}

@@ -1,6 +1,6 @@
 -- The fault of a request whose fields are at fault.
-use Rattle.http_said.specs.declared.fault.FieldFault.{FieldFault}
-use Rattle.http_said.specs.declared.fault.FieldFault.TheVariants as fields
+use Rattle.http_said.specs.declared.framing.FieldFault.{FieldFault}
+use Rattle.http_said.specs.declared.framing.FieldFault.TheVariants as fields
 use Rattle.http_in.specs.declared.fault.RequestFault.{RequestFault}
 use Rattle.http_in.specs.declared.fault.RequestFault.TheVariants as faults
 

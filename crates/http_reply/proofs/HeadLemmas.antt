@@ -1,4 +1,4 @@
--- A head, around the length of the content.
+-- A head split around the length of the content.
 use Rattle.std.proofs.Common.{◌≡◌, ℕ, false, List, ◌++◌, ap, sym, ◌∙◌, codes, decimal, flat_map}
 use Rattle.std.proofs.Common.{append_assoc}
 use Rattle.std.proofs.lemmas.Grind.{flat_map-append}
@@ -6,15 +6,15 @@ use Rattle.http_reply.specs.Reply.{allow_fields, close_fields, field_line, head_
 use Rattle.http_reply.specs.declared.status.Delivery.{Delivery}
 use Rattle.http_reply.specs.declared.status.Status.{Status}
 
--- the field lines up to the digits of the length
+-- the header fields up to the digits of the length
 abbrev up_to_length : Status → List ℕ
 up_to_length status =
     flat_map field_line (allow_fields status)
     ++ (field_line (codes "Content-Type", media_type (kind_of status)) ++ codes "Content-Length: ")
 
--- and behind them
-abbrev pub behind_length : Delivery → List ℕ
-behind_length delivery = line_end ++ (flat_map field_line (close_fields delivery.closes) ++ line_end)
+-- the head after the digits of the length
+abbrev pub after_length : Delivery → List ℕ
+after_length delivery = line_end ++ (flat_map field_line (close_fields delivery.closes) ++ line_end)
 
 abbrev pub before_length : Status → List ℕ
 before_length status = codes "HTTP/1.1 " ++ (status_line status ++ (line_end ++ up_to_length status))
@@ -25,7 +25,7 @@ regroup : (h s e a t l d c : List ℕ)
 regroup h s e a t l d c = simp append_assoc
 
 pub around_length : (status : Status) (length : ℕ) (delivery : Delivery) → delivery.bare ≡ false
-    → before_length status ++ (decimal length ++ behind_length delivery) ≡ head_bytes status length delivery
+    → before_length status ++ (decimal length ++ after_length delivery) ≡ head_bytes status length delivery
 unfolding head_bytes
 around_length status length delivery has =
     rw has

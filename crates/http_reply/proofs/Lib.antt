@@ -1,3 +1,3 @@
 pub mod Pages
-pub mod SendLemmas
+pub mod PartLemmas
 mod HeadLemmas

@@ -1,4 +1,4 @@
-//! The head of a reply.
+//! Formats response heads: the status line and the header fields.
 ghost use Rattle.std.specs.Prelude.{◌≡◌, ◌++◌, ℕ, IfOk, OnOk, decimal, false, flat_map, string_bytes};
 ghost use Rattle.http_reply.specs.Reply.{allow_fields, close_fields, field_line, head_bytes, length_fields};
 
@@ -6,7 +6,7 @@ use crate::status::{Delivery, Status};
 use itoa::Buffer;
 use std::alloc::{AllocError, Global};
 
-/// The head of a reply, whose content has this length.
+/// Returns the head of a response whose content has this length.
 #[tactic(auto, unfolding(crate::specs::Reply::head_bytes))]
 pub fn reply_head(
     alloc: Global,
@@ -27,8 +27,8 @@ pub fn reply_head(
     Ok(text)
 }
 
-/// The head of a reply in two parts, between which the length of its content belongs, in decimal digits. So the head is
-/// made where that length is not known yet. A reply to HEAD has no length.
+/// Returns the head of a response in two parts. The length of the content goes between them, in decimal digits, so the
+/// head can be formatted before the length is known. A response to HEAD has no length.
 #[tactic(auto, unfolding(crate::specs::Reply::head_bytes))]
 pub fn head_around_length(
     alloc: Global,
@@ -45,13 +45,13 @@ pub fn head_around_length(
     push_allow(&mut before, status)?;
     push_field(&mut before, "Content-Type", status.kind().text())?;
     before.push_str("Content-Length: ")?;
-    let mut behind = String::from_str(alloc, "\r\n")?;
-    push_close(&mut behind, delivery.closes)?;
-    behind.push_str("\r\n")?;
-    Ok((before, behind))
+    let mut after = String::from_str(alloc, "\r\n")?;
+    push_close(&mut after, delivery.closes)?;
+    after.push_str("\r\n")?;
+    Ok((before, after))
 }
 
-/// Appends the methods of the path, where another was asked for.
+/// Appends the Allow field, if the status is 405.
 fn push_allow(text: &mut String, status: Status) -> Result<(), AllocError>
     ensures { OnOk result (string_bytes text.new ≡ string_bytes text.old ++ flat_map field_line (allow_fields status)) }
 {
@@ -61,7 +61,7 @@ fn push_allow(text: &mut String, status: Status) -> Result<(), AllocError>
     }
 }
 
-/// Appends the length of the content, unless the reply has none.
+/// Appends the Content-Length field, unless the content is left out.
 fn push_length(text: &mut String, bare: bool, length: usize) -> Result<(), AllocError>
     ensures { OnOk result (string_bytes text.new
         ≡ string_bytes text.old ++ flat_map field_line (length_fields bare length)) }
@@ -73,7 +73,7 @@ fn push_length(text: &mut String, bare: bool, length: usize) -> Result<(), Alloc
     push_field(text, "Content-Length", digits.format(length))
 }
 
-/// Appends that the connection ends, where it does.
+/// Appends `Connection: close`, if the connection closes.
 fn push_close(text: &mut String, closes: bool) -> Result<(), AllocError>
     ensures { OnOk result (string_bytes text.new ≡ string_bytes text.old ++ flat_map field_line (close_fields closes)) }
 {
@@ -84,7 +84,7 @@ fn push_close(text: &mut String, closes: bool) -> Result<(), AllocError>
     }
 }
 
-/// Appends a field line.
+/// Appends one header field.
 fn push_field(text: &mut String, name: &str, value: &str) -> Result<(), AllocError>
     ensures { OnOk result (string_bytes text.new ≡ string_bytes text.old ++ field_line (name.now, value.now)) }
 {

@@ -1,17 +1,17 @@
-//! What a reply says, but for its content.
+//! Response statuses, media types and allowed methods.
 ghost use Rattle.std.specs.Prelude.{◌≡◌};
 ghost use Rattle.http_reply.specs.Reply.{kind_of, media_type, methods_text, status_line};
 
-/// What became of a request (RFC 9110, section 15).
+/// The status of a response (RFC 9110, section 15).
 #[derive(Clone, Copy, Debug, PartialEq, Eq, Drop)]
 pub enum Status {
-    /// 200: the content is the answer, and is of this kind.
+    /// 200, with content of this kind
     Served(Kind),
     /// 400
     BadRequest,
     /// 404
     NotFound,
-    /// 405: the path has these methods.
+    /// 405; the path allows these methods
     MethodNotAllowed(Methods),
     /// 413
     ContentTooLarge,
@@ -25,16 +25,16 @@ pub enum Status {
     InsufficientStorage,
 }
 
-/// What content is written in (RFC 9110, section 8.3).
+/// The media type of the content (RFC 9110, section 8.3).
 #[derive(Clone, Copy, Debug, PartialEq, Eq, Drop)]
 pub enum Kind {
     Text,
     Json,
-    /// JSON texts, one on each line.
+    /// One JSON text per line.
     JsonLines,
 }
 
-/// The methods of a path (RFC 9110, section 9).
+/// The methods that a path allows (RFC 9110, section 9).
 #[derive(Clone, Copy, Debug, PartialEq, Eq, Drop)]
 pub enum Methods {
     Get,
@@ -42,17 +42,17 @@ pub enum Methods {
     GetAndPost,
 }
 
-/// How a reply goes over its connection.
+/// How a response is delivered over its connection.
 #[derive(Clone, Copy, Debug, PartialEq, Eq, Drop)]
 pub struct Delivery {
-    /// Whether the content is left out, with its length, as in a reply to HEAD.
+    /// Whether the content and its length are left out, as in a response to HEAD.
     pub bare: bool,
-    /// Whether the connection ends behind it.
+    /// Whether the connection closes after the response.
     pub closes: bool,
 }
 
 impl Status {
-    /// The code and its reason, as a status line has them.
+    /// Returns the code and the reason phrase of the status line.
     pub(crate) fn text(self) -> &'static str
         ensures { result.now ≡ status_line self }
     {
@@ -69,7 +69,7 @@ impl Status {
         }
     }
 
-    /// What the content is written in.
+    /// Returns the kind of the content.
     pub(crate) fn kind(self) -> Kind
         ensures { result ≡ kind_of self }
     {
@@ -81,7 +81,7 @@ impl Status {
 }
 
 impl Kind {
-    /// The type, as Content-Type has it.
+    /// Returns the value of the Content-Type field.
     pub(crate) fn text(self) -> &'static str
         ensures { result.now ≡ media_type self }
     {
@@ -94,7 +94,7 @@ impl Kind {
 }
 
 impl Methods {
-    /// The methods, as Allow has them.
+    /// Returns the value of the Allow field.
     pub(crate) fn text(self) -> &'static str
         ensures { result.now ≡ methods_text self }
     {

@@ -1,12 +1,15 @@
-//! Replies whose content is there.
-ghost use Rattle.std.specs.Prelude.{◌≡◌, IfOk, string_bytes};
+//! Whole responses.
+ghost use Rattle.std.specs.Prelude.{◌≡◌, ◌++◌, ◌<◌, ℕ, IfOk, OnErr, OnOk, length, string_bytes, take};
 ghost use Rattle.http_reply.specs.Reply.{no_memory_bytes, reply_bytes};
+ghost use Rattle.vl_io.specs.Bytes.{Appends};
+ghost use Rattle.vl_io.specs.Faults.{HasCause};
 
 use crate::head::reply_head;
 use crate::status::{Delivery, Status};
 use std::alloc::{AllocError, Global};
+use vl_io::{Failed, Sink, put_all};
 
-/// A whole reply.
+/// Returns a whole response.
 pub fn reply(
     alloc: Global,
     status: Status,
@@ -22,7 +25,7 @@ pub fn reply(
     Ok(text)
 }
 
-/// The reply where there is no memory. It takes none itself.
+/// Returns the response when memory runs out. It allocates nothing.
 pub fn no_memory(delivery: Delivery) -> &'static str
     ensures { result.now ≡ no_memory_bytes delivery }
 {
@@ -52,4 +55,15 @@ pub fn no_memory(delivery: Delivery) -> &'static str
              \r\n"
         }
     }
+}
+
+/// Writes a head and then the content. If the sink fails, a proper prefix of both was written.
+pub fn put_parts<K: Sink>(sink: &mut K, head: &str, content: &str) -> Result<(), Failed>
+    ensures ok { OnOk result (Appends (K.written sink.old) (K.written sink.new) (head.now ++ content.now)) }
+    ensures err { OnErr result ((n : ℕ) × (n < length (head.now ++ content.now))
+        × Appends (K.written sink.old) (K.written sink.new) (take n (head.now ++ content.now))) }
+    ensures cause { HasCause (K.faults sink.old) (K.faults sink.new) result }
+{
+    put_all(sink, head.as_bytes())?;
+    put_all(sink, content.as_bytes())
 }

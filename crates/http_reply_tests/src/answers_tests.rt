@@ -1,4 +1,4 @@
-//! Replies, whole and in parts.
+//! Responses, whole and in parts.
 use crate::cases_tests::{content_of, delivery_of, shown, status_of};
 use http_reply::{Delivery, Status, no_memory, put_parts, reply, reply_head};
 use std::alloc::{AllocError, Global};
@@ -19,7 +19,7 @@ pub fn answer(alloc: Global, line: &str) -> Result<String, AllocError> {
     format!(in alloc; "{name} | {text}")
 }
 
-/// The reply, and what was written of it where that is something else.
+/// Returns the response, and what was written of it where that differs.
 fn whole_reply(
     alloc: Global,
     status: Status,

@@ -1,4 +1,4 @@
-//! Cases, from words.
+//! Parses cases.
 use http_reply::{Delivery, Kind, Methods, Status};
 use std::alloc::{AllocError, Global};
 
@@ -27,12 +27,12 @@ pub fn delivery_of(words: &str) -> Delivery {
     }
 }
 
-/// The text without `\n`, which stands for a line feed.
+/// Returns the text with each `\n` replaced by a line feed.
 pub fn content_of(alloc: Global, words: &str) -> Result<String, AllocError> {
     words.replace(alloc, "\\n", "\n")
 }
 
-/// The text with what stands for its line ends.
+/// Returns the text with its line ends escaped.
 pub fn shown(alloc: Global, text: &str) -> Result<String, AllocError> {
     text.replace(alloc, "\r", "\\r")?
         .as_str()

@@ -1,10 +1,10 @@
-//! Reads a case on each line: its name, and behind bars what became of the request, how the reply is delivered, and its
-//! content. Writes the reply. Each is also sent in two parts, and so that its second part fails; where that is not the
-//! same bytes, or not the head alone, both are written.
+//! Reads a case on each line: its title, the status, the delivery and the content, separated by bars. Prints the
+//! response. Each one is also written in two parts, and again with a failure of the second part. If this does not write
+//! the same bytes, or exactly the head, both are printed.
 //!
-//! A carriage return stands as `\r`, and a line feed as `\n`.
+//! A carriage return is written as `\r`, and a line feed as `\n`.
 //!
-//! The answers in `stdout` are not the program's own: they come from a second writing of the same rules in Python.
+//! The expected output in `stdout` comes from a second implementation in Python.
 #![tactic(auto)]
 
 mod answers_tests;

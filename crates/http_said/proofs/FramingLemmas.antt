@@ -1,4 +1,4 @@
--- A declared length that is taken is within the limit.
+-- An accepted Content-Length is within the limit.
 use Rattle.std.proofs.Common.{◌≡◌, ℕ, ◌≤◌, Bool, true, false, ◌&&◌, ◌||◌, cond, List, [], ◌∷◌, refl, ap, sym}
 use Rattle.std.proofs.Common.{◌∙◌, arith}
 use Rattle.std.specs.Prelude.{None, Some, Result, Ok, Err, nat_lt}
@@ -6,16 +6,16 @@ use Rattle.std.specs.List.{list_any}
 use Rattle.std.specs.Str.Parse.{digits_value}
 use Rattle.std.proofs.lemmas.Bool.Decides.{nat_tests}
 use Rattle.http1.specs.Fields.{Header, is_number}
-use Rattle.http_said.specs.Fields.{agree, coding_of, codings_said, encodings_said, framing_in, framing_of}
-use Rattle.http_said.specs.Fields.{is_above_limit, is_encoded, is_large, length_of, lengths_said, unless_encoded}
+use Rattle.http_said.specs.Fields.{agree, coding_of, transfer_codings, content_encodings, framing_in, framing_of}
+use Rattle.http_said.specs.Fields.{is_above_limit, is_encoded, is_large, length_of, content_lengths, unless_encoded}
 use Rattle.http_said.specs.Fields.{IsWithinLimit}
 use Rattle.http_said.specs.Limits.{body_limit}
-use Rattle.http_said.specs.declared.fault.FieldFault.{FieldFault}
-use Rattle.http_said.specs.declared.fault.FieldFault.TheVariants as faults
-use Rattle.http_said.specs.declared.said.Coding.{Coding}
-use Rattle.http_said.specs.declared.said.Coding.TheVariants as codings
-use Rattle.http_said.specs.declared.said.Framing.{Framing}
-use Rattle.http_said.specs.declared.said.Framing.TheVariants as framings
+use Rattle.http_said.specs.declared.framing.FieldFault.{FieldFault}
+use Rattle.http_said.specs.declared.framing.FieldFault.TheVariants as faults
+use Rattle.http_said.specs.declared.framing.Coding.{Coding}
+use Rattle.http_said.specs.declared.framing.Coding.TheVariants as codings
+use Rattle.http_said.specs.declared.framing.Framing.{Framing}
+use Rattle.http_said.specs.declared.framing.Framing.TheVariants as framings
 
 or_left : (a b : Bool) → (a || b) ≡ false → a ≡ false
 or_left true b e = cc
@@ -28,7 +28,7 @@ and_left false b e = cc
 small : (n : ℕ) → nat_lt body_limit n ≡ false → n ≤ body_limit
 small n e = grind (arith, nat_tests)
 
--- a number that is not too large
+-- a number within the limit
 number_small : (v : List ℕ) (t : Bool) → is_number v ≡ t → t ≡ true
     → is_above_limit (cond t (Some (digits_value 10 v)) None) ≡ false → digits_value 10 v ≤ body_limit
 number_small v true is e large = small (digits_value 10 v) large
@@ -75,5 +75,5 @@ by_tests lengths c encoded false true f a b e = in_length lengths c f a b
 
 pub framing_within : (fields : List Header) (f : Framing) → framing_of fields ≡ Ok f → IsWithinLimit f
 framing_within fields f e =
-    by_tests (lengths_said fields) (coding_of (codings_said fields))
-    (is_encoded (encodings_said fields)) _ _ f refl refl e
+    by_tests (content_lengths fields) (coding_of (transfer_codings fields))
+    (is_encoded (content_encodings fields)) _ _ f refl refl e

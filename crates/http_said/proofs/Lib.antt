@@ -1,2 +1,2 @@
 pub mod FramingLemmas
-pub mod SaidLemmas
+pub mod FieldLemmas

@@ -1,4 +1,4 @@
 pub mod Limits
 pub mod Fields
-pub mod Said
+pub mod HeadFields
 pub mod Arguments

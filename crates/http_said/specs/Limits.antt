@@ -1,6 +1,6 @@
--- The limit of a body.
+-- The limit of a body's length.
 use Rattle.std.specs.Prelude.{ℕ}
 
--- the bytes of a body
+-- the maximum length of a body in bytes
 abbrev pub body_limit : ℕ
 body_limit = 33554432

@@ -1,4 +1,4 @@
-//! What field lines and forms say.
+//! The results for header fields and form data.
 use crate::spelling_tests::{bytes_of, push_spelled};
 use http_said::{Facts, FieldFault, Framing, push_arguments};
 use httparse::Status;
@@ -43,7 +43,7 @@ fn push_fields(bytes: &[u8], answer: &mut String) -> Result<(), AllocError> {
     }
 }
 
-/// What they say in HTTP/1.0 and in HTTP/1.1.
+/// Appends the results in HTTP/1.0 and in HTTP/1.1.
 fn push_facts(old: &Facts, new: &Facts, answer: &mut String) -> Result<(), AllocError> {
     push_framing(new, answer)?;
     if new.form {

@@ -1,9 +1,9 @@
-//! Reads a case on each line: what it shows, and behind ` | ` the field lines of a head with the empty line that ends
-//! them, or, where the case is a form, the bytes of one. Writes what the fields say, or the arguments.
+//! Reads a case on each line: its title, and after ` | ` header fields with the empty line after them, or form data.
+//! Prints what the fields mean, or the arguments.
 //!
-//! A byte that is no visible ASCII stands as `\0a;`, and so many of one as `\61x65536;`.
+//! A byte other than visible ASCII is written as `\0a;`, and a byte repeated 65,536 times as `\61x65536;`.
 //!
-//! The answers in `stdout` are not the program's own: they come from a second reading of the same rules in Python.
+//! The expected output in `stdout` comes from a second implementation in Python.
 #![tactic(auto)]
 
 mod answers_tests;

@@ -1,8 +1,8 @@
-//! Bytes as visible text.
+//! Bytes in escaped form.
 use std::alloc::{AllocError, Global};
 use std::fmt::Write;
 
-/// The most bytes that are written out; of more the number is written.
+/// The largest number of bytes that are printed; of more, only their number is printed.
 const LONGEST: usize = 400;
 
 pub fn push_spelled(bytes: &[u8], out: &mut String) -> Result<(), AllocError> {

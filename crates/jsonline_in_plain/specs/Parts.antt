@@ -1,4 +1,4 @@
--- What the parts of a line stand for.
+-- The values of escape sequences and brackets.
 use Rattle.log_model.specs.Token.{Character, short, unicode}
 use Rattle.log_model.specs.Value.{Kind, array, object}
 use Rattle.jsonline_in_plain.specs.declared.escape.Escape.{Escape}

@@ -65,8 +65,8 @@ fn number_end(text: &str) -> Result<&str, ScanFault>
     exp(frac(int(rest)?)?)
 }
 
-/// What follows the first letter of a literal.
-fn rue(text: &str) -> Result<&str, ScanFault>
+/// Matches `true` after its first letter, and returns the rest.
+fn after_t(text: &str) -> Result<&str, ScanFault>
     ensures { ReadsAs (λ rest. (tt, rest.now)) result (word_end (114 ∷ 117 ∷ 101 ∷ []) text.now) }
 {
     let text = expect(text, b'r')?;
@@ -74,7 +74,7 @@ fn rue(text: &str) -> Result<&str, ScanFault>
     expect(text, b'e')
 }
 
-fn alse(text: &str) -> Result<&str, ScanFault>
+fn after_f(text: &str) -> Result<&str, ScanFault>
     ensures { ReadsAs (λ rest. (tt, rest.now)) result (word_end (97 ∷ 108 ∷ 115 ∷ 101 ∷ []) text.now) }
 {
     let text = expect(text, b'a')?;
@@ -83,7 +83,7 @@ fn alse(text: &str) -> Result<&str, ScanFault>
     expect(text, b'e')
 }
 
-fn ull(text: &str) -> Result<&str, ScanFault>
+fn after_n(text: &str) -> Result<&str, ScanFault>
     ensures { ReadsAs (λ rest. (tt, rest.now)) result (word_end (117 ∷ 108 ∷ 108 ∷ []) text.now) }
 {
     let text = expect(text, b'u')?;
@@ -91,19 +91,19 @@ fn ull(text: &str) -> Result<&str, ScanFault>
     expect(text, b'l')
 }
 
-/// The text of a number or a literal, and what follows it.
+/// Parses a number or a literal. Returns its text and the rest.
 #[tactic(auto, unfolding(jsonline_in::specs::Reading::bare_at, jsonline_in::specs::Reading::number_at))]
 pub(crate) fn bare(text: &str) -> Result<(&str, &str), ScanFault>
     ensures { ReadsAs (λ x. (x.0.now, x.1.now)) result (mapped scalar_text (bare_at text.now)) }
 {
     if let Some(rest) = past(text, b't') {
-        return Ok(("true", rue(rest)?));
+        return Ok(("true", after_t(rest)?));
     }
     if let Some(rest) = past(text, b'f') {
-        return Ok(("false", alse(rest)?));
+        return Ok(("false", after_f(rest)?));
     }
     if let Some(rest) = past(text, b'n') {
-        return Ok(("", ull(rest)?));
+        return Ok(("", after_n(rest)?));
     }
     let rest = number_end(text)?;
     Ok((prefix(text, rest), rest))

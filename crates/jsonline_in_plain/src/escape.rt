@@ -1,4 +1,4 @@
-// Escaped characters of strings, and the text that they stand for.
+// Escape sequences in strings, and the text that they stand for.
 ghost use Rattle.std.specs.Prelude.{◌≡◌, ◌≤◌, ◌<◌, ◌++◌, [], ◌∷◌, List, string_bytes, map, IfOk, OnOk, IsTrue};
 ghost use Rattle.std.specs.Char.{digit_value, encode_utf8, IsScalar};
 ghost use Rattle.log_model.specs.Token.{Character, code_unit, plain, is_character, alone, unit_text, replacement};
@@ -11,7 +11,7 @@ use crate::scan::{hex, past};
 use jsonline_in::ScanFault;
 use std::alloc::AllocError;
 
-/// What stands behind a backslash: one byte, or `u` and four digits.
+/// An escape sequence after its backslash: one byte, or `u` and four digits.
 #[derive(Clone, Copy)]
 pub(crate) enum Escape {
     Short(u8),
@@ -19,7 +19,7 @@ pub(crate) enum Escape {
 }
 
 #[tactic(auto, using(jsonline_in::proofs::Cuts::short_cut), unfolding(jsonline_in::specs::Reading::one_of))]
-fn short(text: &str) -> Result<(u8, &str), ScanFault>
+fn read_short(text: &str) -> Result<(u8, &str), ScanFault>
     ensures { ReadsAs (λ x. (x.0, x.1.now)) result (one_of is_short text.now) }
 {
     if text.is_empty() {
@@ -31,9 +31,9 @@ fn short(text: &str) -> Result<(u8, &str), ScanFault>
     }
 }
 
-/// Four hexadecimal digits.
+/// Parses four hexadecimal digits.
 #[tactic(auto, unfolding(jsonline_in::specs::Reading::unicode_at))]
-fn unicode(text: &str) -> Result<(Escape, &str), ScanFault>
+fn read_unicode(text: &str) -> Result<(Escape, &str), ScanFault>
     ensures { ReadsAs (λ x. (escape_of x.0, x.1.now)) result (unicode_at text.now) }
 {
     let (a, text) = hex(text)?;
@@ -43,20 +43,20 @@ fn unicode(text: &str) -> Result<(Escape, &str), ScanFault>
     Ok((Escape::Unicode(a, b, c, d), rest))
 }
 
-/// What stands behind a backslash.
+/// Parses an escape sequence after its backslash.
 #[tactic(auto, unfolding(jsonline_in::specs::Reading::escape_at, jsonline_in::specs::Reading::short_at))]
-pub(crate) fn escaped(text: &str) -> Result<(Escape, &str), ScanFault>
+pub(crate) fn read_escape(text: &str) -> Result<(Escape, &str), ScanFault>
     ensures { ReadsAs (λ x. (escape_of x.0, x.1.now)) result (escape_at text.now) }
 {
     if let Some(digits) = past(text, b'u') {
-        return unicode(digits);
+        return read_unicode(digits);
     }
-    let (byte, rest) = short(text)?;
+    let (byte, rest) = read_short(text)?;
     Ok((Escape::Short(byte), rest))
 }
 
-/// The value of a hexadecimal digit, and at most 36 for any byte.
-fn value_of(digit: u8) -> u32
+/// Returns the value of a hexadecimal digit, and at most 36 for any other byte.
+fn hex_value(digit: u8) -> u32
     ensures value { result ≡ digit_value digit }
     ensures most { result ≤ 36 }
 {
@@ -69,12 +69,12 @@ fn value_of(digit: u8) -> u32
     }
 }
 
-/// The code unit of four hexadecimal digits.
+/// Returns the code unit of four hexadecimal digits.
 fn unit_of(a: u8, b: u8, c: u8, d: u8) -> u32
     ensures value { result ≡ code_unit a b c d }
     ensures most { result < 1_114_112 }
 {
-    ((value_of(a) * 16 + value_of(b)) * 16 + value_of(c)) * 16 + value_of(d)
+    ((hex_value(a) * 16 + hex_value(b)) * 16 + hex_value(c)) * 16 + hex_value(d)
 }
 
 fn is_high(unit: u32) -> bool
@@ -89,8 +89,8 @@ fn is_low(unit: u32) -> bool
     matches!(unit, 0xdc00..=0xdfff)
 }
 
-/// Appends U+FFFD for a high surrogate that no low one follows.
-pub(crate) fn push_alone(out: &mut String, unit: u32) -> Result<(), AllocError>
+/// Appends U+FFFD for a high surrogate without a low one after it.
+pub(crate) fn push_lone_surrogate(out: &mut String, unit: u32) -> Result<(), AllocError>
     ensures { OnOk result (string_bytes out.new ≡ string_bytes out.old ++ alone unit) }
 {
     match is_high(unit) {
@@ -99,7 +99,7 @@ pub(crate) fn push_alone(out: &mut String, unit: u32) -> Result<(), AllocError>
     }
 }
 
-/// Appends the character, or U+FFFD where the code is that of none.
+/// Appends the character with this code, or U+FFFD if there is none.
 fn push_code(out: &mut String, code: u32) -> Result<(), AllocError>
     ensures scalar { IsScalar code → OnOk result (string_bytes out.new ≡ string_bytes out.old ++ encode_utf8 code) }
     ensures other { ¬ (IsScalar code) → OnOk result (string_bytes out.new ≡ string_bytes out.old ++ replacement) }
@@ -119,14 +119,14 @@ fn push_unit(out: &mut String, before: u32, unit: u32) -> Result<(), AllocError>
         let low = unit - 0xdc00;
         return push_code(out, 0x10000 + high * 1024 + low);
     }
-    push_alone(out, before)?;
+    push_lone_surrogate(out, before)?;
     match is_high(unit) {
         true => Ok(()),
         false => push_code(out, unit),
     }
 }
 
-/// The character of a backslash and this byte.
+/// Returns the character that a backslash with this byte stands for.
 fn short_value(byte: u8) -> u8
     ensures { result ≡ short_value byte }
 {
@@ -149,12 +149,12 @@ fn push_short(out: &mut String, before: u32, byte: u8) -> Result<(), AllocError>
     requires { byte < 128 }
     ensures { OnOk result (string_bytes out.new ≡ string_bytes out.old ++ (alone before ++ short_value byte ∷ [])) }
 {
-    push_alone(out, before)?;
+    push_lone_surrogate(out, before)?;
     out.push(short_value(byte) as char)
 }
 
-/// Appends the text of the escaped character that comes right behind a code unit, or behind none, which is 0. Gives its
-/// own code unit.
+/// Appends the text of an escape sequence that directly follows the code unit `before`, where 0 stands for none.
+/// Returns its own code unit.
 pub(crate) fn push_escape(out: &mut String, before: u32, escape: Escape) -> Result<u32, AllocError>
     requires { IsTrue (is_character (escape_of escape)) }
     ensures { IfOk result (λ unit. (more : List Character) →
@@ -174,8 +174,8 @@ pub(crate) fn push_escape(out: &mut String, before: u32, escape: Escape) -> Resu
     }
 }
 
-/// Appends characters that stand for themselves, which come right behind a code unit, or behind none, which is 0.
-/// Gives the code unit that what follows them comes behind.
+/// Appends unescaped characters that directly follow the code unit `before`, where 0 stands for none. Returns the code
+/// unit that precedes the next character.
 pub(crate) fn push_plain(out: &mut String, before: u32, run: &str) -> Result<u32, AllocError>
     ensures { IfOk result (λ unit. (more : List Character) →
         string_bytes out.old ++ text_behind before (map plain run.now ++ more)
@@ -184,7 +184,7 @@ pub(crate) fn push_plain(out: &mut String, before: u32, run: &str) -> Result<u32
     if run.is_empty() {
         return Ok(before);
     }
-    push_alone(out, before)?;
+    push_lone_surrogate(out, before)?;
     out.push_str(run)?;
     Ok(0)
 }

@@ -1,5 +1,9 @@
-//! Lines of JSON as fields, read by a plain slow program that lists all fields before it sets them. It shares no body
-//! with `jsonline_in`, which is compared with it.
+//! A slow and simple reader of JSON lines, for tests of `jsonline_in` to compare with. It calls no function of that
+//! crate.
+//!
+//! - This file: `fields_of` collects all fields of the object, and then sets them.
+//! - `line`: the start of the object, and errors; `text`: names and values; `tokens`: arrays, as compact JSON.
+//! - `escape`: escape sequences; `bare`: numbers and literals; `scan`: white space, bytes and digits.
 #![tactic(auto)]
 
 ghost use Rattle.std.specs.Prelude.{◌≡◌, ◌<◌, ◌++◌, ◌∷◌, [], List, length, string_bytes, IfErr, OnOk};
@@ -23,7 +27,7 @@ use std::alloc::{AllocError, Global};
 use std::marker::Model;
 use vl_row::FieldList;
 
-/// A field, whose name is not empty.
+/// A field with a name that is not empty.
 #[derive(Drop)]
 struct Pair {
     name: String,
@@ -38,7 +42,7 @@ impl Model for Pair {
     ghost invariant = { λ p. 0 < length (string_bytes p.name) };
 }
 
-/// The fields so far.
+/// The fields collected so far.
 #[derive(Drop)]
 struct Listing {
     alloc: Global,
@@ -46,7 +50,7 @@ struct Listing {
 }
 
 impl Listing {
-    /// Lists a field. An empty name is that of the message.
+    /// Adds a field. An empty name stands for `_msg`.
     fn push(&mut self, name: &str, value: String) -> Result<(), AllocError>
         ensures { OnOk result (self.new.pairs.items
             ≡ self.old.pairs.items ++ (field_name name.now, string_bytes value) ∷ []) }
@@ -56,7 +60,7 @@ impl Listing {
         Ok(self.pairs.push(Pair { name, value })?)
     }
 
-    /// Lists the fields of the value at the start, which has this name, and gives what follows it.
+    /// Adds the fields of the value at the start, which has this name. Returns the rest.
     #[cycle(list)]
     fn value<'a>(&mut self, name: &str, text: &'a str, depth: u32) -> Result<&'a str, ScanFault>
         ensures { ReadsAs (λ rest. (self.new.pairs.items, rest.now)) result
@@ -86,7 +90,7 @@ impl Listing {
         self.value(name.as_str(), rest, depth)
     }
 
-    /// Lists the fields of the members behind an opening brace, whose names have this text before them.
+    /// Adds the fields of the members after an opening brace, with this prefix before their names. Returns the rest.
     #[cycle(list)]
     fn members<'a>(&mut self, before: &str, text: &'a str, depth: u32) -> Result<&'a str, ScanFault>
         ensures { ReadsAs (λ rest. (self.new.pairs.items, rest.now)) result
@@ -105,9 +109,9 @@ impl Listing {
     }
 }
 
-/// The fields of the object that is all of the text, behind its opening brace.
+/// Collects the fields of an object. The text is the whole object after its opening brace.
 #[tactic(auto, unfolding(jsonline_in::specs::Reading::text_at, jsonline_in::specs::Reading::end_at))]
-fn listed(alloc: Global, inside: &str) -> Result<Vec<Pair>, ScanFault>
+fn collect_fields(alloc: Global, inside: &str) -> Result<Vec<Pair>, ScanFault>
     ensures { ReadsAs (λ list. (list.items, [])) result (mapped (member_fields []) (text_at inside.now)) }
 {
     let pairs = Vec::new(alloc);
@@ -119,7 +123,7 @@ fn listed(alloc: Global, inside: &str) -> Result<Vec<Pair>, ScanFault>
     Ok(listing.pairs)
 }
 
-/// Does what [`jsonline_in::fields_of`] does.
+/// Reads the fields of a line, like [`jsonline_in::fields_of`].
 pub fn fields_of(alloc: Global, line: &[u8], out: &mut FieldList) -> Result<(), JsonFault>
     ensures read { OnOk result
         ((fields : List Field) × IsObjectLine line.now fields × (out.new ≡ set_all out.old fields)) }
@@ -128,10 +132,10 @@ pub fn fields_of(alloc: Global, line: &[u8], out: &mut FieldList) -> Result<(), 
     ensures refused { IfErr result (λ fault. Refuses fault line.now) }
     ensures fault { IfErr result (λ fault. IsFault fault line.now) }
 {
-    let inside = line::inside(line)?;
-    let list = match listed(alloc, inside) {
+    let inside = line::open_object(line)?;
+    let list = match collect_fields(alloc, inside) {
         Ok(list) => list,
-        Err(stop) => return Err(line::fault_in(line, stop)),
+        Err(stop) => return Err(line::line_fault(line, stop)),
     };
     for pair in &list {
         out.set(alloc, pair.name.as_str(), pair.value.as_str())?;

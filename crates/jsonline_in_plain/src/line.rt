@@ -1,4 +1,4 @@
-// Where the object in a line begins, and what a stop inside it says of the line.
+// The start of the object in a line, and the error of a line.
 ghost use Rattle.std.specs.Prelude.{IfOk, IfErr};
 ghost use Rattle.jsonline_in.specs.Clauses.{Opens, StopsIn};
 ghost use Rattle.jsonline_in.specs.Faults.{Refuses, IsFault};
@@ -6,8 +6,8 @@ ghost use Rattle.jsonline_in.specs.Faults.{Refuses, IsFault};
 use crate::scan::{past, skip_space};
 use jsonline_in::{JsonFault, ScanFault};
 
-/// The text behind the opening brace of the line.
-pub(crate) fn inside(line: &[u8]) -> Result<&str, JsonFault>
+/// Returns the text after the opening brace of the line.
+pub(crate) fn open_object(line: &[u8]) -> Result<&str, JsonFault>
     ensures inside { IfOk result (λ inside. Opens line.now inside.now) }
     ensures refused { IfErr result (λ fault. Refuses fault line.now) }
     ensures fault { IfErr result (λ fault. IsFault fault line.now) }
@@ -23,8 +23,8 @@ pub(crate) fn inside(line: &[u8]) -> Result<&str, JsonFault>
     }
 }
 
-/// What a stop behind the opening brace says of the line.
-pub(crate) fn fault_in(line: &[u8], stop: ScanFault) -> JsonFault
+/// Returns the error of a line from the error after its opening brace.
+pub(crate) fn line_fault(line: &[u8], stop: ScanFault) -> JsonFault
     requires { StopsIn stop line.now }
     ensures refused { Refuses result line.now }
     ensures fault { IsFault result line.now }

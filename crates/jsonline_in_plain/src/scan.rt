@@ -1,4 +1,4 @@
-// White space, single bytes and runs of digits, counted byte by byte.
+// White space, single bytes and digits, one byte at a time.
 ghost use Rattle.std.specs.Prelude.{◌≡◌, ℕ, ◌<◌, ◌++◌, List};
 ghost use Rattle.std.specs.Option.{option_map};
 ghost use Rattle.std.specs.List.{prefix_len};
@@ -40,7 +40,7 @@ pub(crate) fn skip_space(text: &str) -> &str
     text.split_at(space_len(text)).1
 }
 
-/// What follows the ASCII byte, if the text begins with it.
+/// Returns the rest after an ASCII byte, if the text begins with it.
 #[tactic(auto, using(jsonline_in::proofs::Cuts::byte_cut))]
 pub(crate) fn past(text: &str, byte: u8) -> Option<&str>
     requires { byte < 128 }
@@ -63,7 +63,7 @@ pub(crate) fn expect(text: &str, byte: u8) -> Result<&str, ScanFault>
     Err(ScanFault::Stuck { left: text.len() })
 }
 
-/// What stands before the rest of a text.
+/// Returns the part of the text before its suffix `rest`.
 pub(crate) fn prefix<'a>(text: &'a str, rest: &str) -> &'a str
     requires { (taken : List ℕ) × (text.now ≡ taken ++ rest.now) }
     ensures { result.now ≡ prefix_of text.now rest.now }
@@ -71,7 +71,7 @@ pub(crate) fn prefix<'a>(text: &'a str, rest: &str) -> &'a str
     text.split_at(text.len() - rest.len()).0
 }
 
-/// One decimal digit or more.
+/// Skips one or more decimal digits.
 #[tactic(auto, using(jsonline_in::proofs::Cuts::digits_cut), unfolding(jsonline_in::specs::Reading::digits_end))]
 pub(crate) fn digits(text: &str) -> Result<&str, ScanFault>
     ensures { ReadsAs (λ rest. (tt, rest.now)) result (digits_end text.now) }
@@ -82,7 +82,7 @@ pub(crate) fn digits(text: &str) -> Result<&str, ScanFault>
     }
 }
 
-/// One hexadecimal digit.
+/// Reads one hexadecimal digit.
 #[tactic(auto, using(jsonline_in::proofs::Cuts::hex_cut), unfolding(jsonline_in::specs::Reading::one_of))]
 pub(crate) fn hex(text: &str) -> Result<(u8, &str), ScanFault>
     ensures { ReadsAs (λ x. (x.0, x.1.now)) result (one_of is_ascii_hexdigit text.now) }

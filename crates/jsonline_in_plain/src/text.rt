@@ -1,4 +1,4 @@
-// The texts of names and of values.
+// The texts of names and values.
 ghost use Rattle.std.specs.Prelude.{◌≡◌, string_bytes};
 ghost use Rattle.log_model.specs.Token.{string_text};
 ghost use Rattle.log_model.specs.Value.{object, member_name};
@@ -6,13 +6,13 @@ ghost use Rattle.jsonline_in.specs.Clauses.{ReadsAs, mapped, flat_text};
 ghost use Rattle.jsonline_in.specs.Reading.{characters_at, label_at, flat_at, nested_at};
 
 use crate::bare::bare;
-use crate::escape::{escaped, push_alone, push_escape, push_plain};
+use crate::escape::{push_lone_surrogate, push_escape, push_plain, read_escape};
 use crate::scan::{expect, past, plain_len, skip_space};
 use crate::tokens::{Bracket, Tokens};
 use jsonline_in::ScanFault;
 use std::alloc::Global;
 
-/// The text of the string behind its opening quotation mark, and what follows the closing one.
+/// Parses a string after its opening quote. Returns its text and the rest after the closing quote.
 #[tactic(auto, using(jsonline_in::proofs::Cuts::plain_cut))]
 pub(crate) fn string(alloc: Global, text: &str) -> Result<(String, &str), ScanFault>
     ensures { ReadsAs (λ x. (string_bytes x.0, x.1.now)) result (mapped string_text (characters_at text.now)) }
@@ -24,16 +24,16 @@ pub(crate) fn string(alloc: Global, text: &str) -> Result<(String, &str), ScanFa
         let (run, after) = rest.split_at(plain_len(rest));
         let unit = push_plain(&mut out, before, run)?;
         if let Some(end) = past(after, b'"') {
-            push_alone(&mut out, unit)?;
+            push_lone_surrogate(&mut out, unit)?;
             return Ok((out, end));
         }
-        let (escape, next) = escaped(expect(after, b'\\')?)?;
+        let (escape, next) = read_escape(expect(after, b'\\')?)?;
         before = push_escape(&mut out, unit, escape)?;
         rest = next;
     }
 }
 
-/// The name of a member, up to its value.
+/// Parses the name of a member and the colon. Returns the name and the rest from the member's value on.
 pub(crate) fn name(alloc: Global, text: &str) -> Result<(String, &str), ScanFault>
     ensures { ReadsAs (λ x. (string_bytes x.0, x.1.now)) result (mapped member_name (label_at object text.now)) }
 {
@@ -42,7 +42,7 @@ pub(crate) fn name(alloc: Global, text: &str) -> Result<(String, &str), ScanFaul
     Ok((name, skip_space(rest)))
 }
 
-/// The text of a value that is no object.
+/// Parses a value other than an object. Returns its text and the rest.
 pub(crate) fn flat(alloc: Global, text: &str, depth: u32) -> Result<(String, &str), ScanFault>
     ensures { ReadsAs (λ x. (string_bytes x.0, x.1.now)) result
         (mapped flat_text (flat_at (nested_at depth) text.now)) }

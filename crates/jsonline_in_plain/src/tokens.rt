@@ -1,4 +1,4 @@
-// The tokens of an array, with nothing between them.
+// Arrays as compact JSON: their tokens with nothing between them.
 ghost use Rattle.std.specs.Prelude.{◌≡◌, ◌<◌, ◌++◌, ◌∷◌, [], string_bytes};
 ghost use Rattle.log_model.specs.Token.{string_source, scalar_source};
 ghost use Rattle.log_model.specs.Value.{closing, opening, tokens, series, label_tokens};
@@ -13,14 +13,14 @@ use crate::text::string;
 use jsonline_in::ScanFault;
 use std::alloc::Global;
 
-/// An array or an object, by its brackets.
+/// The brackets of an array or an object.
 #[derive(Clone, Copy)]
 pub(crate) enum Bracket {
     Square,
     Curly,
 }
 
-/// The tokens so far.
+/// The tokens collected so far.
 #[derive(Drop)]
 pub(crate) struct Tokens {
     alloc: Global,
@@ -56,7 +56,7 @@ impl Tokens {
         Tokens { alloc, text }
     }
 
-    /// Adds the string behind its opening quotation mark as it is spelled.
+    /// Adds a string as it is written. The text starts after its opening quote.
     fn string<'a>(&mut self, text: &'a str) -> Result<&'a str, ScanFault>
         ensures { ReadsAs (λ rest. (string_bytes self.new.text, rest.now)) result
             (mapped (λ characters. string_bytes self.old.text ++ string_source characters) (characters_at text.now)) }
@@ -67,14 +67,14 @@ impl Tokens {
         Ok(rest)
     }
 
-    /// Adds the name of a member and the colon, up to the member's value.
+    /// Adds the name of a member and the colon. Returns the rest from the member's value on.
     fn name<'a>(&mut self, text: &'a str) -> Result<&'a str, ScanFault>
         ensures { ReadsAs (λ rest. (string_bytes self.new.text, rest.now)) result
             (mapped (λ label. string_bytes self.old.text ++ compact (label_tokens label)) (name_at text.now)) }
     {
         let inside = expect(text, b'"')?;
-        let behind = self.string(inside)?;
-        let rest = expect(skip_space(behind), b':')?;
+        let after_name = self.string(inside)?;
+        let rest = expect(skip_space(after_name), b':')?;
         self.text.push_str(":")?;
         Ok(skip_space(rest))
     }
@@ -99,7 +99,7 @@ impl Tokens {
         Ok(rest)
     }
 
-    /// Adds the value at the start, where so many brackets more may be open, and gives what follows it.
+    /// Adds the value at the start, with at most `depth` nested brackets. Returns the rest.
     #[cycle(tokens)]
     fn value<'a>(&mut self, text: &'a str, depth: u32) -> Result<&'a str, ScanFault>
         ensures { ReadsAs (λ rest. (string_bytes self.new.text, rest.now)) result
@@ -118,7 +118,7 @@ impl Tokens {
         self.bare(text)
     }
 
-    /// Adds the array or the object behind its opening bracket.
+    /// Adds an array or an object. The text starts after its opening bracket.
     #[cycle(tokens)]
     pub(crate) fn nested<'a>(
         &mut self,
@@ -139,7 +139,7 @@ impl Tokens {
         Ok(end)
     }
 
-    /// Adds the items behind an opening bracket, and gives what follows the closing one.
+    /// Adds the items after an opening bracket. Returns the rest after the closing one.
     #[cycle(tokens)]
     fn items<'a>(
         &mut self,

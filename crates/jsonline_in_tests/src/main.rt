@@ -1,9 +1,8 @@
-//! Reads lines of JSON, and writes what each says: its fields as `name=value;` in their order, or its fault. Both
-//! readings are asked, and a line says so where they differ.
+//! Reads JSON lines, and prints the fields of each as `name=value;` in their order, or its error. Both implementations
+//! run, and the output shows where they differ.
 //!
-//! The answers in `stdout` are not the program's own. The fields are those that Python's `json` module reads, with
-//! numbers and arrays as they are spelled, and the places of faults those of a reader of RFC 8259 that was written in
-//! Python.
+//! The expected output in `stdout` comes from Python: fields from its `json` module, with numbers and arrays as they
+//! are written, and offsets of errors from a parser of RFC 8259 written in Python.
 #![tactic(auto)]
 
 #[cfg(test)]
@@ -25,7 +24,7 @@ fn main(rt: HostRuntime) -> io::Result<()> {
     Ok(())
 }
 
-/// What both readings say of the line.
+/// Returns the results of both implementations for the line.
 fn answer(alloc: Global, line: &[u8]) -> Result<String, AllocError> {
     let read = read(alloc, line)?;
     let plain = read_plainly(alloc, line)?;

@@ -1,10 +1,10 @@
-//! What no line of `stdin` shows: white space with line feeds, fields that stood there before, and runs of bytes.
+//! What the lines of `stdin` cannot show: white space with line feeds, existing fields, and runs of bytes.
 use jsonline_in::{JsonFault, fields_of, run};
 use std::alloc::{AllocError, Global};
 use std::test::Fail;
 use vl_row::FieldList;
 
-/// The fields after these two lines, one after the other.
+/// Returns the fields after reading these two lines.
 fn after_both(alloc: Global, first: &[u8], second: &[u8]) -> Result<String, JsonFault> {
     let mut fields = FieldList::new(alloc);
     fields_of(alloc, first, &mut fields)?;

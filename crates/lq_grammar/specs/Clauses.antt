@@ -3,7 +3,7 @@ use Rattle.std.specs.Prelude.{◌≡◌, ℕ, true, false, ◌&&◌, List, [], �
 use denote.Ref.{Bor}
 use Rattle.grammar.specs.Rule.{Token, Class, has, next}
 use Rattle.grammar.specs.Spelling.{too_deep, refused}
-use Rattle.grammar.specs.Reading.{Stop, stuck, flawed, Answer, reads, read_at, items_at}
+use Rattle.grammar.specs.Reading.{Stop, stuck, flawed, Answer, read_name, read_at, items_at}
 use Rattle.lq_grammar.specs.declared.role.Role.TheVariants.{Colon}
 use Rattle.lq_grammar.specs.Roles.{any}
 use Rattle.lq_grammar.specs.Values.{Bytes, Reason, Filtering, bad_number, bad_time, bad_duration}
@@ -35,7 +35,7 @@ at depth rule u = read_at logsql depth rule u
 
 -- what a name reads
 abbrev pub name_at : ℕ → Name → List (Token Bytes) → Answer Bytes Reason Filtering
-name_at depth n u = reads heads rules depth n u
+name_at depth n u = read_name heads rules depth n u
 
 -- as long as the rule goes on
 abbrev pub all_at : {A : Type 0} → ℕ → Parse A → List (Token Bytes) → Answer Bytes Reason (List A)

@@ -2,7 +2,7 @@
 ghost use Rattle.std.specs.Prelude.{◌≡◌, ◌==◌, ◌+◌, if◌then◌else◌, map, IfOk};
 ghost use Rattle.std.specs.List.{list_any};
 ghost use Rattle.grammar.specs.Rule.{has, member};
-ghost use Rattle.lq_lex.specs.Token.{seen};
+ghost use Rattle.lq_lex.specs.Token.{token_value};
 ghost use Rattle.lq_grammar.specs.Items.{item_of};
 ghost use Rattle.lq_grammar.specs.Roles.{any, glued as glued_of, number as number_of, apart_by};
 
@@ -83,7 +83,7 @@ pub fn items(alloc: Global, tokens: &Tokens<'_>) -> Result<Vec<Item>, AllocError
 
 #[tactic(auto, unfolding(crate::specs::Items::item_of))]
 fn classified(alloc: Global, token: &Token<'_>) -> Result<Item, AllocError>
-    ensures { IfOk result (λ item. item ≡ item_of (seen token.now)) }
+    ensures { IfOk result (λ item. item ≡ item_of (token_value token.now)) }
 {
     let mut text = Text::new();
     text_of(alloc, token, &mut text)?;

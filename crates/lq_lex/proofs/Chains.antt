@@ -1,8 +1,8 @@
--- Tokens one after another: how a scanner collects them, and that a text has one list of them, or one fault.
+-- Lists of tokens: a text has one list of tokens, or one error.
 use Rattle.std.proofs.Common.{◌≡◌, ℕ, ◌+◌, ◌<◌, ◌≤◌, Bool, not, ◌&&◌, eqb, List, [], ◌∷◌, ◌++◌, length, chars, Option, Some, None, Result, Ok, Err, refl, sym, ap, ◌∙◌, ◌⊎◌, inl, inr, subst, arith}
 use Rattle.std.specs.Str.{encode_utf8_all}
 use Rattle.std.proofs.lemmas.List.{append_cancel_right}
-use Rattle.log_model.specs.Field.{is_empty}
+use Rattle.vl_row.specs.Field.{is_empty}
 use Rattle.lq_lex.specs.declared.token.Kind.{Kind}
 use Rattle.lq_lex.specs.declared.fault.LexFault.{LexFault}
 use Rattle.lq_lex.specs.declared.fault.LexFault.TheVariants.{TooLong, OpenQuote, BadEscape, BadChar, Memory}
@@ -12,9 +12,9 @@ use Rattle.lq_lex.specs.Reading.{token_at}
 use Rattle.lq_lex.proofs.Spaces.{skip, skip_again, skip_all, token_begins, fault_begins, token_not_nil, fault_not_nil}
 use Rattle.lq_lex.proofs.TokenLaws.{token_again, fault_again}
 
--- ---- one token more
+-- ---- one more token
 
--- behind so many bytes, with this rest
+-- the offset, with this rest
 abbrev pub At : ℕ → List ℕ → ℕ → List ℕ → Type 0
 At before rest b r = (b ≡ before) × (r ≡ rest)
 
@@ -26,7 +26,7 @@ pub goes_on_end : (b : ℕ) (text : List ℕ) (ts : List Token) (before : ℕ) (
 goes_on_end b text [] before here Ends at n = subst (λ (x : ℕ). Ends x text) (sym at.0) (subst (Ends before) (sym at.1) n)
 goes_on_end b text (s ∷ ts) before here Ends (m, first, others) n = (m, first, goes_on_end (s.start + length s.span) m ts before here Ends others n)
 
--- ---- each step is one
+-- ---- each step has one outcome
 
 abbrev token_of : Kind → List ℕ → ℕ → Bool → Token
 token_of kind span start glued = record { kind = kind; span = span; start = start; glued = glued }

@@ -1,10 +1,10 @@
--- No character is of two classes.
+-- The character classes are disjoint.
 use Rattle.std.proofs.Common.{◌≡◌, ℕ, zero, suc, ◌+◌, ◌<◌, ◌≤◌, Bool, true, false, not, ◌&&◌, ◌==◌, eqb, nat_lt, List, [], ◌∷◌, refl, sym, subst, ◌⊎◌, inl, inr, arith}
 use Rattle.std.specs.Char.{is_whitespace}
 use Rattle.std.specs.List.{list_any}
 use Rattle.std.proofs.lemmas.Bool.{or_cases, and_parts, eqb-true, ltb-true}
 use Rattle.std.specs.Prelude.{codes}
-use Rattle.log_model.specs.Words.{is_word_char}
+use Rattle.vl_row.specs.Words.{is_word_char}
 use Rattle.lq_lex.specs.Lexing.{begins_bare, is_quote, is_mark}
 use Rattle.ucd_category.proofs.Computing.{ucd_category}
 
@@ -12,7 +12,7 @@ not_true : (b : Bool) → not b ≡ true → b ≡ false
 not_true true e = absurd cc
 not_true false e = refl
 
--- a character that is one of a list, whose characters all fail a test
+-- a character of a list whose characters all fail a test
 abbrev none_of : (ℕ → Bool) → List ℕ → Bool
 none_of test [] = true
 none_of test (c ∷ cs) = not (test c) && none_of test cs
@@ -25,7 +25,7 @@ fails_of test c (d ∷ ds) none is = by_case (or_cases (eqb d c) (list_any (λ d
     by_case (inl h) ih = subst (λ (x : ℕ). test x ≡ false) (eqb-true d c h) (not_true (test d) (and_parts (not (test d)) (none_of test ds) none).0)
     by_case (inr h) ih = ih h
 
--- a character of a range, whose characters all fail a test
+-- a character of a range whose characters all fail a test
 abbrev none_from : (ℕ → Bool) → ℕ → ℕ → Bool
 none_from test low zero = true
 none_from test low (suc n) = not (test low) && none_from test (low + 1) n
@@ -92,7 +92,7 @@ space_not_bare c is =
           ]
     ]
 
--- ---- marks and quotation marks
+-- ---- punctuation marks and quotes
 
 pub mark_not_bare : (c : ℕ) → is_mark c ≡ true → begins_bare c ≡ false
 unfolding is_word_char ucd_category

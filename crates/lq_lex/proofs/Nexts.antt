@@ -1,4 +1,4 @@
--- From what a scanner reads at the front of a text to what the text goes on with.
+-- From one step of the lexer to the next token of the text.
 use Rattle.std.proofs.Common.{◌≡◌, ℕ, ◌+◌, ◌-◌, ◌<◌, ◌≤◌, Bool, true, false, not, ◌&&◌, eqb, List, [], ◌∷◌, ◌++◌, length, chars, Ok, Err, refl, sym, ap, ◌∙◌, subst, arith}
 use Rattle.std.specs.Char.{is_whitespace}
 use Rattle.std.specs.List.{list_all}
@@ -7,7 +7,7 @@ use Rattle.std.proofs.lemmas.Bool.{eqb-true, ltb-true}
 use Rattle.std.proofs.Common.{eq-eqb}
 use Rattle.std.proofs.lemmas.List.{append_cancel_right, append-nil}
 use Rattle.std.proofs.lemmas.Str.{encodes-append, encodes-chars}
-use Rattle.log_model.specs.Field.{is_empty}
+use Rattle.vl_row.specs.Field.{is_empty}
 use Rattle.lq_lex.specs.declared.token.Kind.{Kind}
 use Rattle.lq_lex.specs.declared.fault.LexFault.{LexFault}
 use Rattle.lq_lex.specs.Token.{Token}
@@ -17,7 +17,7 @@ use Rattle.lq_lex.proofs.Widths.{width-append, width-chars}
 use Rattle.lq_lex.proofs.Spaces.{SpaceSplit, space_split, chars_trimmed, width_some, token_some}
 use Rattle.lq_lex.proofs.TokenLaws.{token_sound, token_fault}
 
--- the text without the white space before it
+-- the text without its leading white space
 record Trimmed (text here : List ℕ) : Type 0 where
   split : SpaceSplit (chars text) (chars here)
   bytes : length text ≡ width split.gap + length here
@@ -64,7 +64,7 @@ breaks_at text here end fault utf8 utf8' is some fits e =
       is_fault = subst (λ (n : ℕ). IsFaultHere fault n (chars here)) place (token_fault end (chars here) fault e t.split.stops (not_empty here utf8' some) (omega (arith, t.bytes, w, fits)));
     }
 
--- the characters read, as bytes
+-- the characters of the token, in bytes
 pub bytes_read : (here rest body : List ℕ) → IsUtf8 here → IsUtf8 rest → chars here ≡ body ++ chars rest → here ≡ encode_utf8_all body ++ rest
 bytes_read here rest body utf8 utf8' parts =
     sym (encodes-chars here utf8) ∙ ap encode_utf8_all parts ∙ encodes-append body (chars rest) ∙ ap (λ (l : List ℕ). encode_utf8_all body ++ l) (encodes-chars rest utf8')

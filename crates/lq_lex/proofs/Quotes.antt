@@ -1,4 +1,4 @@
--- The closing mark of a quoted text, and its first bad escape.
+-- The closing quote of a quoted string, and its first unknown escape sequence.
 use Rattle.std.proofs.Common.{◌≡◌, ℕ, Bool, true, false, not, cond, eqb, List, [], ◌∷◌, ◌++◌, Some, None, refl, sym, ap, ◌∙◌, subst}
 use Rattle.std.specs.List.{list_all}
 use Rattle.std.proofs.lemmas.Bool.{cond-true, cond-false, and_parts, and_from, eqb-true}
@@ -15,7 +15,7 @@ clash b e f = absurd cc
 backslash_is : (quote c : ℕ) → is_backslash quote c ≡ true → c ≡ 92
 backslash_is quote c e = eqb-true c 92 (and_parts (eqb c 92) (not (eqb quote 96)) e).0
 
--- ---- what a closing mark closes is read up to it
+-- ---- the closing quote is found
 
 pub quote_found : (quote : ℕ) (pieces : List Piece) (rest : List ℕ) → eqb 92 quote ≡ false → eqb quote quote ≡ true → list_all (is_raw quote) pieces ≡ true → quote_end quote false (sources pieces ++ quote ∷ rest) ≡ Some rest
 quote_found quote [] rest other same raw = cond-true (eqb quote quote) (Some rest) _ same
@@ -31,7 +31,7 @@ quote_found quote (escape c ∷ pieces) rest other same raw =
     ∙ ap (λ (b : Bool). quote_end quote b (c ∷ (sources pieces ++ quote ∷ rest))) p.0
     ∙ quote_found quote pieces rest other same p.1
 
--- ---- where reading finds a closing mark, there is one
+-- ---- what is found is a closing quote
 
 pub record Closes (quote : ℕ) (text rest : List ℕ) : Type 0 where
   pub pieces : List Piece
@@ -77,7 +77,7 @@ closes_from quote false (c ∷ cs) rest e = by_close (eqb c quote) refl (is_back
 pub closes : (quote : ℕ) (text rest : List ℕ) → quote_end quote false text ≡ Some rest → Closes quote text rest
 closes quote text rest e = closes_from quote false text rest e
 
--- ---- bad escapes
+-- ---- unknown escape sequences
 
 first_plain : (quote c : ℕ) (cs : List ℕ) → eqb c quote ≡ false → is_backslash quote c ≡ false → first_bad quote (c ∷ cs) ≡ first_bad quote cs
 first_plain quote c [] other none = refl
@@ -90,7 +90,7 @@ first_close : (quote : ℕ) (rest : List ℕ) → eqb quote quote ≡ true → f
 first_close quote [] same = refl
 first_close quote (d ∷ ds) same = cond-true (eqb quote quote) None _ same
 
--- no bad escape is found exactly where each piece is good
+-- no unknown escape sequence is found exactly where each piece is valid
 pub none_bad : (quote : ℕ) (pieces : List Piece) (rest : List ℕ) → eqb 92 quote ≡ false → eqb quote quote ≡ true → list_all (is_piece quote) pieces ≡ true → first_bad quote (sources pieces ++ quote ∷ rest) ≡ None
 none_bad quote [] rest other same good = first_close quote rest same
 none_bad quote (plain c ∷ pieces) rest other same good =
@@ -127,34 +127,34 @@ all_good quote (escape d ∷ pieces) rest other raw none =
         absurd (some_not_none (92 ∷ d ∷ (sources pieces ++ quote ∷ rest))
         (sym (cond-false (is_escape d) (first_bad quote (sources pieces ++ quote ∷ rest)) (Some (92 ∷ d ∷ (sources pieces ++ quote ∷ rest))) is) ∙ sym (first_escape quote d (sources pieces ++ quote ∷ rest) other here) ∙ none))
 
--- the first bad escape behind good pieces is found
-pub bad_found : (quote : ℕ) (pieces : List Piece) (d : ℕ) (behind : List ℕ) → eqb 92 quote ≡ false → is_backslash quote 92 ≡ true → is_escape d ≡ false → list_all (is_piece quote) pieces ≡ true
-    → first_bad quote (sources pieces ++ 92 ∷ d ∷ behind) ≡ Some (92 ∷ d ∷ behind)
-bad_found quote [] d behind other slash bad good = first_escape quote d behind other slash ∙ cond-false (is_escape d) (first_bad quote behind) (Some (92 ∷ d ∷ behind)) bad
-bad_found quote (plain c ∷ pieces) d behind other slash bad good =
+-- the first unknown escape sequence after valid pieces is found
+pub bad_found : (quote : ℕ) (pieces : List Piece) (d : ℕ) (remaining : List ℕ) → eqb 92 quote ≡ false → is_backslash quote 92 ≡ true → is_escape d ≡ false → list_all (is_piece quote) pieces ≡ true
+    → first_bad quote (sources pieces ++ 92 ∷ d ∷ remaining) ≡ Some (92 ∷ d ∷ remaining)
+bad_found quote [] d remaining other slash bad good = first_escape quote d remaining other slash ∙ cond-false (is_escape d) (first_bad quote remaining) (Some (92 ∷ d ∷ remaining)) bad
+bad_found quote (plain c ∷ pieces) d remaining other slash bad good =
     let p = and_parts (is_piece quote (plain c)) (list_all (is_piece quote) pieces) good in
     let q = and_parts (not (eqb c quote)) (not (is_backslash quote c)) p.0 in
-    first_plain quote c (sources pieces ++ 92 ∷ d ∷ behind) (not_true (eqb c quote) q.0) (not_true (is_backslash quote c) q.1) ∙ bad_found quote pieces d behind other slash bad p.1
-bad_found quote (escape e ∷ pieces) d behind other slash bad good =
+    first_plain quote c (sources pieces ++ 92 ∷ d ∷ remaining) (not_true (eqb c quote) q.0) (not_true (is_backslash quote c) q.1) ∙ bad_found quote pieces d remaining other slash bad p.1
+bad_found quote (escape e ∷ pieces) d remaining other slash bad good =
     let p = and_parts (is_piece quote (escape e)) (list_all (is_piece quote) pieces) good in
     let q = and_parts (is_raw quote (escape e)) (is_escape e) p.0 in
-    first_escape quote e (sources pieces ++ 92 ∷ d ∷ behind) other q.0 ∙ cond-true (is_escape e) (first_bad quote (sources pieces ++ 92 ∷ d ∷ behind)) _ q.1 ∙ bad_found quote pieces d behind other slash bad p.1
+    first_escape quote e (sources pieces ++ 92 ∷ d ∷ remaining) other q.0 ∙ cond-true (is_escape e) (first_bad quote (sources pieces ++ 92 ∷ d ∷ remaining)) _ q.1 ∙ bad_found quote pieces d remaining other slash bad p.1
 
 pub record HasBad (quote : ℕ) (text bad : List ℕ) : Type 0 where
   pub pieces : List Piece
-  pub escaped : ℕ
-  pub behind : List ℕ
+  pub escape_value : ℕ
+  pub remaining : List ℕ
   pub are_pieces : list_all (is_piece quote) pieces ≡ true
   pub slash : is_backslash quote 92 ≡ true
-  pub is_bad : is_escape escaped ≡ false
-  pub bad_is : bad ≡ 92 ∷ escaped ∷ behind
+  pub is_bad : is_escape escape_value ≡ false
+  pub bad_is : bad ≡ 92 ∷ escape_value ∷ remaining
   pub spelled : text ≡ sources pieces ++ bad
 
 plain_before : (quote c : ℕ) (cs bad : List ℕ) → eqb c quote ≡ false → is_backslash quote c ≡ false → HasBad quote cs bad → HasBad quote (c ∷ cs) bad
 plain_before quote c cs bad other none h = record {
   pieces = plain c ∷ h.pieces;
-  escaped = h.escaped;
-  behind = h.behind;
+  escape_value = h.escape_value;
+  remaining = h.remaining;
   are_pieces = and_from (is_piece quote (plain c)) (list_all (is_piece quote) h.pieces) (and_from (not (eqb c quote)) (not (is_backslash quote c)) (ap not other) (ap not none)) h.are_pieces;
   slash = h.slash;
   is_bad = h.is_bad;
@@ -167,8 +167,8 @@ escape_before quote c d cs bad slash good h =
     let is : c ≡ 92 = backslash_is quote c slash in
     record {
       pieces = escape d ∷ h.pieces;
-      escaped = h.escaped;
-      behind = h.behind;
+      escape_value = h.escape_value;
+      remaining = h.remaining;
       are_pieces = and_from (is_piece quote (escape d)) (list_all (is_piece quote) h.pieces) (and_from (is_raw quote (escape d)) (is_escape d) h.slash good) h.are_pieces;
       slash = h.slash;
       is_bad = h.is_bad;
@@ -196,8 +196,8 @@ has_bad quote (c ∷ d ∷ cs) bad e = by_close (eqb c quote) refl (is_backslash
         (sym (cond-false (eqb c quote) None _ is ∙ cond-true (is_backslash quote c) _ (first_bad quote (d ∷ cs)) slash ∙ cond-false (is_escape d) (first_bad quote cs) (Some (c ∷ d ∷ cs)) good) ∙ e) in
         record {
           pieces = [];
-          escaped = d;
-          behind = cs;
+          escape_value = d;
+          remaining = cs;
           are_pieces = refl;
           slash = subst (λ (x : ℕ). is_backslash quote x ≡ true) c_is slash;
           is_bad = good;

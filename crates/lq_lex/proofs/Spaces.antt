@@ -40,7 +40,7 @@ pub skip_all : (cs : List ℕ) → list_all is_whitespace cs ≡ true → skip c
 skip_all [] all = refl
 skip_all (c ∷ cs) all = let p = and_parts (is_whitespace c) (list_all is_whitespace cs) all in cond-true (is_whitespace c) (skip cs) (c ∷ cs) p.0 ∙ skip_all cs p.1
 
--- what is trimmed, as characters
+-- trimming, in characters
 scalars_skip : (cs : List ℕ) → all_scalars cs ≡ true → all_scalars (skip cs) ≡ true
 scalars_skip [] all = refl
 scalars_skip (c ∷ cs) all = by_test (is_whitespace c) (scalars_skip cs (and_parts _ (all_scalars cs) all).1)
@@ -53,7 +53,7 @@ pub chars_trimmed : (text here : List ℕ) → IsUtf8 text → here ≡ trim_sta
 unfolding trim_start
 chars_trimmed text here utf8 is = ap chars is ∙ chars-encodes (skip (chars text)) (scalars_skip (chars text) (scalars-chars text utf8))
 
--- no token and no fault begins with white space
+-- neither a token nor an error begins with white space
 pub token_begins : (kind : Kind) (body rest : List ℕ) → IsToken kind body rest → begins is_whitespace (body ++ rest) ≡ false
 token_begins Bare body rest t = ap (λ (l : List ℕ). begins is_whitespace (l ++ rest)) t.spelled ∙ bare_not_space t.first t.begins_so
 token_begins Quoted body rest t = ap (λ (l : List ℕ). begins is_whitespace (l ++ rest)) t.spelled ∙ quote_not_space t.quote t.opens
@@ -70,7 +70,7 @@ fault_begins (OpenQuote at) before cs (e, h) = ap (begins is_whitespace) h.spell
 fault_begins (BadEscape at) before cs (offset, e, h) = ap (begins is_whitespace) h.spelled ∙ quote_not_space h.quote h.opens
 fault_begins (BadChar at) before cs (e, h) = ap (begins is_whitespace) h.spelled ∙ first_false (is_whitespace h.bad) _ h.no_token
 
--- neither is empty
+-- neither a token nor an error is empty
 not_nil : (c : ℕ) (cs : List ℕ) → c ∷ cs ≡ [] → ⊥
 not_nil c cs e = absurd cc
 
@@ -85,10 +85,10 @@ token_not_nil kind body rest t e = let s = token_some kind body rest t in not_ni
 pub fault_not_nil : (fault : LexFault) (before : ℕ) (cs : List ℕ) → IsFaultHere fault before cs → cs ≡ [] → ⊥
 fault_not_nil TooLong before cs h e = h
 fault_not_nil Memory before cs h e = h
-fault_not_nil (OpenQuote at) before cs (i, h) e = not_nil h.quote h.behind (sym h.spelled ∙ e)
+fault_not_nil (OpenQuote at) before cs (i, h) e = not_nil h.quote h.remaining (sym h.spelled ∙ e)
 fault_not_nil (BadEscape at) before cs (offset, i, h) e = not_nil h.quote _ (sym h.spelled ∙ e)
-fault_not_nil (BadChar at) before cs (i, h) e = not_nil h.bad h.behind (sym h.spelled ∙ e)
+fault_not_nil (BadChar at) before cs (i, h) e = not_nil h.bad h.remaining (sym h.spelled ∙ e)
 
--- what is not empty takes bytes
+-- characters take bytes
 pub width_some : (c : ℕ) (cs : List ℕ) → 0 < width (c ∷ cs)
 width_some c cs = omega (arith, length-le-encodes (c ∷ cs))

@@ -1,4 +1,4 @@
--- The reader, one character further.
+-- The lexer, one character at a time.
 use Rattle.std.proofs.Common.{◌≡◌, ℕ, ◌-◌, Bool, true, false, eqb, List, [], ◌∷◌, length, chars, Some, None, Ok, Err, refl, sym, ap, ◌∙◌}
 use Rattle.std.specs.Str.{IsUtf8}
 use Rattle.std.proofs.lemmas.Bool.{cond-true, cond-false}
@@ -42,8 +42,8 @@ pub ruleset quote_steps = (quote_none, quote_behind, quote_close, quote_more)
 pub bad_none : (text : List ℕ) (quote : ℕ) → chars text ≡ [] → first_bad quote (chars text) ≡ None
 bad_none text quote e = ap (first_bad quote) e
 
-pub bad_last : (text behind : List ℕ) (quote c : ℕ) → chars text ≡ c ∷ chars behind → chars behind ≡ [] → first_bad quote (chars text) ≡ None
-bad_last text behind quote c e f = ap (first_bad quote) (e ∙ ap (λ (l : List ℕ). c ∷ l) f)
+pub bad_last : (text remaining : List ℕ) (quote c : ℕ) → chars text ≡ c ∷ chars remaining → chars remaining ≡ [] → first_bad quote (chars text) ≡ None
+bad_last text remaining quote c e f = ap (first_bad quote) (e ∙ ap (λ (l : List ℕ). c ∷ l) f)
 
 pub bad_close : (text cs : List ℕ) (quote c : ℕ) → chars text ≡ c ∷ cs → eqb c quote ≡ true → first_bad quote (chars text) ≡ None
 bad_close text cs quote c e is = ap (first_bad quote) e ∙ by_case cs
@@ -59,15 +59,15 @@ bad_plain text cs quote c e is plain = ap (first_bad quote) e ∙ by_case cs
     by_case [] = refl
     by_case (d ∷ ds) = cond-false (eqb c quote) None _ is ∙ cond-false (is_backslash quote c) _ (first_bad quote (d ∷ ds)) plain
 
-pub bad_good : (text behind cs : List ℕ) (quote c d : ℕ) → chars text ≡ c ∷ chars behind → chars behind ≡ d ∷ cs → eqb c quote ≡ false → is_backslash quote c ≡ true → is_escape d ≡ true
+pub bad_good : (text remaining cs : List ℕ) (quote c d : ℕ) → chars text ≡ c ∷ chars remaining → chars remaining ≡ d ∷ cs → eqb c quote ≡ false → is_backslash quote c ≡ true → is_escape d ≡ true
     → first_bad quote (chars text) ≡ first_bad quote cs
-bad_good text behind cs quote c d e f is escape good =
+bad_good text remaining cs quote c d e f is escape good =
     ap (first_bad quote) (e ∙ ap (λ (l : List ℕ). c ∷ l) f) ∙ cond-false (eqb c quote) None _ is ∙ cond-true (is_backslash quote c) _ (first_bad quote (d ∷ cs)) escape
     ∙ cond-true (is_escape d) (first_bad quote cs) (Some (c ∷ d ∷ cs)) good
 
-pub bad_here : (text behind cs : List ℕ) (quote c d : ℕ) → chars text ≡ c ∷ chars behind → chars behind ≡ d ∷ cs → eqb c quote ≡ false → is_backslash quote c ≡ true → is_escape d ≡ false
+pub bad_here : (text remaining cs : List ℕ) (quote c d : ℕ) → chars text ≡ c ∷ chars remaining → chars remaining ≡ d ∷ cs → eqb c quote ≡ false → is_backslash quote c ≡ true → is_escape d ≡ false
     → first_bad quote (chars text) ≡ Some (chars text)
-bad_here text behind cs quote c d e f is escape bad =
+bad_here text remaining cs quote c d e f is escape bad =
     ap (first_bad quote) (e ∙ ap (λ (l : List ℕ). c ∷ l) f) ∙ cond-false (eqb c quote) None _ is ∙ cond-true (is_backslash quote c) _ (first_bad quote (d ∷ cs)) escape
     ∙ cond-false (is_escape d) (first_bad quote cs) (Some (c ∷ d ∷ cs)) bad ∙ ap Some (sym (e ∙ ap (λ (l : List ℕ). c ∷ l) f))
 
@@ -100,6 +100,6 @@ token_bad text cs end c utf8 e is quote mark =
 
 pub ruleset token_steps = (token_none, token_bare, token_quoted, token_mark, token_bad)
 
-pub open_at : (text behind : List ℕ) (quote end : ℕ) → IsUtf8 text → chars text ≡ quote ∷ chars behind → quote_end quote false (chars behind) ≡ None
-    → closed_at end quote (chars behind) (quote_end quote false (chars behind)) ≡ Err (OpenQuote (end - length text))
-open_at text behind quote end utf8 e none = ap (closed_at end quote (chars behind)) none ∙ ap (λ (n : ℕ). Err (OpenQuote (end - n))) (width-is text (quote ∷ chars behind) utf8 e)
+pub open_at : (text remaining : List ℕ) (quote end : ℕ) → IsUtf8 text → chars text ≡ quote ∷ chars remaining → quote_end quote false (chars remaining) ≡ None
+    → closed_at end quote (chars remaining) (quote_end quote false (chars remaining)) ≡ Err (OpenQuote (end - length text))
+open_at text remaining quote end utf8 e none = ap (closed_at end quote (chars remaining)) none ∙ ap (λ (n : ℕ). Err (OpenQuote (end - n))) (width-is text (quote ∷ chars remaining) utf8 e)

@@ -1,4 +1,4 @@
--- One token, as it is spelled and as it is read.
+-- One token: the lexer accepts exactly the grammar.
 use Rattle.std.proofs.Common.{◌≡◌, ℕ, ◌+◌, ◌-◌, ◌<◌, ◌≤◌, Bool, true, false, ◌||◌, cond, List, [], ◌∷◌, ◌++◌, length, Option, Some, None, Result, Ok, Err, refl, sym, ap, ◌∙◌, subst, arith, append_assoc}
 use Rattle.std.specs.Char.{is_whitespace}
 use Rattle.std.specs.List.{list_all}
@@ -58,7 +58,7 @@ bare_again (c ∷ others) rest all stops =
     let p = and_parts (continues_bare c) (list_all continues_bare others) all in
     cond-true (continues_bare c) (bare_end (others ++ rest)) (c ∷ (others ++ rest)) p.0 ∙ bare_again others rest p.1 stops
 
--- ---- what is read is spelled so
+-- ---- what the lexer reads is in the grammar
 
 pub record Spelt (kind : Kind) (cs rest : List ℕ) : Type 0 where
   pub body : List ℕ
@@ -119,7 +119,7 @@ bad_escape : (end c : ℕ) (cs rest bad : List ℕ) → is_quote c ≡ true → 
 bad_escape end c cs rest bad is fits ends some =
     let s = closes c cs rest ends in
     let b = has_bad c cs bad some in
-    let parts : cs ≡ sources b.pieces ++ 92 ∷ b.escaped ∷ b.behind = b.spelled ∙ ap (λ (l : List ℕ). sources b.pieces ++ l) b.bad_is in
+    let parts : cs ≡ sources b.pieces ++ 92 ∷ b.escape_value ∷ b.remaining = b.spelled ∙ ap (λ (l : List ℕ). sources b.pieces ++ l) b.bad_is in
     let offset = width (c ∷ sources b.pieces) in
     let whole : width (c ∷ cs) ≡ offset + width bad = ap (λ (l : List ℕ). width (c ∷ l)) b.spelled ∙ width-append (c ∷ sources b.pieces) bad in (
       offset,
@@ -127,8 +127,8 @@ bad_escape end c cs rest bad is fits ends some =
       record {
         quote = c;
         pieces = b.pieces;
-        bad = b.escaped;
-        behind = b.behind;
+        bad = b.escape_value;
+        remaining = b.remaining;
         spelled = ap (λ (l : List ℕ). c ∷ l) parts;
         opens = is;
         are_pieces = b.are_pieces;
@@ -155,7 +155,7 @@ token_fault end (c ∷ cs) fault e space some fits = by_class (begins_bare c) re
     by_bad is r ends (Some bad) some-bad e = same_fault (BadEscape (end - width bad)) fault (end - width (c ∷ cs)) (c ∷ cs) e (bad_escape end c cs r bad is fits ends some-bad)
 
     by_end : is_quote c ≡ true → (q : Option (List ℕ)) → quote_end c false cs ≡ q → closed_at end c cs q ≡ Err fault → IsFaultHere fault (end - width (c ∷ cs)) (c ∷ cs)
-    by_end is None none e = same_fault (OpenQuote (end - width (c ∷ cs))) fault (end - width (c ∷ cs)) (c ∷ cs) e (refl, record { quote = c; behind = cs; spelled = refl; opens = is; never = not_closed c cs is none })
+    by_end is None none e = same_fault (OpenQuote (end - width (c ∷ cs))) fault (end - width (c ∷ cs)) (c ∷ cs) e (refl, record { quote = c; remaining = cs; spelled = refl; opens = is; never = not_closed c cs is none })
     by_end is (Some r) ends e = by_bad is r ends (first_bad c cs) refl e
 
     by_class : (b : Bool) → begins_bare c ≡ b → (q : Bool) → is_quote c ≡ q → (m : Bool) → is_mark c ≡ m
@@ -164,9 +164,9 @@ token_fault end (c ∷ cs) fault e space some fits = by_class (begins_bare c) re
     by_class false is true quote m mark e = by_end quote (quote_end c false cs) refl e
     by_class false is false quote true mark e = absurd (ok_err (Mark c, cs) fault e)
     by_class false is false quote false mark e = same_fault (BadChar (end - width (c ∷ cs))) fault (end - width (c ∷ cs)) (c ∷ cs) e
-        (refl, record { bad = c; behind = cs; spelled = refl; no_token = or_false (is_whitespace c) _ space (or_false (begins_bare c) _ is (or_false (is_quote c) (is_mark c) quote mark)) })
+        (refl, record { bad = c; remaining = cs; spelled = refl; no_token = or_false (is_whitespace c) _ space (or_false (begins_bare c) _ is (or_false (is_quote c) (is_mark c) quote mark)) })
 
--- ---- what is spelled is read
+-- ---- the lexer reads what is in the grammar
 
 bare_read : (end first : ℕ) (others rest : List ℕ) → begins_bare first ≡ true → list_all continues_bare others ≡ true → begins continues_bare rest ≡ false → token_at end (first ∷ (others ++ rest)) ≡ Ok (Bare, rest)
 unfolding token_at
@@ -227,16 +227,16 @@ pub fault_again : (end before : ℕ) (cs : List ℕ) (fault : LexFault) → end 
 fault_again end before cs TooLong e h = absurd h
 fault_again end before cs Memory e h = absurd h
 fault_again end before cs (OpenQuote at) e (at_is, h) =
-    ap (token_at end) h.spelled ∙ open_read end h.quote h.behind h.opens h.never ∙ ap (λ (n : ℕ). Err (OpenQuote n)) (let same : end - width (h.quote ∷ h.behind) ≡ at = omega (arith, ap width h.spelled) in same)
+    ap (token_at end) h.spelled ∙ open_read end h.quote h.remaining h.opens h.never ∙ ap (λ (n : ℕ). Err (OpenQuote n)) (let same : end - width (h.quote ∷ h.remaining) ≡ at = omega (arith, ap width h.spelled) in same)
 fault_again end before cs (BadChar at) e (at_is, h) =
-    ap (token_at end) h.spelled ∙ bad_char_read end h.bad h.behind h.no_token ∙ ap (λ (n : ℕ). Err (BadChar n)) (let same : end - width (h.bad ∷ h.behind) ≡ at = omega (arith, ap width h.spelled) in same)
+    ap (token_at end) h.spelled ∙ bad_char_read end h.bad h.remaining h.no_token ∙ ap (λ (n : ℕ). Err (BadChar n)) (let same : end - width (h.bad ∷ h.remaining) ≡ at = omega (arith, ap width h.spelled) in same)
 fault_again end before cs (BadEscape at) e (offset, at_is, h) =
-    let bad = 92 ∷ h.bad ∷ h.behind in
+    let bad = 92 ∷ h.bad ∷ h.remaining in
     let inside = sources h.pieces ++ bad in
     let whole : width (h.quote ∷ inside) ≡ width (h.quote ∷ sources h.pieces) + width bad = width-append (h.quote ∷ sources h.pieces) bad in
     let same : end - width bad ≡ at = omega (arith, ap width h.spelled, whole, h.offset_is) in
     let slash = quote_not_backslash h.quote h.opens in
     ap (token_at end) h.spelled ∙ quote_read end h.quote inside h.opens
     ∙ ap (closed_at end h.quote inside) (ap (quote_end h.quote false) h.closed.spelled ∙ quote_found h.quote h.closed.pieces h.closed.rest slash (eq-eqb h.quote h.quote refl) h.closed.are_raw)
-    ∙ ap (unless_bad end h.closed.rest) (bad_found h.quote h.pieces h.bad h.behind slash h.has_escapes h.is_bad h.are_pieces)
+    ∙ ap (unless_bad end h.closed.rest) (bad_found h.quote h.pieces h.bad h.remaining slash h.has_escapes h.is_bad h.are_pieces)
     ∙ ap (λ (n : ℕ). Err (BadEscape n)) same

@@ -1,4 +1,4 @@
--- How many bytes characters take, and where a text may be cut.
+-- The lengths of characters in bytes, and where a text may be split.
 use Rattle.std.proofs.Common.{◌≡◌, ℕ, ◌+◌, ◌-◌, ◌<◌, List, ◌∷◌, ◌++◌, length, chars, encode_utf8, sym, ap, ◌∙◌, subst, arith}
 use Rattle.std.specs.Str.{IsUtf8, IsCharBoundary, encode_utf8_all}
 use Rattle.std.proofs.lemmas.List.{length-append}
@@ -11,7 +11,7 @@ width-chars text utf8 = ap length (encodes-chars text utf8)
 pub width-append : (cs ds : List ℕ) → width (cs ++ ds) ≡ width cs + width ds
 width-append cs ds = ap length (encodes-append cs ds) ∙ length-append (encode_utf8_all cs) (encode_utf8_all ds)
 
--- the characters of a text in other words
+-- the characters of a text, by their encoding
 pub width-is : (text cs : List ℕ) → IsUtf8 text → chars text ≡ cs → width cs ≡ length text
 width-is text cs utf8 is = ap width (sym is) ∙ width-chars text utf8
 

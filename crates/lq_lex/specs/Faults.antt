@@ -1,4 +1,4 @@
--- How faults are printed.
+-- How errors are printed.
 use Rattle.std.specs.Prelude.{ℕ, List, codes, decimal, ◌++◌}
 use Rattle.lq_lex.specs.declared.fault.LexFault.{LexFault}
 use Rattle.lq_lex.specs.declared.fault.LexFault.TheVariants.{TooLong, OpenQuote, BadEscape, BadChar, Memory}

@@ -1,4 +1,4 @@
--- How a token is found from the left, on the characters of a text.
+-- The lexer's steps, from left to right, on the characters of a text.
 use Rattle.std.specs.Prelude.{ℕ, ◌-◌, Bool, true, false, ◌==◌, List, [], ◌∷◌, Option, Some, None, Result, Ok, Err}
 use Rattle.std.specs.Prelude.{if◌then◌else◌}
 use Rattle.lq_lex.specs.declared.token.Kind.{Kind}
@@ -7,18 +7,18 @@ use Rattle.lq_lex.specs.declared.fault.LexFault.{LexFault}
 use Rattle.lq_lex.specs.declared.fault.LexFault.TheVariants.{OpenQuote, BadEscape, BadChar}
 use Rattle.lq_lex.specs.Lexing.{begins_bare, continues_bare, is_quote, is_mark, is_backslash, is_escape, width}
 
--- what follows the characters that go on with a bare token
+-- the rest after the characters that continue a bare token
 abbrev pub bare_end : List ℕ → List ℕ
 bare_end [] = []
 bare_end (c ∷ cs) = if continues_bare c then bare_end cs else c ∷ cs
 
--- what follows the closing mark, where the last character was a backslash or not
+-- the rest after the closing quote; `backslash` tells whether the last character escapes the next one
 abbrev pub quote_end : ℕ → Bool → List ℕ → Option (List ℕ)
 quote_end quote backslash [] = None
 quote_end quote true (c ∷ cs) = quote_end quote false cs
 quote_end quote false (c ∷ cs) = if c == quote then Some cs else quote_end quote (is_backslash quote c) cs
 
--- the text from the first bad escape on, if one stands before the closing mark
+-- the text from its first unknown escape sequence on, if there is one before the closing quote
 abbrev pub first_bad : ℕ → List ℕ → Option (List ℕ)
 first_bad quote [] = None
 first_bad quote (c ∷ []) = None
@@ -27,14 +27,14 @@ first_bad quote (c ∷ d ∷ cs) =
     else (if is_backslash quote c then (if is_escape d then first_bad quote cs else Some (c ∷ d ∷ cs))
     else first_bad quote (d ∷ cs))
 
--- A kind and what follows, or why no token stands here. So many bytes stand up to the text's end.
+-- A kind and the rest, or an error. The whole text ends at offset `end`.
 abbrev pub unless_bad : ℕ → List ℕ → Option (List ℕ) → Result (Kind × List ℕ) LexFault
 unless_bad end rest None = Ok (Quoted, rest)
 unless_bad end rest (Some bad) = Err (BadEscape (end - width bad))
 
 abbrev pub closed_at : ℕ → ℕ → List ℕ → Option (List ℕ) → Result (Kind × List ℕ) LexFault
-closed_at end quote behind None = Err (OpenQuote (end - width (quote ∷ behind)))
-closed_at end quote behind (Some rest) = unless_bad end rest (first_bad quote behind)
+closed_at end quote remaining None = Err (OpenQuote (end - width (quote ∷ remaining)))
+closed_at end quote remaining (Some rest) = unless_bad end rest (first_bad quote remaining)
 
 unfoldable pub token_at : ℕ → List ℕ → Result (Kind × List ℕ) LexFault
 token_at end [] = Err (BadChar end)

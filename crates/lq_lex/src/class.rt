@@ -1,4 +1,4 @@
-// Classes of characters.
+// Character classes.
 ghost use Rattle.std.specs.Prelude.{◌≡◌, ℕ, List, ◌++◌};
 ghost use Rattle.lq_lex.specs.Lexing.{begins_bare, continues_bare, is_quote, is_mark, is_backslash, is_escape};
 ghost use Rattle.lq_lex.specs.Clauses.{SplitsFirst};
@@ -36,7 +36,7 @@ pub(crate) fn is_mark(c: char) -> bool
     c.is_ascii() && MARKS.contains(&(c as u8))
 }
 
-/// Whether the character escapes the next one between these quotation marks. Between backticks none does.
+/// Returns whether the character escapes the next one inside these quotes. Inside backticks none does.
 #[inline]
 pub(crate) fn is_backslash(quote: char, c: char) -> bool
     ensures { result ≡ is_backslash quote c }
@@ -51,7 +51,7 @@ pub(crate) fn is_escape(c: char) -> bool
     matches!(c, '\\' | '"' | '\'' | 'n' | 'r' | 't')
 }
 
-/// The first character of a text, and what follows it.
+/// Splits a text after its first character.
 #[inline]
 pub(crate) fn split_first(text: &str) -> Option<(char, &str)>
     ensures { SplitsFirst text.now result }
@@ -61,7 +61,7 @@ pub(crate) fn split_first(text: &str) -> Option<(char, &str)>
     Some((first, rest.as_str()))
 }
 
-/// What stands before the rest of a text.
+/// Returns the part of the text before its suffix `rest`.
 #[inline]
 pub(crate) fn prefix<'a>(text: &'a str, rest: &str) -> &'a str
     requires { (taken : List ℕ) × (text.now ≡ taken ++ rest.now) }

@@ -1,4 +1,4 @@
-//! Why a text has no tokens.
+//! Errors of the lexer.
 ghost use Rattle.std.specs.Prelude.{◌≡◌};
 ghost use Rattle.lq_lex.specs.declared.fault.LexFault.TheVariants.{Memory};
 
@@ -6,16 +6,16 @@ use std::alloc::{AllocError, AllocFailed};
 use std::error::Error;
 use std::fmt;
 
-/// Why a text has no tokens. Behind the tokens that come before it, the first of these is named. Places count bytes.
+/// Why a text cannot be split into tokens. The first error in the text is reported, at its byte offset.
 #[derive(Clone, Copy, Debug, PartialEq, Eq)]
 pub enum LexFault {
-    /// The text has more than 16,384 bytes.
+    /// The text is longer than 16,384 bytes.
     TooLong,
-    /// The quotation mark or backtick there is never closed.
+    /// The quote or backtick at this offset is never closed.
     OpenQuote { at: usize },
-    /// The backslash there escapes nothing that can be escaped.
+    /// The backslash at this offset starts an unknown escape sequence.
     BadEscape { at: usize },
-    /// The character there begins no token.
+    /// The character at this offset cannot start a token.
     BadChar { at: usize },
     /// Memory ran out.
     Memory,

@@ -1,4 +1,4 @@
-//! From a text to its tokens.
+//! The lexer.
 ghost use Rattle.std.specs.Prelude.{◌≢◌, ◌≡◌, ◌<◌, List, Result, Err, IfOk};
 ghost use Rattle.lq_lex.specs.declared.fault.LexFault.{LexFault};
 ghost use Rattle.lq_lex.specs.Token.{Token as Piece};
@@ -6,19 +6,18 @@ ghost use Rattle.lq_lex.specs.Lexing.{HasLexed, IsTokens};
 ghost use Rattle.lq_lex.specs.Clauses.{Collects};
 
 use crate::fault::LexFault;
-use crate::list::Tokens;
 use crate::scan::next_token;
-use crate::token::Token;
+use crate::token::{Token, Tokens};
 use std::alloc::Global;
 
-/// The most bytes that a query has.
+/// The maximum length of a query in bytes.
 const LIMIT: usize = 16_384;
 
-/// The tokens of a text of at most 16,384 bytes.
+/// Splits a text of at most 16,384 bytes into tokens.
 pub fn tokens(alloc: Global, s: &str) -> Result<Tokens<'_>, LexFault>
-    // The text is in the lexical grammar, and these are its tokens.
+    // The text matches the lexical grammar, and these are its tokens.
     ensures found { IfOk result (λ tokens. IsTokens s.now tokens) }
-    // Each text has tokens or one fault, and which is answered, unless memory runs out.
+    // Each text has either tokens or one error, which is returned unless memory runs out.
     ensures lexed { result ≢ Err LexFault.Memory → HasLexed s.now result }
     ensures only { (lexed : Result (List Piece) LexFault) → HasLexed s.now lexed → result ≢ Err LexFault.Memory
         → result ≡ lexed }
@@ -35,9 +34,9 @@ fn collect(alloc: Global, text: &str) -> Result<Vec<Token<'_>>, LexFault>
 {
     let mut list = Vec::new(alloc);
     let mut rest = text;
-    'others: while let Some((token, behind)) = next_token(rest, text.len())? {
+    'others: while let Some((token, remaining)) = next_token(rest, text.len())? {
         list.push(token)?;
-        rest = behind;
+        rest = remaining;
     }
     Ok(list)
 }

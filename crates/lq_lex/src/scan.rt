@@ -1,4 +1,4 @@
-// One token at the front of a text.
+// Reads one token at the start of a text.
 ghost use Rattle.std.specs.Prelude.{◌≡◌, ◌==◌, ◌&&◌, ◌≤◌, false, not, ◌∷◌, ◌-◌, chars, length};
 ghost use Rattle.lq_lex.specs.Reading.{bare_end, quote_end, closed_at, token_at};
 ghost use Rattle.lq_lex.specs.Clauses.{ReadsToken, StepsTo};
@@ -8,60 +8,61 @@ use crate::fault::LexFault;
 use crate::quote::{first_bad, quote_end};
 use crate::token::{Kind, Token};
 
-/// What follows the characters that go on with a bare token.
+/// Returns the rest of the text after the characters that continue a bare token.
 #[tactic(auto, using(crate::proofs::Steps::bare_steps))]
 fn bare_end(text: &str) -> &str
     ensures { chars result.now ≡ bare_end (chars text.now) }
 {
     let mut rest = text;
-    'characters: while let Some((c, behind)) = split_first(rest) {
+    'characters: while let Some((c, remaining)) = split_first(rest) {
         if !continues_bare(c) {
             return rest;
         }
-        rest = behind;
+        rest = remaining;
     }
     rest
 }
 
-/// The kind of the token at the front of the text, and what follows it. The whole text ends at the place `end`.
+/// Returns the kind of the token at the start of the text, and the rest. The whole text ends at offset `end`.
 #[tactic(auto, using(crate::proofs::Steps::token_steps))]
 fn token(text: &str, end: usize) -> Result<(Kind, &str), LexFault>
     ensures { ReadsToken result (token_at end (chars text.now)) }
 {
-    let Some((first, behind)) = split_first(text) else {
+    let Some((first, remaining)) = split_first(text) else {
         return Err(LexFault::BadChar { at: end });
     };
     if begins_bare(first) {
-        return Ok((Kind::Bare, bare_end(behind)));
+        return Ok((Kind::Bare, bare_end(remaining)));
     }
     if is_quote(first) {
-        return quoted(text, behind, first, end);
+        return quoted_token(text, remaining, first, end);
     }
     if is_mark(first) {
-        return Ok((Kind::Mark(first as u8), behind));
+        return Ok((Kind::Mark(first as u8), remaining));
     }
     Err(LexFault::BadChar {
         at: end.saturating_sub(text.len()),
     })
 }
 
-/// The same where the text begins with a quotation mark or a backtick.
+/// Returns the same for a text that begins with the quote or backtick `quote`, followed by `remaining`.
 #[tactic(auto, using(crate::proofs::Widths::width_steps))]
-fn quoted<'a>(
+fn quoted_token<'a>(
     text: &str,
-    behind: &'a str,
+    remaining: &'a str,
     quote: char,
     end: usize,
 ) -> Result<(Kind, &'a str), LexFault>
-    requires { chars text.now ≡ quote ∷ chars behind.now }
-    ensures { ReadsToken result (closed_at end quote (chars behind.now) (quote_end quote false (chars behind.now))) }
+    requires { chars text.now ≡ quote ∷ chars remaining.now }
+    ensures { ReadsToken result
+        (closed_at end quote (chars remaining.now) (quote_end quote false (chars remaining.now))) }
 {
-    let Some(rest) = quote_end(behind, quote) else {
+    let Some(rest) = quote_end(remaining, quote) else {
         return Err(LexFault::OpenQuote {
             at: end.saturating_sub(text.len()),
         });
     };
-    if let Some(bad) = first_bad(behind, quote) {
+    if let Some(bad) = first_bad(remaining, quote) {
         return Err(LexFault::BadEscape {
             at: end.saturating_sub(bad.len()),
         });
@@ -69,8 +70,8 @@ fn quoted<'a>(
     Ok((Kind::Quoted, rest))
 }
 
-/// The token that stands behind white space, and what follows it, or nothing at the end. The whole text ends at the
-/// place `end`.
+/// Skips white space and returns the next token and the rest, or `None` at the end. The whole text ends at offset
+/// `end`.
 pub(crate) fn next_token(text: &str, end: usize) -> Result<Option<(Token<'_>, &str)>, LexFault>
     requires { length text.now ≤ end }
     ensures { StepsTo (end - length text.now) text.now result }
@@ -90,7 +91,8 @@ pub(crate) fn next_token(text: &str, end: usize) -> Result<Option<(Token<'_>, &s
     Ok(Some((token, rest)))
 }
 
-/// Whether no white space stands in the text before `here`, which is not the start of the whole text.
+/// Returns whether the token at `here` directly follows another token: no white space was skipped, and it is not at
+/// the start of the query.
 #[inline]
 fn is_glued(text: &str, here: &str, start: usize) -> bool
     ensures { result ≡ (length here.now == length text.now) && not (start == 0) }

@@ -1,8 +1,8 @@
-//! Reads a query on each line, and writes its tokens, or why it has none. A token is written as its kind, its place, a
-//! `+` if it is glued, and the text that it stands for.
+//! Reads a query on each line, and prints its tokens or its error. A token is printed as its kind, its offset, a `+` if
+//! it is glued, and the string that it stands for.
 //!
-//! The answers in `stdout` are not the program's own. They are made in Python, by regular expressions of its `re`
-//! module over classes of characters from its `unicodedata`.
+//! The expected output in `stdout` comes from Python: regular expressions of its `re` module over character classes
+//! from its `unicodedata`.
 #![tactic(auto)]
 
 #[cfg(test)]
@@ -48,7 +48,7 @@ fn push_token(alloc: Global, token: &Token, answer: &mut String) -> Result<(), A
     answer.push_str("> ")
 }
 
-/// Appends a text with its line feeds, carriage returns and tabs in words.
+/// Appends a text with its line feeds, carriage returns and tabs escaped.
 fn push_shown(text: &str, answer: &mut String) -> Result<(), AllocError> {
     for c in text.chars() {
         match c {

@@ -2,7 +2,7 @@ use lq_lex::{LexFault, tokens};
 use std::alloc::{AllocError, Global};
 use std::test::Fail;
 
-/// As many letters.
+/// Returns this many letters.
 fn letters(alloc: Global, count: usize) -> Result<String, AllocError> {
     let mut text = String::new(alloc);
     for _ in 0..count {
@@ -11,7 +11,7 @@ fn letters(alloc: Global, count: usize) -> Result<String, AllocError> {
     Ok(text)
 }
 
-/// How many tokens the text has, or its fault.
+/// Returns the number of tokens in the text, or its error.
 fn count(alloc: Global, text: &str) -> Result<usize, LexFault> {
     Ok(tokens(alloc, text)?.len())
 }

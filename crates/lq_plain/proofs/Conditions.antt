@@ -1,4 +1,4 @@
--- Conditions of which all hold, or some, as lists.
+-- Lists of conditions of which all hold, or some.
 use Rattle.std.proofs.Common.{◌≡◌, ◌&&◌, ◌||◌, List, [], ◌∷◌, ◌++◌, map, refl, ap}
 use Rattle.std.specs.Prelude.{flat_map}
 use Rattle.std.specs.List.{list_all, list_any}

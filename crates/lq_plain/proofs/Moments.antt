@@ -1,4 +1,4 @@
--- What is read of a text that may say a moment.
+-- The result of parsing a timestamp.
 use Rattle.std.proofs.Common.{◌≡◌, ℤ, pos, ◌^◌, unsigned_abs, List, ℕ, ◌&&◌, cond, true, int_le, int_lt}
 use Rattle.std.proofs.Common.{Option, Some, None, refl, ap, ◌∙◌, arith}
 use Rattle.std.proofs.lemmas.Int.{ints}

@@ -1,4 +1,4 @@
--- Values that have names, and lists of them in order.
+-- Named values, and sorted lists of them.
 use Rattle.std.proofs.Common.{◌≡◌, ℕ, suc, Bool, true, false, ◌&&◌, List, [], ◌∷◌, length, refl, arith, ap, ◌∙◌}
 use Rattle.std.proofs.lemmas.Bool.{eqb-true}
 use Rattle.std.proofs.lemmas.List.Filters.{All-dedup}
@@ -20,7 +20,7 @@ pub no_bytes : (text : List ℕ) → (length text == 0) ≡ true → text ≡ []
 no_bytes [] e = refl
 no_bytes (byte ∷ bytes) e = let none = eqb-true (suc (length bytes)) 0 e in absurd (omega arith)
 
--- ---- no field lacks a name
+-- ---- every field has a name
 
 no_nameless : (r : Record) → list_all is_filled r ≡ true → field_value r [] ≡ []
 no_nameless [] filled = refl
@@ -42,11 +42,11 @@ nothing_removed (((byte ∷ bytes), value) ∷ r) filled =
     ap (λ l. (byte ∷ bytes, value) ∷ l)
     (nothing_removed r (and_right (is_filled (byte ∷ bytes, value)) (list_all is_filled r) filled))
 
--- The field without a name is not there to be removed.
+-- Every field has a name, so none without one can be removed.
 pub no_field_removed : (r : Record) → IsFieldList r → without r [] ≡ r
 no_field_removed r rules = nothing_removed r rules.filled
 
--- ---- lists in order
+-- ---- sorted lists
 
 pub All-sorted_by : {A : Type 0} (order : A → A → Ordering) (P : A → Type 0) (xs : List A) → All P xs
     → All P (sorted_by order xs)

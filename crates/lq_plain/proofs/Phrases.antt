@@ -10,10 +10,10 @@ use Rattle.log_model.specs.Words.{stands_at}
 use Rattle.lq_ast.specs.Phrases.{in_order}
 use Rattle.word_tokens.proofs.FirstPlace.{any_at, none_in}
 
--- what stands behind the first item
-pub behind_first : {A : Type 0} (xs : List A) → take (length xs - 1) (drop 1 xs) ≡ drop 1 xs
-behind_first [] = take_all 0 [] (omega arith)
-behind_first (x ∷ xs) = take_all (length (x ∷ xs) - 1) xs (omega arith)
+-- what follows the first item
+pub rest_after_first : {A : Type 0} (xs : List A) → take (length xs - 1) (drop 1 xs) ≡ drop 1 xs
+rest_after_first [] = take_all 0 [] (omega arith)
+rest_after_first (x ∷ xs) = take_all (length (x ∷ xs) - 1) xs (omega arith)
 
 filled : (text : List ℕ) → (length text == 0) ≡ false → is_empty text ≡ false
 filled [] e = absurd (let bad : ⊥ = cc in bad)
@@ -22,7 +22,7 @@ filled (b ∷ bs) e = false_from_ne_true _ (λ h. let bad : ⊥ = grind arith in
 both : (a b : Bool) → a ≡ true → b ≡ true → (a && b) ≡ true
 both a b p q = rw (p, q) refl
 
--- a phrase stands at a place, and the others in order behind it
+-- a phrase at a position, and the others in order after it
 abbrev goes_on : List ℕ → List ℕ → List (List ℕ) → ℕ → Bool
 goes_on value text rest k = stands_at value text k && in_order value (k + length text) rest
 

@@ -1,4 +1,4 @@
--- Whether a regular expression can be read, and what it finds, beside the text that it was read from.
+-- Whether a regular expression is valid, and what it matches, from its text.
 use Rattle.std.proofs.Common.{◌≡◌, ◌<◌, ◌≤◌, ℕ, Bool, false, List, length, None, Some, Option, is_some, refl, get_or}
 use Rattle.std.proofs.Common.{◌⊎◌, inl, inr, ◌≢◌, arith}
 use Rattle.std.specs.Prelude.{IsSomeAnd, IfSome}
@@ -20,7 +20,7 @@ refused None X most why can = can
 refused (Some x) X most (inl none) can = let bad : ⊥ = cc in bad
 refused (Some x) X most (inr deep) can = omega (arith, deep.1, can)
 
--- a text that is refused for another reason than memory cannot be read
+-- a text that is refused although memory is left is not valid
 pub not_readable : (text : List ℕ) (kind : ErrorKind) → kind ≢ OutOfMemory → Refuses default_config text kind
     → IsReadable text → ⊥
 unfolding Refuses
@@ -34,7 +34,7 @@ nested : (o : Option (Nested Re × Names)) (tree : Re) (names : Names) (most : �
 nested None tree names most h = h
 nested (Some x) tree names most h = h.0
 
--- what was read from a text shows that it can be
+-- a compiled text is valid
 pub readable_as_read : (r : Regex) → regex_config r ≡ default_config → IsReadFromSource r → IsReadable (regex_source r)
 unfolding Reads
 readable_as_read r config is_read = nested _ _ _ _ (rw config at is_read)
@@ -46,7 +46,7 @@ by_reading : (o : Option (Nested Re × Names)) (Q : Nested Re × Names → Type 
 by_reading None Q b f p h = absurd p
 by_reading (Some x) Q b f p h = h x.0.value (same_refl _)
 
--- what was read from a text is found where the text's pattern is
+-- a compiled text matches where its pattern does
 pub found_as_read : (r : Regex) → regex_config r ≡ default_config → IsReadFromSource r → (value : List ℕ)
     → ((k : ℕ) → get_or value k 0 < 256) → is_some (find_str (regex_pattern r) value 0) ≡ is_found (regex_source r) value
 unfolding Reads

@@ -1,10 +1,10 @@
--- Values with the names of their fields.
+-- Values paired with the names of their fields.
 use Rattle.std.specs.Prelude.{◌≡◌, ℕ, List, []}
 use Rattle.std.specs.List.{AllByRecursion, zip}
 use Rattle.log_model.specs.Field.{Field}
 use Rattle.lq_ast.specs.Tuples.{Tuple}
 
--- a value without a name is empty
+-- if the name is empty, so is the value
 abbrev pub HasName : Field → Type 0
 HasName field = field.0 ≡ [] → field.1 ≡ []
 

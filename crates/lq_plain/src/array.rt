@@ -1,4 +1,4 @@
-//! JSON arrays of texts.
+//! Formats JSON arrays.
 ghost use Rattle.std.specs.Prelude.{◌≡◌, ◌++◌, IfOk, OnOk, map, string_bytes};
 ghost use Rattle.std.specs.List.{join_with_byte};
 ghost use Rattle.json.specs.Print.{quoted};
@@ -8,7 +8,7 @@ use std::alloc::{AllocError, Global};
 use stream_label::push_quoted;
 use vl_row::Text;
 
-/// The JSON array of some texts; no text where there are none.
+/// Returns the JSON array of some texts, or an empty text if there are none.
 pub(crate) fn array_text(alloc: Global, texts: &[Text]) -> Result<Text, AllocError>
     ensures { IfOk result (λ made. made ≡ array_text texts.now) }
 {
@@ -24,7 +24,7 @@ pub(crate) fn array_text(alloc: Global, texts: &[Text]) -> Result<Text, AllocErr
     }
 }
 
-/// Appends the texts in quotes, with commas between them.
+/// Appends the texts as JSON strings, separated by commas.
 fn push_joined(alloc: Global, texts: &[Text], out: &mut String) -> Result<(), AllocError>
     ensures { OnOk result (string_bytes out.new ≡ string_bytes out.old ++ join_with_byte 44 (map quoted texts.now)) }
 {

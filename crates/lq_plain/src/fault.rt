@@ -1,11 +1,11 @@
 use std::alloc::{AllocError, AllocFailed};
 
-/// Why there is no answer.
+/// Why a filter or a pipe fails.
 #[derive(Clone, Copy, PartialEq, Eq, Debug, Drop)]
 pub enum PlainFault {
-    /// A regular expression cannot be read.
+    /// A regular expression is invalid.
     Unreadable,
-    /// Memory is wanting.
+    /// Memory ran out.
     Memory,
 }
 

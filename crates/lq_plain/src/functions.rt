@@ -1,4 +1,4 @@
-//! The functions of `stats`.
+//! Evaluates the functions of `stats`.
 ghost use Rattle.std.specs.Prelude.{◌≡◌, IfOk, decimal, filter, length, not};
 ghost use Rattle.std.specs.Option.{option_map};
 ghost use Rattle.lq_ast.specs.Grouping.{asked, statistic_text};
@@ -14,12 +14,12 @@ use crate::sort_pipe::copies;
 use crate::subject::Subject;
 use crate::total::sum_text;
 use crate::tuples::tuples;
-use crate::values::{distinct, filled, in_order, values};
+use crate::values::{distinct, in_order, non_empty_values, values};
 use lq_ast::{Call, Filter, Func};
 use std::alloc::{AllocError, Global};
 use vl_row::{FieldList, Text};
 
-/// The text of the value of a statistic over some records; none where a sum is no 64-bit integer.
+/// Returns the result of a function with its filter, as text, or `None` if a sum is not a 64-bit integer.
 pub(crate) fn statistic_text(
     alloc: Global,
     func: &Func,
@@ -27,12 +27,12 @@ pub(crate) fn statistic_text(
 ) -> Result<Option<Text>, AllocError>
     ensures { IfOk result (λ text. text ≡ statistic_text (statistic func.now) records.now) }
 {
-    let asked = asked(alloc, &func.only, records)?;
-    call_text(alloc, func.call, func.names.as_slice(), asked.as_slice())
+    let selected = selected_records(alloc, &func.only, records)?;
+    call_text(alloc, func.call, func.names.as_slice(), selected.as_slice())
 }
 
-/// The records that a function is asked of: all, or those for which its filter holds.
-fn asked(
+/// Returns the records that a function counts: all, or those that match its filter.
+fn selected_records(
     alloc: Global,
     only: &Option<Filter>,
     records: &[FieldList],
@@ -41,11 +41,11 @@ fn asked(
 {
     match only {
         None => copies(alloc, records),
-        Some(filter) => kept(alloc, filter, records),
+        Some(filter) => matching_records(alloc, filter, records),
     }
 }
 
-fn kept(alloc: Global, only: &Filter, records: &[FieldList]) -> Result<Vec<FieldList>, AllocError>
+fn matching_records(alloc: Global, only: &Filter, records: &[FieldList]) -> Result<Vec<FieldList>, AllocError>
     ensures { IfOk result (λ made. made.items ≡ filter (record_holds (condition only.now)) records.now) }
 {
     let mut kept = Vec::new(alloc);
@@ -57,7 +57,7 @@ fn kept(alloc: Global, only: &Filter, records: &[FieldList]) -> Result<Vec<Field
     Ok(kept)
 }
 
-/// The text of the value of a function; none where a sum is no 64-bit integer.
+/// Returns the result of a function as text, or `None` if a sum is not a 64-bit integer.
 fn call_text(
     alloc: Global,
     call: Call,
@@ -67,8 +67,8 @@ fn call_text(
     ensures { IfOk result (λ text. text ≡ call_text call names.now records.now) }
 {
     match call {
-        Call::Count => Ok(Some(decimal(alloc, counted(names, records))?)),
-        Call::CountEmpty => Ok(Some(decimal(alloc, without_any(names, records))?)),
+        Call::Count => Ok(Some(decimal(alloc, count_records(names, records))?)),
+        Call::CountEmpty => Ok(Some(decimal(alloc, count_without_any(names, records))?)),
         Call::CountUniq => {
             let tuples = tuples(alloc, names, records)?;
             Ok(Some(decimal(alloc, tuples.len())?))
@@ -78,30 +78,30 @@ fn call_text(
             sum_text(alloc, values.as_slice())
         }
         Call::Min => {
-            let values = in_order(alloc, filled(alloc, names, records)?)?;
+            let values = in_order(alloc, non_empty_values(alloc, names, records)?)?;
             Ok(Some(first_text(alloc, values.as_slice())?))
         }
         Call::Max => {
-            let values = in_order(alloc, filled(alloc, names, records)?)?;
+            let values = in_order(alloc, non_empty_values(alloc, names, records)?)?;
             Ok(Some(last_text(alloc, values.as_slice())?))
         }
         Call::UniqValues => {
-            let values = distinct(alloc, filled(alloc, names, records)?)?;
+            let values = distinct(alloc, non_empty_values(alloc, names, records)?)?;
             Ok(Some(array_text(alloc, values.as_slice())?))
         }
     }
 }
 
-fn counted(names: &[Text], records: &[FieldList]) -> usize
+fn count_records(names: &[Text], records: &[FieldList]) -> usize
     ensures { result ≡ counted names.now records.now }
 {
     match names {
         [] => records.len(),
-        [_, ..] => with_some(names, records),
+        [_, ..] => count_with_some(names, records),
     }
 }
 
-fn with_some(names: &[Text], records: &[FieldList]) -> usize
+fn count_with_some(names: &[Text], records: &[FieldList]) -> usize
     ensures { result ≡ length (filter (has_some names.now) records.now) }
 {
     records
@@ -110,7 +110,7 @@ fn with_some(names: &[Text], records: &[FieldList]) -> usize
         .count()
 }
 
-fn without_any(names: &[Text], records: &[FieldList]) -> usize
+fn count_without_any(names: &[Text], records: &[FieldList]) -> usize
     ensures { result ≡ length (filter (λ r. not (has_some names.now r)) records.now) }
 {
     records

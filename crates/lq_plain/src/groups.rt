@@ -38,7 +38,7 @@ pub(crate) fn group_tuples(
     }
 }
 
-/// The records of a group.
+/// Returns the records of a group.
 pub(crate) fn members(
     alloc: Global,
     keys: &[StatKey],
@@ -68,7 +68,7 @@ fn is_member(
     Ok(tuple_order(own.as_slice(), tuple) == Ordering::Equal)
 }
 
-/// The values of the keys.
+/// Returns the values of the keys.
 fn key_tuple(alloc: Global, keys: &[StatKey], fields: &FieldList) -> Result<Items<Text>, AllocError>
     ensures { IfOk result (λ tuple. tuple ≡ key_tuple (map group_by keys.now) fields.now) }
 {
@@ -79,7 +79,7 @@ fn key_tuple(alloc: Global, keys: &[StatKey], fields: &FieldList) -> Result<Item
     Ok(Items::of(tuple))
 }
 
-/// The value of a key.
+/// Returns the value of a key.
 fn key_value(alloc: Global, fields: &FieldList, key: &StatKey) -> Result<Text, AllocError>
     ensures { IfOk result (λ value. value ≡ key_value fields.now (group_by key.now)) }
 {
@@ -90,8 +90,8 @@ fn key_value(alloc: Global, fields: &FieldList, key: &StatKey) -> Result<Text, A
     }
 }
 
-/// The first moment of the bucket of so many nanoseconds in which the moment lies that a text says; empty where it says
-/// none.
+/// Returns the start of the bucket of `step` nanoseconds that contains the timestamp in `text`, or an empty text if
+/// `text` is not a timestamp.
 fn bucket_of(alloc: Global, text: &str, step: i64) -> Result<Text, AllocError>
     ensures { IfOk result (λ bucket. bucket ≡ option_map_or (bucket_text (unsigned_abs step)) (moment_of text.now) []) }
 {
@@ -110,7 +110,7 @@ fn text_at(alloc: Global, moment: i64) -> Result<Text, AllocError>
     Ok(text)
 }
 
-/// So many whole steps after 1970 as are before the moment. Without a step it is 1970.
+/// Rounds a timestamp down to a multiple of `step` since 1970. If `step` is 0, returns 0.
 fn first_moment(moment: i64, step: i64) -> i64
     requires { pos 0 ≤ℤ moment }
     ensures { result ≡ pos (unsigned_abs moment - unsigned_abs moment % unsigned_abs step) }

@@ -1,7 +1,12 @@
-//! What pipes make of records, and whether filters hold for rows and records, by plain slow programs that follow the
-//! definitions. They call no function of `lq_filter`, `lq_tuple`, `lq_order` and `lq_stats`, with which tests compare
-//! them. What both stand on is compared with nothing: `vl_row` (lists of fields, numbers, the order of values),
-//! `stream_label` (the text and the id of a stream, quoting), `regex` and `caseless`.
+//! Slow and simple versions of filters and of the pipes `sort`, `uniq`, `top` and `stats`, which follow their
+//! definitions. Tests compare `lq_filter`, `lq_tuple`, `lq_order` and `lq_stats` with them; they call none of these
+//! crates. What both sides use is not compared: `vl_row` (field lists, numbers, the order of values), `stream_label`
+//! (labels, stream ids, JSON strings), `regex` and `caseless`.
+//!
+//! - Filters: `filter`; `forms` has each kind of filter, `value`, `pattern` and `selector` the tests of values and
+//!   streams, `subject` the row or record under test. `patterns` first checks all regular expressions.
+//! - Pipes: `sort_pipe`, `tuple_pipes` (`uniq` and `top`) and `stats_pipe`; `groups`, `functions`, `values`, `total`
+//!   and `array` belong to `stats`. `tuple`, `tuples`, `tuple_records` and `insertion` serve several pipes.
 #![tactic(auto)]
 
 mod array;
@@ -14,16 +19,14 @@ mod insertion;
 mod pattern;
 mod patterns;
 mod selector;
-mod sequence;
 mod sort_pipe;
 mod stats_pipe;
 mod subject;
-mod top_pipe;
 mod total;
 mod tuple;
+mod tuple_pipes;
 mod tuple_records;
 mod tuples;
-mod uniq_pipe;
 mod value;
 mod values;
 
@@ -31,5 +34,4 @@ pub use fault::PlainFault;
 pub use filter::{holds, record_holds};
 pub use sort_pipe::sort;
 pub use stats_pipe::grouped;
-pub use top_pipe::top;
-pub use uniq_pipe::uniq;
+pub use tuple_pipes::{top, uniq};

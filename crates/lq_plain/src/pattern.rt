@@ -1,4 +1,4 @@
-//! Regular expressions.
+//! Matches regular expressions.
 ghost use Rattle.std.specs.Prelude.{◌≡◌, IfOk, IfErr, string_bytes};
 ghost use Rattle.lq_ast.specs.Patterns.{IsReadable, is_found, whole};
 ghost use Rattle.lq_plain.specs.declared.fault.PlainFault.TheVariants.{Unreadable};
@@ -7,8 +7,8 @@ use crate::fault::PlainFault;
 use regex::{Error, Regex};
 use std::alloc::{AllocError, Global};
 
-/// Reads the regular expression, to see whether it can be read.
-pub(crate) fn read(alloc: Global, pattern: &str) -> Result<(), PlainFault>
+/// Compiles the regular expression, to check whether it is valid.
+pub(crate) fn check(alloc: Global, pattern: &str) -> Result<(), PlainFault>
     ensures readable { IfOk result (λ _. IsReadable pattern.now) }
     ensures unreadable { IfErr result (λ fault. fault ≡ Unreadable → IsReadable pattern.now → ⊥) }
 {
@@ -22,8 +22,8 @@ pub(crate) fn read(alloc: Global, pattern: &str) -> Result<(), PlainFault>
     }
 }
 
-/// Whether the regular expression is found somewhere in the value. It has been read before, so that now memory alone
-/// can be wanting.
+/// Returns whether the regular expression matches somewhere in the value. It has been checked before, so it can fail
+/// only if memory runs out.
 pub(crate) fn is_found(alloc: Global, pattern: &str, value: &str) -> Result<bool, AllocError>
     ensures { IfOk result (λ found. found ≡ is_found pattern.now value.now) }
 {
@@ -36,16 +36,16 @@ pub(crate) fn is_found(alloc: Global, pattern: &str, value: &str) -> Result<bool
     }
 }
 
-/// Whether it matches the whole value.
-pub(crate) fn is_whole(alloc: Global, pattern: &str, value: &str) -> Result<bool, AllocError>
+/// Returns whether the regular expression matches the whole value.
+pub(crate) fn matches_whole(alloc: Global, pattern: &str, value: &str) -> Result<bool, AllocError>
     ensures { IfOk result (λ found. found ≡ is_found (whole pattern.now) value.now) }
 {
-    let whole = whole_text(alloc, pattern)?;
+    let whole = whole_pattern(alloc, pattern)?;
     is_found(alloc, whole.as_str(), value)
 }
 
-/// What is searched for where a whole value has to match.
-pub(crate) fn whole_text(alloc: Global, pattern: &str) -> Result<String, AllocError>
+/// Returns the regular expression that matches only a whole value.
+pub(crate) fn whole_pattern(alloc: Global, pattern: &str) -> Result<String, AllocError>
     ensures { IfOk result (λ text. string_bytes text ≡ whole pattern.now) }
 {
     let mut whole = String::new(alloc);

@@ -1,15 +1,15 @@
-//! Selectors of streams.
+//! Evaluates stream selectors.
 ghost use Rattle.std.specs.Prelude.{◌≡◌, IfOk, map};
 ghost use Rattle.std.specs.List.{list_all, list_any};
 ghost use Rattle.lq_ast.specs.Holds.{passes, selects};
 ghost use Rattle.lq_ast.specs.View.{groups_of, test_of, tests_of};
 
-use crate::pattern::is_whole;
+use crate::pattern::matches_whole;
 use lq_ast::{Group, How, LabelTest, Select};
 use std::alloc::{AllocError, Global};
 use vl_row::Stream;
 
-/// Whether some group has all its tests true, or there is no group.
+/// Returns whether all tests of some group are true, or the selector has no groups.
 pub(crate) fn selects(alloc: Global, select: &Select, stream: &Stream) -> Result<bool, AllocError>
     ensures { IfOk result (λ found. found ≡ selects (groups_of select.now) stream.now) }
 {
@@ -50,7 +50,7 @@ fn passes(alloc: Global, test: &LabelTest, stream: &Stream) -> Result<bool, Allo
     match test.how {
         How::Is => Ok(value == text),
         How::IsNot => Ok(value != text),
-        How::Matches => is_whole(alloc, text, value),
-        How::MatchesNot => Ok(!is_whole(alloc, text, value)?),
+        How::Matches => matches_whole(alloc, text, value),
+        How::MatchesNot => Ok(!matches_whole(alloc, text, value)?),
     }
 }

@@ -9,21 +9,21 @@ use std::alloc::{AllocError, Global};
 use std::cmp::Ordering;
 use vl_row::{FieldList, Recs, value_order};
 
-/// The records in the order of the pipe's keys, by value order, and those that are equal in it as they came. Then
-/// `offset` of them are left out, and `limit` of the others are kept.
-pub fn sort(alloc: Global, p: &SortPipe, records: &[FieldList]) -> Result<Recs, AllocError>
-    ensures { IfOk result (λ made. made ≡ sorted (sorting p.now) records.now) }
+/// Sorts the records by the pipe's keys, in value order. The sort is stable. Then skips `offset` records and keeps at
+/// most `limit` of the others.
+pub fn sort(alloc: Global, pipe: &SortPipe, records: &[FieldList]) -> Result<Recs, AllocError>
+    ensures { IfOk result (λ made. made ≡ sorted (sorting pipe.now) records.now) }
 {
-    let keys = p.keys.as_slice();
+    let keys = pipe.keys.as_slice();
     let mut all = sorted_by(alloc, copies(alloc, records)?, |a, b| compare(keys, a, b))?;
-    let mut kept = all.split_off(all.len().min(p.offset as usize))?;
-    if let Some(limit) = p.limit {
+    let mut kept = all.split_off(all.len().min(pipe.offset as usize))?;
+    if let Some(limit) = pipe.limit {
         kept.truncate(limit as usize);
     }
     Ok(Recs::of(kept))
 }
 
-/// The order of two records by these keys: by the first field in which they differ.
+/// Compares two records by the first key in which they differ.
 fn compare(keys: &[SortKey], a: &FieldList, b: &FieldList) -> Ordering
     ensures { result ≡ record_cmp (map sort_by keys.now) a.now b.now }
 {
@@ -33,7 +33,7 @@ fn compare(keys: &[SortKey], a: &FieldList, b: &FieldList) -> Ordering
     }
 }
 
-/// The order of two records by the values of one field.
+/// Compares two records by one key.
 fn compare_by(key: &SortKey, a: &FieldList, b: &FieldList) -> Ordering
     ensures { result ≡ field_cmp (sort_by key.now) a.now b.now }
 {
@@ -42,7 +42,7 @@ fn compare_by(key: &SortKey, a: &FieldList, b: &FieldList) -> Ordering
     if key.desc { order.reverse() } else { order }
 }
 
-/// Copies of the records.
+/// Copies the records.
 pub(crate) fn copies(alloc: Global, records: &[FieldList]) -> Result<Vec<FieldList>, AllocError>
     ensures { IfOk result (λ copies. copies.items ≡ records.now) }
 {

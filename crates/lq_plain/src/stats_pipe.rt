@@ -5,75 +5,75 @@ ghost use Rattle.lq_ast.specs.Grouping.{all, group_record, grouped, set_statisti
 ghost use Rattle.lq_ast.specs.Patterns.{CanBeRead, patterns_of_grouping};
 ghost use Rattle.lq_ast.specs.PipeView.{group_by, grouping, statistic};
 ghost use Rattle.lq_ast.specs.Records.{put_field, put_fields};
-ghost use Rattle.lq_plain.specs.Outcome.{prepended};
+ghost use Rattle.lq_plain.specs.Outcome.{prepend};
 ghost use Rattle.lq_plain.specs.Refusal.{IsRefusal};
 
 use crate::fault::PlainFault;
 use crate::functions::statistic_text;
 use crate::groups::{group_tuples, members};
-use crate::patterns::read_functions;
+use crate::patterns::check_functions;
 use lq_ast::{Func, StatKey, StatsPipe};
 use std::alloc::{AllocError, Global};
 use vl_row::{FieldList, Items, Recs, Text};
 
-/// A record for each group of the records in tuple order, without keys always one; or the name of the first function of
-/// the first group whose total is no 64-bit integer. First each regular expression of the functions'
-/// filters is read: `Unreadable` says that one of them cannot be.
+/// Returns a record for each group in tuple order; without keys there is always one group. If the sum of a function is
+/// not a 64-bit integer, returns the name of the first such function of the first such group. Checks all regular
+/// expressions in the functions' filters first, and returns `Unreadable` if one of them is invalid.
 pub fn grouped(
     alloc: Global,
-    p: &StatsPipe,
+    pipe: &StatsPipe,
     records: &[FieldList],
 ) -> Result<Result<Recs, Text>, PlainFault>
-    ensures value { IfOk result (λ answer. answer ≡ grouped (grouping p.now) records.now) }
-    ensures readable { IfOk result (λ _. AllByRecursion CanBeRead (patterns_of_grouping (grouping p.now))) }
-    ensures unreadable { IfErr result (IsRefusal (patterns_of_grouping (grouping p.now))) }
+    ensures value { IfOk result (λ answer. answer ≡ grouped (grouping pipe.now) records.now) }
+    ensures readable { IfOk result (λ _. AllByRecursion CanBeRead (patterns_of_grouping (grouping pipe.now))) }
+    ensures unreadable { IfErr result (IsRefusal (patterns_of_grouping (grouping pipe.now))) }
 {
-    read_functions(alloc, p.funcs.as_slice())?;
-    let tuples = group_tuples(alloc, p.keys.as_slice(), records)?;
-    Ok(group_records(alloc, p, records, tuples.as_slice(), Vec::new(alloc))?)
+    check_functions(alloc, pipe.funcs.as_slice())?;
+    let tuples = group_tuples(alloc, pipe.keys.as_slice(), records)?;
+    Ok(group_records(alloc, pipe, records, tuples.as_slice(), Vec::new(alloc))?)
 }
 
-/// These records, and behind them one for each of the groups; or the name of the first function whose total is no
+/// Returns the records in `made`, then one for each of the groups; or the name of the first function whose sum is not a
 /// 64-bit integer.
 fn group_records(
     alloc: Global,
-    p: &StatsPipe,
+    pipe: &StatsPipe,
     records: &[FieldList],
     tuples: &[Items<Text>],
     made: Vec<FieldList>,
 ) -> Result<Result<Recs, Text>, AllocError>
     ensures { IfOk result (λ answer. answer
-        ≡ prepended made.items (all (map (group_record (grouping p.now) records.now) tuples.now))) }
+        ≡ prepend made.items (all (map (group_record (grouping pipe.now) records.now) tuples.now))) }
 {
     let mut made = made;
     match tuples {
         [] => Ok(Ok(Recs::of(made))),
-        [tuple, others @ ..] => match group_record(alloc, p, records, tuple.as_slice())? {
+        [tuple, others @ ..] => match group_record(alloc, pipe, records, tuple.as_slice())? {
             Err(name) => Ok(Err(name)),
             Ok(fields) => {
                 made.push(fields)?;
-                group_records(alloc, p, records, others, made)
+                group_records(alloc, pipe, records, others, made)
             }
         },
     }
 }
 
-/// The record of a group, or the name of its first function whose total is no 64-bit integer.
+/// Returns the record of a group, or the name of its first function whose sum is not a 64-bit integer.
 fn group_record(
     alloc: Global,
-    p: &StatsPipe,
+    pipe: &StatsPipe,
     records: &[FieldList],
     tuple: &[Text],
 ) -> Result<Result<FieldList, Text>, AllocError>
-    ensures { IfOk result (λ answer. answer ≡ group_record (grouping p.now) records.now tuple.now) }
+    ensures { IfOk result (λ answer. answer ≡ group_record (grouping pipe.now) records.now tuple.now) }
 {
-    let members = members(alloc, p.keys.as_slice(), records, tuple)?;
+    let members = members(alloc, pipe.keys.as_slice(), records, tuple)?;
     let mut made = FieldList::new(alloc);
-    put_keys(alloc, &mut made, p.keys.as_slice(), tuple)?;
-    set_statistics(alloc, members.as_slice(), p.funcs.as_slice(), made)
+    put_keys(alloc, &mut made, pipe.keys.as_slice(), tuple)?;
+    set_statistics(alloc, members.as_slice(), pipe.funcs.as_slice(), made)
 }
 
-/// Sets the values of the functions, from left to right.
+/// Sets the results of the functions, from left to right.
 fn set_statistics(
     alloc: Global,
     records: &[FieldList],
@@ -95,7 +95,7 @@ fn set_statistics(
     }
 }
 
-/// Sets the values of the keys, one after another.
+/// Sets the values of the keys, from left to right.
 fn put_keys(
     alloc: Global,
     fields: &mut FieldList,
@@ -117,7 +117,7 @@ fn put_keys(
     }
 }
 
-/// Sets a field, where it has a name.
+/// Sets a field, unless its name is empty.
 fn put(alloc: Global, fields: &mut FieldList, name: &str, value: &str) -> Result<(), AllocError>
     ensures { OnOk result (fields.new ≡ put_field fields.old name.now value.now) }
 {

@@ -1,4 +1,4 @@
-//! What a filter is asked of.
+//! What a filter is evaluated on.
 ghost use Rattle.std.specs.Prelude.{◌≡◌, ◌-ℤ◌, ◌&&◌, pos, int_le, int_lt, false, IfOk};
 ghost use Rattle.std.specs.Option.{option_map_or};
 ghost use Rattle.log_model.specs.Row.{value_of};
@@ -11,7 +11,7 @@ use stream_label::{label_text, stream_id};
 use time_text::plain::write_moment;
 use vl_row::{FieldList, Row, Text};
 
-/// A row, at the moment `now`, in nanoseconds since 1970; or a record, which is of no moment and of no stream.
+/// A row, at the time `now`, in nanoseconds since 1970; or a record, which has no time and no stream.
 #[derive(Clone, Copy)]
 pub(crate) enum Subject<'s> {
     Row { now: i64, row: &'s Row },
@@ -19,7 +19,7 @@ pub(crate) enum Subject<'s> {
 }
 
 impl Subject<'_> {
-    /// The value of the field of this name.
+    /// Returns the value of the field with this name.
     pub(crate) fn value(&self, alloc: Global, name: &Text) -> Result<Text, AllocError>
         ensures { IfOk result (λ value. value ≡ (subject_of self.now).value name.now) }
     {
@@ -29,7 +29,7 @@ impl Subject<'_> {
         }
     }
 
-    /// Whether it is of the last `span` nanoseconds, and not of the future.
+    /// Returns whether its timestamp lies within the last `span` nanoseconds and not in the future.
     pub(crate) fn is_recent(&self, span: i64) -> bool
         ensures { result ≡ option_map_or (is_recent (subject_of self.now).now span) (subject_of self.now).moment false }
     {
@@ -39,7 +39,7 @@ impl Subject<'_> {
         }
     }
 
-    /// Whether its moment is between the ends, both included.
+    /// Returns whether its timestamp is from `from` to `to`, both included.
     pub(crate) fn is_during(&self, from: i128, to: i128) -> bool
         ensures { result ≡ option_map_or (is_within from to) (subject_of self.now).moment false }
     {
@@ -63,7 +63,7 @@ fn row_value(alloc: Global, row: &Row, name: &str) -> Result<Text, AllocError>
     Ok(text)
 }
 
-/// Whether its age is less than `span`, and not below zero.
+/// Returns whether the age of the row is less than `span` and not negative.
 fn is_recent(now: i64, span: i64, row: &Row) -> bool
     ensures { result ≡ (int_lt (now -ℤ span) (pos row.now.moment) && int_le (pos row.now.moment) now) }
 {

@@ -1,4 +1,4 @@
-//! Sums of values.
+//! Sums values.
 ghost use Rattle.std.specs.Prelude.{◌≡◌, IfOk, filter_map};
 ghost use Rattle.std.specs.Fmt.{signed_decimal};
 ghost use Rattle.log_model.specs.Order.{number_of};
@@ -7,8 +7,8 @@ ghost use Rattle.lq_ast.specs.Statistics.{sum_text, total};
 use std::alloc::{AllocError, Global};
 use vl_row::{Text, number};
 
-/// The text of the sum of the numbers among the values, empty where there are none; no text where it is no 64-bit
-/// integer.
+/// Returns the sum of the numbers among the values as text, which is empty if there are none, or `None` if the sum is
+/// not a 64-bit integer.
 pub(crate) fn sum_text(alloc: Global, values: &[Text]) -> Result<Option<Text>, AllocError>
     ensures { IfOk result (λ text. text ≡ sum_text (filter_map number_of values.now)) }
 {
@@ -23,7 +23,7 @@ pub(crate) fn sum_text(alloc: Global, values: &[Text]) -> Result<Option<Text>, A
     }
 }
 
-/// The numbers among the values.
+/// Returns the numbers among the values.
 fn numbers(alloc: Global, values: &[Text]) -> Result<Vec<i64>, AllocError>
     ensures { IfOk result (λ numbers. numbers.items ≡ filter_map number_of values.now) }
 {
@@ -33,7 +33,7 @@ fn numbers(alloc: Global, values: &[Text]) -> Result<Vec<i64>, AllocError>
         .collect(alloc)
 }
 
-/// The sum of numbers, which are fewer than 2^64, and so it fits.
+/// Returns the sum of numbers. It fits, since there are fewer than 2^64 of them.
 fn total(numbers: &[i64]) -> i128
     ensures { result ≡ total numbers.now }
 {

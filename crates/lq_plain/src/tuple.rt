@@ -1,4 +1,4 @@
-//! A tuple of the values of some fields.
+//! The tuple of the values of some fields in one record.
 ghost use Rattle.std.specs.Prelude.{◌≡◌, IfOk};
 ghost use Rattle.std.specs.Ordering.{is_eq};
 ghost use Rattle.lq_ast.specs.Tuples.{is_wholly_empty, tuple_cmp, tuple_of};
@@ -8,7 +8,7 @@ use std::alloc::{AllocError, Global};
 use std::cmp::Ordering;
 use vl_row::{FieldList, Items, Text, value_order};
 
-/// The values of these fields.
+/// Returns the values of these fields.
 pub(crate) fn tuple_of(
     alloc: Global,
     names: &[Text],
@@ -17,7 +17,7 @@ pub(crate) fn tuple_of(
     ensures tuple { IfOk result (λ tuple. tuple ≡ tuple_of names.now fields.now) }
     ensures named { IfOk result (λ tuple. IsNamed names.now tuple) }
 {
-    // What a list of fields tells of itself: none of them has an empty name.
+    // A field list has no field with an empty name.
     let _ = fields.as_slice();
     let mut tuple = Vec::new(alloc);
     for name in names {
@@ -26,7 +26,7 @@ pub(crate) fn tuple_of(
     Ok(Items::of(tuple))
 }
 
-/// The order of two tuples: by the first component in which they differ.
+/// Compares two tuples by the first component in which they differ.
 pub(crate) fn tuple_order(a: &[Text], b: &[Text]) -> Ordering
     ensures { result ≡ tuple_cmp a.now b.now }
 {
@@ -40,7 +40,7 @@ pub(crate) fn tuple_order(a: &[Text], b: &[Text]) -> Ordering
     }
 }
 
-/// Whether all values are empty.
+/// Returns whether all values are empty.
 pub(crate) fn is_wholly_empty(tuple: &[Text]) -> bool
     ensures { result ≡ is_wholly_empty tuple.now }
 {
@@ -50,7 +50,7 @@ pub(crate) fn is_wholly_empty(tuple: &[Text]) -> bool
     }
 }
 
-/// Whether the record has this tuple.
+/// Returns whether the record has this tuple.
 pub(crate) fn has_tuple(names: &[Text], fields: &FieldList, tuple: &[Text]) -> bool
     ensures { result ≡ is_eq (tuple_cmp (tuple_of names.now fields.now) tuple.now) }
 {

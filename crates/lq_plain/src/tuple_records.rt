@@ -1,4 +1,4 @@
-//! Records of tuples.
+//! Turns tuples into records.
 ghost use Rattle.std.specs.Prelude.{◌≡◌, [], IfOk, OnOk, map, zip, if◌then◌else◌};
 ghost use Rattle.std.specs.List.{All};
 ghost use Rattle.log_model.specs.Field.{set_all, set_field};
@@ -9,22 +9,22 @@ use crate::tuples::hits;
 use std::alloc::{AllocError, Global};
 use vl_row::{FieldList, Items, Text};
 
-/// A record for each of these tuples, with the number of the records that have it where that is wanted.
+/// Returns a record for each of these tuples, with the number of the records that have it if `with_hits`.
 pub(crate) fn records_of(
     alloc: Global,
     names: &[Text],
     records: &[FieldList],
     tuples: &[Items<Text>],
-    counted: bool,
+    with_hits: bool,
 ) -> Result<Vec<FieldList>, AllocError>
     requires { All (IsNamed names.now) tuples.now }
     ensures { IfOk result (λ made. made.items
-        ≡ map (if counted then counted_record names.now records.now else tuple_record names.now) tuples.now) }
+        ≡ map (if with_hits then counted_record names.now records.now else tuple_record names.now) tuples.now) }
 {
     let mut made = Vec::new(alloc);
     for tuple in tuples {
         let mut fields = tuple_record(alloc, names, tuple.as_slice())?;
-        if counted {
+        if with_hits {
             let hits = hits(names, records, tuple.as_slice()).to_string(alloc)?;
             fields.set(alloc, "hits", hits.as_str())?;
         }
@@ -33,7 +33,7 @@ pub(crate) fn records_of(
     Ok(made)
 }
 
-/// The record of a tuple.
+/// Returns the record of a tuple.
 fn tuple_record(alloc: Global, names: &[Text], tuple: &[Text]) -> Result<FieldList, AllocError>
     requires { IsNamed names.now tuple.now }
     ensures { IfOk result (λ made. made ≡ tuple_record names.now tuple.now) }
@@ -43,7 +43,7 @@ fn tuple_record(alloc: Global, names: &[Text], tuple: &[Text]) -> Result<FieldLi
     Ok(made)
 }
 
-/// Sets the fields of these names, one after another.
+/// Sets the fields of these names, from left to right.
 fn set_all(
     alloc: Global,
     fields: &mut FieldList,
@@ -65,12 +65,12 @@ fn set_all(
     }
 }
 
-/// Sets a field. Without a name there is no value, and no field to remove.
+/// Sets a field. If the name is empty, so is the value, and nothing has to be removed.
 fn set(alloc: Global, fields: &mut FieldList, name: &str, value: &str) -> Result<(), AllocError>
     requires { name.now ≡ [] → value.now ≡ [] }
     ensures { OnOk result (fields.new ≡ set_field fields.old name.now value.now) }
 {
-    // What a list of fields tells of itself: none of them has an empty name.
+    // A field list has no field with an empty name.
     let _ = fields.as_slice();
     if name.is_empty() {
         return Ok(());

@@ -1,4 +1,4 @@
-//! The tuples of the values of some fields that records have.
+//! The tuples of the values of some fields in several records.
 ghost use Rattle.std.specs.Prelude.{◌≡◌, IfOk, map};
 ghost use Rattle.std.specs.List.{All, dedup};
 ghost use Rattle.std.specs.Ordering.{is_eq};
@@ -12,7 +12,7 @@ use std::alloc::{AllocError, Global};
 use std::cmp::Ordering;
 use vl_row::{FieldList, Items, Text};
 
-/// The different tuples of the records in their order, without one that is wholly empty.
+/// Returns the distinct tuples of the records in tuple order, without the tuple of only empty values.
 pub(crate) fn tuples(
     alloc: Global,
     names: &[Text],
@@ -26,7 +26,7 @@ pub(crate) fn tuples(
     Ok(tuples)
 }
 
-/// How many records have the tuple.
+/// Returns the number of records with this tuple.
 pub(crate) fn hits(names: &[Text], records: &[FieldList], tuple: &[Text]) -> usize
     ensures { result ≡ hits names.now records.now tuple.now }
 {
@@ -36,7 +36,7 @@ pub(crate) fn hits(names: &[Text], records: &[FieldList], tuple: &[Text]) -> usi
         .count()
 }
 
-/// The tuple of each record.
+/// Returns the tuple of each record.
 fn all_tuples(
     alloc: Global,
     names: &[Text],
@@ -52,7 +52,7 @@ fn all_tuples(
     Ok(tuples)
 }
 
-/// The tuples in their order, each once.
+/// Sorts tuples and removes duplicates.
 pub(crate) fn distinct(
     alloc: Global,
     tuples: Vec<Items<Text>>,

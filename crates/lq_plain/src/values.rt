@@ -1,4 +1,4 @@
-//! The values that records have in some fields.
+//! The values of some fields in several records.
 ghost use Rattle.std.specs.Prelude.{◌≡◌, ◌++◌, IfOk, OnOk, map};
 ghost use Rattle.log_model.specs.Field.{field_value};
 ghost use Rattle.log_model.specs.Order.{value_cmp};
@@ -10,7 +10,7 @@ use std::alloc::{AllocError, Global};
 use std::cmp::Ordering;
 use vl_row::{FieldList, Text, value_order};
 
-/// All values of the fields.
+/// Returns all values of the fields.
 pub(crate) fn values(
     alloc: Global,
     names: &[Text],
@@ -39,8 +39,8 @@ fn push_values(
     Ok(())
 }
 
-/// Those that are not empty.
-pub(crate) fn filled(
+/// Returns the values of the fields that are not empty.
+pub(crate) fn non_empty_values(
     alloc: Global,
     names: &[Text],
     records: &[FieldList],
@@ -52,14 +52,14 @@ pub(crate) fn filled(
     Ok(made)
 }
 
-/// The values in value order.
+/// Sorts values in value order.
 pub(crate) fn in_order(alloc: Global, values: Vec<Text>) -> Result<Vec<Text>, AllocError>
     ensures { IfOk result (λ made. made.items ≡ sorted_by value_cmp values.items) }
 {
     sorted_by(alloc, values, |a, b| value_order(a.as_str(), b.as_str()))
 }
 
-/// The values in value order, each once.
+/// Sorts values in value order and removes duplicates.
 pub(crate) fn distinct(alloc: Global, values: Vec<Text>) -> Result<Vec<Text>, AllocError>
     ensures { IfOk result (λ made. made.items ≡ distinct_by value_cmp values.items) }
 {

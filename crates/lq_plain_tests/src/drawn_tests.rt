@@ -1,17 +1,17 @@
-//! Made-up records and pipes.
+//! Random records and pipes.
 ghost use Rattle.std.specs.Prelude.{◌<◌};
 
 use lq_ast::{SortKey, SortPipe, TopPipe, UniqPipe};
 use std::alloc::{AllocError, Global};
 use vl_row::{FieldList, Items, Text};
 
-/// The names of the fields that records have.
+/// The field names of records.
 pub(crate) const NAMES: &[&str] = &["_msg", "app", "level", "ms"];
 
-/// The names of the fields that pipes ask for: also one that no record has, and one that no field can have.
+/// The field names in pipes: some that records have, one that no record has, and one that no field can have.
 pub(crate) const ASKED: &[&str] = &["_msg", "app", "level", "ms", "none", ""];
 
-/// The values of fields: numbers and moments of all kinds, texts that are close to such, words, and no value.
+/// The values of fields: all kinds of numbers and timestamps, texts that look like them, words, and the empty value.
 pub(crate) const VALUES: &[&str] = &[
     "",
     "0",
@@ -39,10 +39,10 @@ pub(crate) const VALUES: &[&str] = &[
     "höhe",
 ];
 
-/// Few values, so that many records have a tuple together, and many tuples equally many records.
+/// Few values, so that many records share a tuple, and many tuples have the same number of records.
 pub(crate) const FEW: &[&str] = &["", "0", "-0", "a"];
 
-/// Draws numbers by a linear congruence.
+/// A linear congruential random number generator.
 #[derive(Drop)]
 pub(crate) struct Draws {
     state: u64,
@@ -53,7 +53,7 @@ impl Draws {
         Draws { state: seed }
     }
 
-    /// A number below this one.
+    /// Returns a number below `limit`.
     pub(crate) fn below(&mut self, limit: u64) -> u64
         requires { 0 < limit }
         ensures { result < limit }
@@ -65,7 +65,7 @@ impl Draws {
         (self.state >> 33) % limit
     }
 
-    /// One of some texts.
+    /// Returns one of some texts.
     pub(crate) fn one_of(&mut self, texts: &[&'static str]) -> &'static str {
         if texts.is_empty() {
             return "";
@@ -74,7 +74,7 @@ impl Draws {
         texts[place as usize]
     }
 
-    /// A copy of one of some texts.
+    /// Returns a copy of one of some texts.
     pub(crate) fn text(
         &mut self,
         alloc: Global,
@@ -83,7 +83,7 @@ impl Draws {
         Text::try_of(alloc, self.one_of(texts))
     }
 
-    /// So many records with these values. Each lacks some fields.
+    /// Returns `count` records with these values. Each one lacks some fields.
     pub(crate) fn records(
         &mut self,
         alloc: Global,
@@ -119,7 +119,7 @@ impl Draws {
         })
     }
 
-    /// A pipe that keeps few of the first records.
+    /// Returns a pipe that keeps few records.
     pub(crate) fn first_pipe(&mut self, alloc: Global) -> Result<SortPipe, AllocError> {
         let mut keys = Vec::new(alloc);
         for _ in 0..1 + self.below(3) {
@@ -153,7 +153,7 @@ impl Draws {
         })
     }
 
-    /// Up to three names.
+    /// Returns up to three names.
     pub(crate) fn names(&mut self, alloc: Global) -> Result<Items<Text>, AllocError> {
         let mut names = Vec::new(alloc);
         for _ in 0..self.below(4) {

@@ -11,7 +11,7 @@ const RECORDS: u64 = 80;
 
 const FILTERS: u32 = 40;
 
-/// What some filters answered.
+/// Which results some filters had.
 #[derive(Drop)]
 struct Seen {
     held: bool,
@@ -28,7 +28,7 @@ impl Seen {
         }
     }
 
-    /// Sees whether a filter holds.
+    /// Records the result of a filter.
     fn see(&mut self, holds: bool) {
         if holds {
             self.held = true;
@@ -42,7 +42,7 @@ impl Seen {
     }
 }
 
-/// Whether both answer the same for each record.
+/// Returns whether both implementations agree on each record.
 fn answer_alike(
     alloc: Global,
     filter: &Filter,
@@ -105,10 +105,10 @@ fn filters_answer_alike_for_records(rt: HostRuntime) -> Result<(), Fail> {
     Ok(())
 }
 
-/// The moment at which rows are asked, and the greatest of theirs.
+/// The time at which filters are evaluated, and the latest timestamp of a row.
 const NOW: i64 = 300;
 
-/// A row for each record that has a field: some are of the future.
+/// Returns a row for each record that has a field. Some rows are in the future.
 fn rows(alloc: Global, draws: &mut Draws) -> Result<Vec<Row>, AllocError> {
     let mut labels = Vec::new(alloc);
     labels.push(Text::try_of(alloc, "app")?)?;
@@ -124,7 +124,7 @@ fn rows(alloc: Global, draws: &mut Draws) -> Result<Vec<Row>, AllocError> {
     Ok(rows)
 }
 
-/// Whether both answer the same for each row.
+/// Returns whether both implementations agree on each row.
 fn answer_alike_for_rows(
     alloc: Global,
     query: &Query,
@@ -170,7 +170,7 @@ fn is_refused_of(alloc: Global, filter: &Filter, row: &Row) -> bool {
     )
 }
 
-/// A query without pipes.
+/// Returns a query without pipes.
 fn query(alloc: Global, filter: Filter) -> Query {
     let pipes = Items::of(Vec::new(alloc));
     Query { filter, pipes }
@@ -193,7 +193,7 @@ fn filters_answer_alike_for_rows(rt: HostRuntime) -> Result<(), Fail> {
     Ok(())
 }
 
-/// The rows of streams whose label `app` matches the pattern.
+/// Returns a filter for the streams whose label `app` matches the pattern.
 fn of_label(alloc: Global, pattern: &str) -> Result<Filter, AllocError> {
     let mut labels = Vec::new(alloc);
     labels.push(LabelTest {
@@ -210,14 +210,14 @@ fn of_label(alloc: Global, pattern: &str) -> Result<Filter, AllocError> {
     }))
 }
 
-/// Whether both refuse it as the pattern of a label.
+/// Returns whether both implementations refuse it as the pattern of a label.
 fn refuse_label(alloc: Global, pattern: &str, rows: &[Row]) -> Result<bool, AllocError> {
     let query = query(alloc, of_label(alloc, pattern)?);
     let mut seen = Seen::new();
     Ok(answer_alike_for_rows(alloc, &query, rows, &mut seen)? && seen.refused)
 }
 
-/// Whether both refuse it as a pattern that is found somewhere in a value.
+/// Returns whether both implementations refuse it as a pattern for a part of a value.
 fn refuse_value(alloc: Global, pattern: &str, rows: &[Row]) -> Result<bool, AllocError> {
     let field = Text::try_of(alloc, "app")?;
     let pattern = Text::try_of(alloc, pattern)?;

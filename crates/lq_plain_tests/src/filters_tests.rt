@@ -1,10 +1,10 @@
-//! Made-up filters.
+//! Random filters.
 use crate::drawn_tests::Draws;
 use lq_ast::{Filter, Group, How, LabelTest, Select};
 use std::alloc::{AllocError, Global};
 use vl_row::{Items, Text};
 
-/// Texts that are looked for: words of values, parts of them, texts that stand in none, and no text.
+/// Texts to search for: words of values, parts of them, texts that no value contains, and the empty text.
 const TEXTS: &[&str] = &[
     "",
     "a",
@@ -32,11 +32,11 @@ const PATTERNS: &[&str] = &[
     "", "a", "^a", "^a$", "[0-9]+$", "er+or", "h.he", "(?i)AB", "\\bthen", "^-?\\d+$", "a|b",
 ];
 
-/// Patterns that no label can have: the first cannot be read alone, the second not where it has to match a whole value,
-/// and the others neither way.
+/// Patterns that are refused for labels: the first is invalid by itself, the second when wrapped to match a whole
+/// value, and the others in both forms.
 const BROKEN: &[&str] = &["a)(b", "(?x)a#b", "(", "a)", "[a", "*", "a{2,1}", "\\q"];
 
-/// The fields that filters ask of rows.
+/// The fields in filters of rows.
 const FIELDS: &[&str] = &[
     "_msg",
     "app",
@@ -61,7 +61,7 @@ const NUMBERS: &[i128] = &[
 ];
 
 impl Draws {
-    /// A filter, with filters inside it down to this depth.
+    /// Returns a filter with nested filters down to this depth.
     #[cycle(nesting)]
     pub(crate) fn filter(&mut self, alloc: Global, depth: u32) -> Result<Filter, AllocError> {
         if depth == 0 {
@@ -84,7 +84,7 @@ impl Draws {
         Ok(filters)
     }
 
-    /// A filter that has none inside it.
+    /// Returns a filter without nested filters.
     fn leaf(&mut self, alloc: Global) -> Result<Filter, AllocError> {
         match self.below(3) {
             0 => self.of_text(alloc),
@@ -190,7 +190,7 @@ impl Draws {
         Ok(LabelTest { name, how, text })
     }
 
-    /// A regular expression, of which one in three cannot be read.
+    /// Returns a regular expression; one in three is invalid.
     fn pattern(&mut self, alloc: Global) -> Result<Text, AllocError> {
         match self.below(3) {
             0 => self.text(alloc, BROKEN),

@@ -1,4 +1,4 @@
-//! `sort` with limits, for which the shipped one sorts only the first records.
+//! `sort` with limits, for which `lq_order` sorts only the first records.
 use crate::drawn_tests::{Draws, VALUES};
 use crate::pipe_tests::sort_alike;
 use lq_ast::{SortKey, SortPipe};
@@ -6,11 +6,11 @@ use std::alloc::{AllocError, Global};
 use std::test::Fail;
 use vl_row::{FieldList, Items, Text};
 
-/// More than the shipped one takes as a sample.
+/// More records than `lq_order` takes as a sample.
 const MANY: u64 = 1_100;
 
-/// Whether the pipe keeps less than one in 32 of so many records, and those before them: then the shipped one selects
-/// these, and sorts no others.
+/// Returns whether `offset` and `limit` together are less than one in 32 of `count` records. Then `lq_order` selects
+/// these records and sorts no others.
 pub(crate) fn is_selecting(p: &SortPipe, count: usize) -> bool {
     match p.limit {
         Some(limit) => p.offset.saturating_add(limit) < count as u64 / 32,
@@ -18,7 +18,7 @@ pub(crate) fn is_selecting(p: &SortPipe, count: usize) -> bool {
     }
 }
 
-/// How the values of records come.
+/// The order of the records' values.
 #[derive(Clone, Copy)]
 enum Coming {
     Rising,
@@ -27,7 +27,7 @@ enum Coming {
     Mixed,
 }
 
-/// The value of the record at this place.
+/// Returns the value of the record at this index.
 fn value(
     alloc: Global,
     draws: &mut Draws,
@@ -42,7 +42,7 @@ fn value(
     }
 }
 
-/// Records whose values come so, each with its place.
+/// Returns records with values in this order, each with its index.
 fn records(alloc: Global, draws: &mut Draws, coming: Coming) -> Result<Vec<FieldList>, AllocError> {
     let mut records = Vec::new(alloc);
     for place in 0..MANY {
@@ -56,7 +56,7 @@ fn records(alloc: Global, draws: &mut Draws, coming: Coming) -> Result<Vec<Field
     Ok(records)
 }
 
-/// The first records by their values.
+/// Returns a pipe for the first records by their values.
 fn first(alloc: Global, desc: bool, offset: u64, limit: u64) -> Result<SortPipe, AllocError> {
     let name = Text::try_of(alloc, "value")?;
     let mut keys = Vec::new(alloc);
@@ -68,7 +68,7 @@ fn first(alloc: Global, desc: bool, offset: u64, limit: u64) -> Result<SortPipe,
     })
 }
 
-/// Whether the first of many records that come so are the same.
+/// Returns whether both implementations keep the same first records.
 fn select_alike(alloc: Global, coming: Coming, desc: bool) -> Result<bool, AllocError> {
     let mut draws = Draws::new(8);
     let records = records(alloc, &mut draws, coming)?;

@@ -1,4 +1,4 @@
-//! Tests that run the plain programs of `lq_plain` and the shipped ones over the same made-up records.
+//! Tests that compare `lq_plain` with `lq_filter`, `lq_order` and `lq_stats` on the same random records.
 #![tactic(auto)]
 
 #[cfg(test)]

@@ -1,8 +1,8 @@
-//! Records that are compared, and copied.
+//! Compares and copies records.
 use std::alloc::{AllocError, Global};
 use vl_row::{FieldList, Recs};
 
-/// Whether these are the same records in the same order.
+/// Returns whether these are the same records in the same order.
 pub(crate) fn are_same(some: &[FieldList], others: &[FieldList]) -> bool {
     some.len() == others.len() && some.iter().zip(others).all(|(a, b)| is_same(a, b))
 }

@@ -66,7 +66,7 @@ impl Draws {
     }
 }
 
-/// What the shipped statistics answer.
+/// The result of `lq_stats`.
 #[derive(Drop)]
 enum Shipped {
     Made(Recs),
@@ -103,13 +103,13 @@ fn made(alloc: Global, mut partial: Partial, records: &[FieldList]) -> Result<Re
     partial.finish(alloc)
 }
 
-/// What both answer.
+/// The result of both implementations.
 #[derive(Clone, Copy, PartialEq, Eq, Debug, Drop)]
 enum Answer {
     Records,
     Overflow,
     Refusal,
-    /// They answer differently, or memory was wanting.
+    /// They differ, or memory ran out.
     Apart,
 }
 
@@ -136,7 +136,7 @@ fn answer_of(alloc: Global, p: &StatsPipe, records: &[FieldList]) -> Answer {
     }
 }
 
-/// What drawn pipes answered.
+/// Which results random pipes had.
 #[derive(Drop)]
 struct Seen {
     records: bool,
@@ -190,15 +190,15 @@ fn records_are_grouped_alike(rt: HostRuntime) -> Result<(), Fail> {
     Ok(())
 }
 
-/// Half of the least sum that is too great, its negative, and other values: the sums of some groups overflow.
+/// Half of the least sum that overflows, its negative, and other values: the sums of some groups overflow.
 const HALVES: &[&str] = &["", "1", "a", "4611686018427387904", "-4611686018427387904"];
 
-/// So few that some sums fit in each group.
+/// So few records that some sums fit in each group.
 const SUMMED: u64 = 30;
 
 const SUMS: u32 = 30;
 
-/// Sums of these fields by these keys, each named as its field.
+/// Returns a pipe with the sums of these fields by these keys, each named like its field.
 fn sums(
     alloc: Global,
     keys: &[&'static str],
@@ -230,7 +230,7 @@ fn sum(alloc: Global, field: &str) -> Result<Func, AllocError> {
     })
 }
 
-/// The first of the fields whose sum alone overflows in some group.
+/// Returns the first of the fields whose sum overflows in some group, without the other fields.
 fn first_alone(
     alloc: Global,
     keys: &[&'static str],
@@ -246,7 +246,7 @@ fn first_alone(
     Ok("")
 }
 
-/// Whether the pipe names another field than this one.
+/// Returns whether the pipe reports a field other than this one.
 fn names_other(alloc: Global, p: &StatsPipe, records: &[FieldList], field: &str) -> bool {
     match lq_plain::grouped(alloc, p, records) {
         Ok(Err(name)) => name.as_str() != field,
@@ -254,8 +254,8 @@ fn names_other(alloc: Global, p: &StatsPipe, records: &[FieldList], field: &str)
     }
 }
 
-/// Sums over records that are drawn. Whether some pipe names a field before which another one overflows too, in a later
-/// group.
+/// Evaluates sums over random records. Returns whether some pipe reports a field although an earlier one overflows too,
+/// in a later group.
 fn see_sums(alloc: Global, draws: &mut Draws, seen: &mut Seen) -> Result<bool, AllocError> {
     let records = draws.records(alloc, HALVES, SUMMED)?;
     let records = records.as_slice();

@@ -1,13 +1,13 @@
--- The text of labels, label by label.
+-- The loop over labels.
 use Rattle.std.proofs.Common.{◌≡◌, ℕ, Bool, true, false, cond, List, [], ◌∷◌, ◌++◌, map, refl, ap, ◌∙◌, append_assoc}
 use Rattle.std.specs.List.{join_with_byte}
 use Rattle.log_model.specs.Field.{Field}
 use Rattle.log_model.specs.Stream.{label_text, labelled}
 
--- the labels and the brace after them, with a comma before the first of them where another one came earlier
+-- the remaining labels and the closing brace, after a comma if another label came earlier
 abbrev pub rest_text : Bool → List Field → List ℕ
-rest_text later [] = 125 ∷ []
-rest_text later (label ∷ labels) = cond later (44 ∷ []) [] ++ (labelled label ++ rest_text true labels)
+rest_text needs_comma [] = 125 ∷ []
+rest_text needs_comma (label ∷ labels) = cond needs_comma (44 ∷ []) [] ++ (labelled label ++ rest_text true labels)
 
 joined : (label : Field) (labels : List Field)
     → join_with_byte 44 (map labelled (label ∷ labels)) ++ 125 ∷ [] ≡ labelled label ++ rest_text true labels

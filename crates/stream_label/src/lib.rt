@@ -1,4 +1,7 @@
-//! The text of a stream's labels, and the id of the stream.
+//! Formats a stream's labels, such as `{a="x",b="y"}`, and computes the stream's id.
+//!
+//! `label_text` and `stream_id` are the two public calls; `push_quoted` prints one JSON string. The formats are defined
+//! in `log_model`'s `Stream`; `proofs/Joined` has the loop over labels.
 #![tactic(auto)]
 
 ghost use Rattle.std.specs.Prelude.{◌≡◌, [], ◌∷◌, ◌++◌, cond, IfOk, OnOk, OnErr, string_bytes};
@@ -10,30 +13,31 @@ use sha2::{Digest, Sha256};
 use std::alloc::{AllocError, Global};
 use vl_row::{Field, Stream, Text};
 
-/// How many bytes of the digest are the id.
+/// The number of digest bytes that make the id.
 const ID_BYTES: usize = 16;
 
-/// Appends the text of the stream's labels, as `{a="x",b="y"}`.
+/// Appends the stream's labels, such as `{a="x",b="y"}`. If allocation fails, `out` is unchanged.
 pub fn label_text(alloc: Global, s: &Stream, out: &mut Text) -> Result<(), AllocError>
     ensures ok { OnOk result (out.new ≡ out.old ++ label_text s.now) }
     ensures err { OnErr result (out.new ≡ out.old) }
 {
-    let text = text_of(alloc, s.as_slice())?;
+    let text = format_labels(alloc, s.as_slice())?;
     out.push_str(alloc, text.as_str())
 }
 
-/// Appends the stream's id: the first half of the SHA-256 of its labels' text, in hexadecimal digits.
+/// Appends the stream's id: the first half of the SHA-256 of its labels, in hexadecimal. If allocation fails, `out` is
+/// unchanged.
 #[tactic(auto, unfolding(log_model::specs::Stream::stream_id))]
 pub fn stream_id(alloc: Global, s: &Stream, out: &mut Text) -> Result<(), AllocError>
     ensures ok { OnOk result (out.new ≡ out.old ++ stream_id s.now) }
     ensures err { OnErr result (out.new ≡ out.old) }
 {
-    let text = text_of(alloc, s.as_slice())?;
+    let text = format_labels(alloc, s.as_slice())?;
     let id = hex::encode(alloc, &Sha256::digest(text.as_bytes())[..ID_BYTES])?;
     out.push_str(alloc, id.as_str())
 }
 
-fn text_of(alloc: Global, labels: &[Field]) -> Result<String, AllocError>
+fn format_labels(alloc: Global, labels: &[Field]) -> Result<String, AllocError>
     ensures { IfOk result (λ text. string_bytes text ≡ label_text labels.now) }
 {
     let mut text = String::from_str(alloc, "{")?;
@@ -44,12 +48,17 @@ fn text_of(alloc: Global, labels: &[Field]) -> Result<String, AllocError>
     Ok(text)
 }
 
-/// Appends a label, with a comma before it if it comes later than another.
-fn push_label(alloc: Global, later: bool, label: &Field, out: &mut String) -> Result<(), AllocError>
+/// Appends a label, after a comma unless it is the first.
+fn push_label(
+    alloc: Global,
+    needs_comma: bool,
+    label: &Field,
+    out: &mut String,
+) -> Result<(), AllocError>
     ensures { OnOk result (string_bytes out.new
-        ≡ string_bytes out.old ++ (cond later (44 ∷ []) [] ++ labelled label.now)) }
+        ≡ string_bytes out.old ++ (cond needs_comma (44 ∷ []) [] ++ labelled label.now)) }
 {
-    if later {
+    if needs_comma {
         out.push(',')?;
     }
     out.push_str(label.name())?;
@@ -57,8 +66,8 @@ fn push_label(alloc: Global, later: bool, label: &Field, out: &mut String) -> Re
     push_quoted(alloc, label.value(), out)
 }
 
-/// Appends a text as a JSON string, with the shortest escapes (RFC 8259, section 7). If allocation fails, `out` may
-/// hold a part of it.
+/// Appends a text as a JSON string with the shortest escapes (RFC 8259, section 7). If allocation fails, part of it may
+/// have been appended.
 pub fn push_quoted(alloc: Global, text: &str, out: &mut String) -> Result<(), AllocError>
     ensures { OnOk result (string_bytes out.new ≡ string_bytes out.old ++ quoted text.now) }
 {

@@ -1,4 +1,4 @@
-//! The labels, the text and the id of streams.
+//! Labels and ids of streams.
 use std::alloc::{AllocError, Global};
 use std::io;
 use stream_label::{label_text, stream_id};
@@ -17,7 +17,7 @@ pub fn print_case(rt: &HostRuntime, names: &str, fields: &str) -> io::Result<()>
     )
 }
 
-/// The row of these fields, of which those of these names are labels. None where they make no row.
+/// Returns the row with these fields, of which those with these names are labels, or `None` if they do not make a row.
 fn row_of(alloc: Global, names: &str, fields: &str) -> Result<Option<Row>, AllocError> {
     let names = texts_of(alloc, names)?;
     let fields = fields_of(alloc, fields)?;
@@ -44,7 +44,7 @@ fn fields_of(alloc: Global, fields: &str) -> Result<FieldList, AllocError> {
     Ok(list)
 }
 
-/// The text and the id of a stream, each appended to what stands before it.
+/// Returns the labels and the id of a stream, each appended to a text.
 fn shown(alloc: Global, stream: &Stream) -> Result<Text, AllocError> {
     let mut shown = Text::try_of(alloc, "> ")?;
     label_text(alloc, stream, &mut shown)?;

@@ -1,8 +1,8 @@
 //! Tests of `stream_label`.
 //!
-//! The program answers a table. A case is the names of a stream's labels, with commas between them, and the fields of
-//! a row, with tabs between all; the line `---` stands between cases. The answer is how many labels and fields the row
-//! has, and the text and the id of its stream. The answers are from Python's `json` and `hashlib`.
+//! The program reads cases separated by lines `---`. A case is the names of a stream's labels, separated by commas, and
+//! the fields of a row, all separated by tabs. It prints the numbers of labels and fields of the row, and the labels
+//! and the id of its stream. The expected output comes from Python's `json` and `hashlib`.
 #![tactic(auto)]
 
 mod label_tests;

@@ -1,4 +1,4 @@
-//! What the readers and writers of times answer.
+//! The results of parsing and formatting.
 use std::alloc::{AllocError, Global};
 use time_text::{day_of, plain, read_bound, read_duration, read_moment, write_moment};
 use vl_row::Text;

@@ -1,11 +1,9 @@
-//! Reads a text on each line, and writes the moment that it says in nanoseconds, as text, and the number of its day; or
-//! why it says none. Both bodies are asked, and a line says so where they differ. Behind `bound ` stands a bound, of
-//! which it writes the first and the last nanosecond, and behind `duration ` a duration, of which it writes the
-//! nanoseconds.
+//! Parses a timestamp on each line, and prints it in nanoseconds and in RFC 3339 format with its day number, or its
+//! error. Both implementations run, and the output shows where they differ. After `bound ` a line has a time bound, of
+//! which the first and last nanosecond are printed, and after `duration ` a duration, printed in nanoseconds.
 //!
-//! The answers in `stdout` are not the program's own: the moments, their texts and their days, and the ends of bounds,
-//! are as Python's `datetime` and `calendar` have them, the counts by their size, and the durations as sums of
-//! Python's whole numbers.
+//! The expected output in `stdout` comes from Python: timestamps, their texts and days, and the ends of bounds from its
+//! `datetime` and `calendar`, Unix timestamps by their size, and durations as sums of its integers.
 #![tactic(auto)]
 
 mod answers_tests;

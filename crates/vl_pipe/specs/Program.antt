@@ -15,7 +15,7 @@ use Rattle.query_run.specs.Faults.{fault_text}
 use Rattle.query_run.specs.QueryFault.{QueryFault}
 use Rattle.ingest_row.specs.Intake.{Outcome, rows_read}
 use Rattle.query_run.specs.Asked.{HasUnreadablePattern, IsUnspelled}
-use Rattle.vl_status.specs.Said.{no_memory_text}
+use Rattle.vl_status.specs.Status.{no_memory_text}
 use Rattle.vl_pipe.specs.Groups.{Arrival, AreGroups, BeginsWith, CanBeHeld, HaveOutcomes, batches_of, input_limit}
 use Rattle.vl_pipe.specs.Groups.{outcomes_in, refusals_of}
 

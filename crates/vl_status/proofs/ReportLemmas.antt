@@ -1,4 +1,4 @@
--- What was said on the error stream.
+-- Messages on the error stream.
 use Rattle.std.proofs.Common.{ℕ, ◌<◌, List, length, take, Result, Ok, Err, OnOk, OnErr, inl, inr, []}
 use Rattle.vl_io.specs.Change.{Change, IsTold, Took}
 use Rattle.vl_io.specs.Faults.{HasCause}

@@ -1,5 +1,5 @@
--- The statuses as numbers.
-use Rattle.std.specs.Prelude.{ℕ}
+-- Exit statuses as numbers, and the message when memory runs out.
+use Rattle.std.specs.Prelude.{ℕ, List, [], ◌++◌, ◌∷◌, codes}
 use Rattle.vl_status.specs.declared.status.Status.{Status}
 use Rattle.vl_status.specs.declared.status.Status.TheVariants.{Done, QueryRefused, Usage, ReadFault, WriteFault, Limit}
 use Rattle.vl_status.specs.declared.status.Status.TheVariants.{DoorFault, NoMemory}
@@ -13,3 +13,7 @@ status_number WriteFault = 4
 status_number DoorFault = 7
 status_number Limit = 8
 status_number NoMemory = 9
+
+-- the message when memory runs out
+abbrev pub no_memory_text : List ℕ
+no_memory_text = codes "no memory" ++ 10 ∷ []

@@ -1,8 +1,9 @@
-//! How commands end: their statuses, and what is said on the error stream.
+//! Exit statuses of commands, and messages on the error stream.
+//!
+//! All code is in `status`: the statuses with their numbers, `say` and `report_no_memory`. `specs/Status` has the
+//! numbers and the text of the message.
 #![tactic(auto)]
 
-mod report;
 mod status;
 
-pub use report::{report_no_memory, say};
-pub use status::Status;
+pub use status::{Status, report_no_memory, say};

@@ -1,7 +1,11 @@
-//! How a command ended.
-ghost use Rattle.std.specs.Prelude.{◌≡◌};
+//! Exit statuses, and messages on the error stream.
+ghost use Rattle.std.specs.Prelude.{◌≡◌, []};
+ghost use Rattle.vl_io.specs.Change.{IsTold, change_of};
+ghost use Rattle.vl_status.specs.Status.{no_memory_text};
 
-/// How a command ended. The number is the status that the process ends with.
+use vl_io::{Sink, put_all};
+
+/// How a command ended. The number is the exit status of the process.
 #[derive(Clone, Copy, Debug, PartialEq, Eq)]
 pub enum Status {
     Done = 0,
@@ -22,4 +26,20 @@ impl Status {
     {
         self as u8
     }
+}
+
+/// Writes a text to the error stream. If the stream fails, the rest of the text is dropped.
+pub fn say<E: Sink>(err: &mut E, text: &str)
+    ensures { IsTold (change_of E.written E.faults err.old err.new) [] text.now }
+{
+    let _ = put_all(err, text.as_bytes());
+}
+
+/// Reports that memory ran out.
+pub fn report_no_memory<E: Sink>(err: &mut E) -> Status
+    ensures status { result ≡ Status.NoMemory }
+    ensures said { IsTold (change_of E.written E.faults err.old err.new) [] no_memory_text }
+{
+    say(err, "no memory\n");
+    Status::NoMemory
 }

@@ -13,7 +13,7 @@ use Rattle.vl_pipe.specs.Pipe.{EndsReadable, EndsRefused, IsUnread}
 use Rattle.vl_pipe.specs.Program.{unreadable_pattern, unspelled}
 use Rattle.vl_pipe.specs.Refused.{ReportsRefused}
 use Rattle.vl_io.specs.Moments.{FirstTold}
-use Rattle.vl_status.specs.Said.{no_memory_text}
+use Rattle.vl_status.specs.Status.{no_memory_text}
 use Rattle.vl_status.specs.Status.{status_number}
 use Rattle.vl_status.specs.declared.status.Status.{Status}
 use Rattle.vl_status.specs.declared.status.Status.TheVariants.{Done, DoorFault, Limit, NoMemory, QueryRefused}

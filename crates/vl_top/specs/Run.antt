@@ -16,7 +16,7 @@ use Rattle.vl_pipe.specs.Groups.{arrival_at}
 use Rattle.vl_pipe.specs.Pipe.{IsPiped, IsUnread, PipeRun}
 use Rattle.vl_pipe.specs.Program.{IsRefusedText, Limit, Refusal, Stop, beyond, no_memory, refusal_text, said_of_query}
 use Rattle.vl_pipe.specs.Program.{unreadable}
-use Rattle.vl_status.specs.Said.{no_memory_text}
+use Rattle.vl_status.specs.Status.{no_memory_text}
 use Rattle.vl_status.specs.Status.{status_number}
 use Rattle.vl_status.specs.declared.status.Status.{Status}
 use Rattle.vl_status.specs.declared.status.Status.TheVariants.{Done, DoorFault, Limit as AtLimit, NoMemory}

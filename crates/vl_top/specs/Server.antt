@@ -3,7 +3,7 @@ use Rattle.std.specs.Prelude.{◌≡◌, ℕ, ◌++◌, ◌∷◌, List, [], cod
 use Rattle.std.specs.List.{AllByRecursion}
 use Rattle.vl_io.specs.Change.{Change, IsTold, IsUntold}
 use Rattle.vl_io.specs.Visits.{HasNoVisit}
-use Rattle.vl_status.specs.Said.{no_memory_text}
+use Rattle.vl_status.specs.Status.{no_memory_text}
 use Rattle.vl_status.specs.declared.status.Status.{Status}
 use Rattle.vl_status.specs.declared.status.Status.TheVariants as statuses
 use Rattle.vl_top.specs.Doors.{DoorChange, IsFailed, IsOver}

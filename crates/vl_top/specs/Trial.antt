@@ -1,7 +1,7 @@
 -- How a trial ends.
 use Rattle.std.specs.Prelude.{ℕ, List, []}
 use Rattle.vl_io.specs.Change.{Change, IsCut, IsTold, IsUntold, Took}
-use Rattle.vl_status.specs.Said.{no_memory_text}
+use Rattle.vl_status.specs.Status.{no_memory_text}
 use Rattle.vl_status.specs.declared.status.Status.{Status}
 use Rattle.vl_status.specs.declared.status.Status.TheVariants as statuses
 use Rattle.vl_trial.specs.Answer.{IsTrialAnswer}

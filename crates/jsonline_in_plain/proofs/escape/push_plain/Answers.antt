@@ -8,6 +8,6 @@ returns-then-is_empty c = no_run (string_bytes c.args.out.now) c.args.run.now c.
 
 pub returns : goal.returns
 returns c =
-    run_taken (string_bytes c.args.out.now) (string_bytes c.push_str.new.self) (string_bytes c.push_alone.new.out)
+    run_taken (string_bytes c.args.out.now) (string_bytes c.push_str.new.self) (string_bytes c.push_lone_surrogate.new.out)
     c.args.run.now c.args.before
-    (sym c.is_empty.ensures ∙ c.if-is_empty.false) c.in_ok-push_alone.ensures c.in_ok-push_str.ensures.bytes
+    (sym c.is_empty.ensures ∙ c.if-is_empty.false) c.in_ok-push_lone_surrogate.ensures c.in_ok-push_str.ensures.bytes

@@ -34,10 +34,10 @@ returns-in-Some c =
     let left = c.split_at.ensures.back ∙ ap (λ n. drop n rest) c.plain_len.ensures in
     let taken = c.split_at.ensures.front ∙ ap (λ n. take n rest) c.plain_len.ensures in
     all_decoded _ _ _ rest _ c.characters.invariant.1 (run rest after left) c.in-Some.end.now
-    (string_bytes c.push_plain.new.out) (string_bytes c.push_alone.new.out) c.in_ok-unit.unit
+    (string_bytes c.push_plain.new.out) (string_bytes c.push_lone_surrogate.new.out) c.in_ok-unit.unit
     (run_and_end rest after left c.in-Some.end.now (sym c.in-Some.ensures))
     (run_step rest c.split_at.result.0.now _ (string_bytes c.push_plain.new.out) _ c.in_ok-unit.unit taken
-    c.in_ok-unit.ensures) c.in_ok-push_alone.ensures
+    c.in_ok-unit.ensures) c.in_ok-push_lone_surrogate.ensures
 
 pub push_escape-requires : goal.push_escape-requires
 push_escape-requires c = (reads_of (λ reach. IsBehind (92 ∷ [])) escape_at good_escape c.in_ok-expect.field-0.now _ _

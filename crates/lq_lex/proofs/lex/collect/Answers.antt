@@ -11,14 +11,14 @@ returns-in_err-token c =
 pub others-smaller : goal.others-smaller
 others-smaller c =
     let before = length c.args.text.now - length c.others.rest.now in
-    shorter c.args.text.now c.others.rest.now c.in-Some.behind.now c.in-Some.token c.others.invariant.0 c.others.invariant.1
-    (stepped before c.others.rest.now c.in_ok-token.field-0 c.in-Some.token c.in-Some.behind c.in-Some.is c.in_ok-token.ensures)
+    shorter c.args.text.now c.others.rest.now c.in-Some.remaining.now c.in-Some.token c.others.invariant.0 c.others.invariant.1
+    (stepped before c.others.rest.now c.in_ok-token.field-0 c.in-Some.token c.in-Some.remaining c.in-Some.is c.in_ok-token.ensures)
 
 pub others-preserved : goal.others-preserved
 others-preserved c =
     let before = length c.args.text.now - length c.others.rest.now in
-    let more = one_more c.args.text.now c.others.rest.now c.in-Some.behind.now c.others.list.items _ c.in-Some.token c.others.invariant.0 (c.others.invariant.1, c.others.invariant.2)
-    (stepped before c.others.rest.now c.in_ok-token.field-0 c.in-Some.token c.in-Some.behind c.in-Some.is c.in_ok-token.ensures) c.in_ok-push.ensures.items in
+    let more = one_more c.args.text.now c.others.rest.now c.in-Some.remaining.now c.others.list.items _ c.in-Some.token c.others.invariant.0 (c.others.invariant.1, c.others.invariant.2)
+    (stepped before c.others.rest.now c.in_ok-token.field-0 c.in-Some.token c.in-Some.remaining c.in-Some.is c.in_ok-token.ensures) c.in_ok-push.ensures.items in
     (more.0, more.1.0, more.1.1)
 
 pub returns : goal.returns

@@ -8,10 +8,10 @@ use Rattle.lq_plain.proofs.filter.+holding.Given as goal
 
 abbrev pub invariant-are_all_met-loop-filter : goal.invariant-are_all_met-loop-filter
 invariant-are_all_met-loop-filter l =
-    list_all (λ filter. is_met (condition filter) (subject_of l.asked)) (drop l.filter-index l.filters)
-    ≡ are_all_met (conditions (map condition l.filters)) (subject_of l.asked)
+    list_all (λ filter. is_met (condition filter) (subject_of l.subject)) (drop l.filter-index l.filters)
+    ≡ are_all_met (conditions (map condition l.filters)) (subject_of l.subject)
 
 abbrev pub invariant-is_some_met-loop-filter : goal.invariant-is_some_met-loop-filter
 invariant-is_some_met-loop-filter l =
-    list_any (λ filter. is_met (condition filter) (subject_of l.asked)) (drop l.filter-index l.filters)
-    ≡ is_some_met (conditions (map condition l.filters)) (subject_of l.asked)
+    list_any (λ filter. is_met (condition filter) (subject_of l.subject)) (drop l.filter-index l.filters)
+    ≡ is_some_met (conditions (map condition l.filters)) (subject_of l.subject)

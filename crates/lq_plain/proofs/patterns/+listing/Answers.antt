@@ -6,8 +6,8 @@ use Rattle.lq_ast.specs.View.{condition}
 use Rattle.lq_plain.proofs.Conditions.{patterns_among-list}
 use Rattle.lq_plain.proofs.patterns.+listing.Goals as goal
 
-pub put_filters-returns : goal.put_filters-returns
-put_filters-returns t c =
+pub push_filters-returns : goal.push_filters-returns
+push_filters-returns t c =
     let filters = c.args.filters.now in
     c.loop-filter.invariant
     ∙ ap (λ xs. c.args.out.now.items ++ flat_map (λ filter. patterns_of (condition filter)) xs)

@@ -1,7 +1,0 @@
-use Rattle.std.proofs.Common.{map, take}
-use Rattle.httparse.specs.Spans.{header_bytes}
-use Rattle.http_said.specs.Said.{IsSaid}
-use Rattle.http_said.proofs.said.Said.from_spans.Given as goal
-
-abbrev pub invariant-loop-header : goal.invariant-loop-header
-invariant-loop-header l = IsSaid l.said (map (header_bytes l.buf) (take l.header-index l.headers))
