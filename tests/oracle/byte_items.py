@@ -124,7 +124,7 @@ def number_or(text, other, limit=2**32):
 
 
 def damaged_copies(data, random, count):
-    """Returns copies of bytes: cut after each byte, with bytes after the end, and with other bytes at random places."""
+    """Returns copies of bytes: cut after each byte, with more bytes, and with other bytes at random places."""
     copies = [data[:length] for length in range(len(data))] + [data + b"\0", data + data]
     for _ in range(count if data else 0):
         place = random.randrange(len(data))

@@ -116,7 +116,10 @@ def column_filter(values):
     found = set()
     for value in set(values):
         data = value.encode("utf-8")
-        found.update(ASCII_WORDS.findall(data) if value.isascii() else (data[start:end] for start, end in words(value)))
+        if value.isascii():
+            found.update(ASCII_WORDS.findall(data))
+        else:
+            found.update(data[start:end] for start, end in words(value))
     return filter_of(found)
 
 
@@ -134,7 +137,7 @@ def take_filter(items):
 
 
 def fitting(line, limit):
-    """Returns the values of a list with commas. One is left out if it and those before it have more bytes than this."""
+    """Returns the values of a list with commas, but for those with which they would have more bytes than this."""
     values, left = [], limit
     for value in line.split(","):
         size = len(value.encode("utf-8"))

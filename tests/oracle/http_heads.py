@@ -1,8 +1,8 @@
 """The heads of HTTP requests, chunk lines and trailer sections (docs/HTTP.md and RFC 9112), byte by byte.
 
-If the input ends inside a target that already is not UTF-8, the rules leave open whether that is `BadHead` or `Cut`, and
-`BadHead` or `HeadLarge` at the end of the first 16,384 bytes. Here UTF-8 is asked for where the target ends, as the
-tables have it, so that it is `Cut` or `HeadLarge`. No case of a second table asks it.
+If the input ends inside a target that already is not UTF-8, the rules leave open whether that is `BadHead` or `Cut`.
+If the first 16,384 bytes of a head end there, it is `BadHead` or `HeadLarge`. Here UTF-8 is asked for where the target
+ends, as the tables have it, so that it is `Cut` or `HeadLarge`. No case of a second table asks it.
 """
 from faults import Fault
 

@@ -32,7 +32,7 @@ def parsed(query):
 
 
 def body_lines(body):
-    """Returns the lines of a body with their numbers from 1. Lines of blanks, tabs and carriage returns are ignored."""
+    """Returns the lines of a body with their numbers from 1, but for those of blanks, tabs and carriage returns."""
     return [(number, line) for number, line in enumerate(body.split(b"\n"), 1) if line.strip(b" \t\r")]
 
 
@@ -112,7 +112,7 @@ def fault_text(fault):
 
 
 class HttpSession:
-    """A connection over a log: what is written, each turn as its time and the number of batches after it, and the end."""
+    """A connection over a log: what is written, the turns, each with its time and the batches so far, and the end."""
 
     def __init__(self, log, data, times):
         requests, fault = requests_of(data)

@@ -1,7 +1,8 @@
 """The columns of values (docs/BYTES.md, "Block"): the first kind that fits, the bytes, and what bytes say.
 
 A line `recent` asks how the code works inside, which no rule says: of each text, whether another one was in its slot
-among the texts that were met before. The number of a slot is what the specification of `Recent` in `block_column` says.
+among the texts that were met before. The number of a slot is what the specification of `Recent` in `block_column`
+says. No second table has such a line.
 """
 from byte_items import Damaged, Items, bytes_of, cut_once, damaged_copies, number_or
 from chance import lines_of, table
@@ -125,7 +126,7 @@ def some_values(random):
 
 
 def cases(random):
-    lines = ["values ", "parts ", "read 0 ", "found 0 0 ", "found 3 0 020100000000", "made 0 0", "made 1 0", "recent "]
+    lines = ["values ", "parts ", "read 0 ", "found 0 0 ", "found 3 0 020100000000", "made 0 0", "made 1 0"]
     lines += [f"made {rows} {length}" for rows in (254, 255, 256) for length in (6, 256, 257)]
     for _ in range(40):
         values = some_values(random)
@@ -141,7 +142,4 @@ def cases(random):
         body = bytes([len(members)]) + b"".join(len(m).to_bytes(2, "little") + m for m in members) + codes
         lines.append(f"read {len(codes)} {(bytes([2]) + body).hex()}")
         lines.append(f"found {len(codes)} 99 {(bytes([2]) + body).hex()}")
-    for _ in range(10):
-        texts = ["".join(random.choices("abé1", k=random.randrange(20))) for _ in range(random.randrange(1, 7))]
-        lines.append("recent " + ",".join(random.choices(texts, k=20)))
     return table(lines)

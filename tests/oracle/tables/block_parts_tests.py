@@ -49,7 +49,8 @@ def some_rows(random):
 
 def cases(random):
     lines = ["", "00", "labels ", "labels =", "labels a=,b=", "labels a=1,a=2,a=", "column  ", "column a"]
-    lines += [f"labels {'n' * size}=1,b=2" for size in (127, 128, 129)] + ["column " + "n" * size for size in (65535, 65536)]
+    lines += [f"labels {'n' * size}=1,b=2" for size in (127, 128, 129)]
+    lines += ["column " + "n" * size for size in (65535, 65536)]
     for _ in range(12):
         data = put_block(some_rows(random))
         lines += [copy.hex() for copy in damaged_copies(data[:300], random, 25)] + [data.hex(), (data + b"\0").hex()]

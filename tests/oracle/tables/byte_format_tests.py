@@ -1,8 +1,8 @@
 """Numbers and texts at the front of bytes (docs/BYTES.md): what is read, or how many bytes are left from the damaged
 item on, and where two runs of bytes differ.
 
-A padded number is a byte and a byte of 0, a format that the crate has for itself: `padded` reads bytes that are nothing
-but one, which is at most a given number, and `window` one in exactly so many bytes.
+A padded number is a byte and a byte of 0, a format that the crate has for itself: `padded` reads bytes that are
+nothing but one, which is at most a given number, and `window` one in exactly so many bytes.
 """
 from byte_items import Damaged, Items, bytes_of, check_spelling, cut_once, number_or
 from chance import lines_of, table

@@ -82,7 +82,8 @@ def cases(random):
             wide = bytes([8]) + data[1:9] + b"".join((value - min(values)).to_bytes(8, "little") for value in values)
             lines += [f"{call} {len(values)} {wide.hex()}" for call in ("read-ints", "take-ints")]
     alphabet = ["", "a", "é", "日本", "\U0001f600", "-1", "x" * random.randrange(300)]
-    for values in [[""], ["", ""], *([random.choice(alphabet) for _ in range(random.randrange(1, 6))] for _ in range(5))]:
+    lists = [[""], ["", ""], *(random.choices(alphabet, k=random.randrange(1, 6)) for _ in range(5))]
+    for values in lists:
         data = put_texts(values)
         lines.append("texts " + ",".join(values))
         lines += [f"read-texts {len(values)} {copy.hex()}" for copy in damaged_copies(data[:60], random, 20)]

@@ -1,9 +1,9 @@
-"""Blocks of rows (docs/BYTES.md, "Block"): what their heads and their rows say, their bytes, which bytes are blocks, and
-where others are damaged.
+"""Blocks of rows (docs/BYTES.md, "Block"): what their heads and their rows say, their bytes, which bytes are blocks,
+and where others are damaged.
 
 A line `quick` asks how the code works inside, which no rule says: whether a block that is read is made of its columns,
-and not of its rows. `is_quick` says when. The first number of an answer says how often the block was opened, which the
-program does twice.
+and not of its rows. `is_quick` says when. No second table has such a line. The first number of an answer says how
+often the block was opened, which the program does twice.
 """
 from blocks import Numbered, is_block, names_of, numbered_of, put_block, put_keys, read_block, take_parts, values_of
 from byte_items import Damaged, Items, bytes_of, cut_once, damaged_copies, number_or, text, unsigned
@@ -186,8 +186,8 @@ class Draft:
         """Shuffles the labels, or puts in one more, which may be a label that is there or no label of the rows."""
         random.shuffle(self.labels)
         if random.random() < 0.7:
-            more = random.choice([*self.labels, ("app", "x y"), ("app", ""), ("", ""), ("", "x"), ("b", "7"), ("zz", "")])
-            self.labels.insert(random.randint(0, len(self.labels)), more)
+            others = [("app", "x y"), ("app", ""), ("", ""), ("", "x"), ("b", "7"), ("zz", "")]
+            self.labels.insert(random.randint(0, len(self.labels)), random.choice(self.labels + others))
 
     def change_keys(self, random):
         """Gives a row another key, or that of another row, or puts the keys in another order."""
@@ -199,10 +199,11 @@ class Draft:
             random.shuffle(self.keys)
 
     def change_columns(self, random):
-        """Puts the columns in another order, or puts in one that may be there, have no value, or no name of a field."""
+        """Puts the columns in another order, or puts in one that is there, has no value, or no name of a field."""
         if random.random() < 0.5:
             random.shuffle(self.columns)
-        names = [column.name for column in self.columns] + ["", "_time", "_stream", "_stream_id", "n" * 128, "n" * 129, "b"]
+        names = ["", "_time", "_stream", "_stream_id", "n" * 128, "n" * 129, "b"]
+        names += [column.name for column in self.columns]
         value = random.choice(["", "", "x", "7"])
         column = Column(random.choice(names), [value for _ in self.keys])
         self.columns.insert(random.randint(0, len(self.columns)), column)
@@ -229,7 +230,8 @@ def cases(random):
     lines = ["", "= ", "= 00", "0 0 0||", "5 1 0||a=x;5 1 0||a=x", "5 1 1||a=x;5 1 0||a=x", "5 1 0|a|a=x;5 1 1||a=x"]
     lines += ["made 0 1", "made 4096 3", "made 4097 3", "made 1 65535", "wide 1 1000", "wide 1 1001", "wide 3 2001"]
     lines += ["wide 2 2000", "wide 1024 1024", f"head 0 0 0||{wide_row[:-7]}", f"head 0 0 0||{wide_row}"]
-    lines += [f"head 0 0 0|c|c={'x' * length}" for length in (262143, 262144)] + [f"0 0 0||{'n' * n}=1" for n in (128, 129)]
+    lines += [f"head 0 0 0|c|c={'x' * length}" for length in (262143, 262144)]
+    lines += [f"0 0 0||{'n' * length}=1" for length in (128, 129)]
     for _ in range(12):
         rows = some_rows(random)
         lines += [";".join(map(row_line, rows)), ";".join(map(row_line, random.sample(rows, len(rows))))]

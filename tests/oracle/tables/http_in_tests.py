@@ -48,11 +48,15 @@ def ends_text(data):
 
 
 METHODS = ["GET", "POST", "HEAD", "PUT", "M-SEARCH", "get", "a!#"]
-TARGETS = ["/", "*", "/a?b=c&d", "/é?é=%c3%a9", "/x?a=%zz&a=+", QUERY_PATH, QUERY_PATH + "?query=a", "/??", "http://a/b"]
-HEADERS = ["Host: x", "a:", "Connection: close", "connection: Keep-Alive", "Content-Type: application/x-www-form-urlencoded",
-           "Content-Encoding: identity", "X-Y:\tz", "a: é"]  # fmt: skip
-BAD_HEADERS = ["no colon", "a : b", " folded: x", "Content-Length: x", "Content-Length: 33554433", "Content-Encoding: br",
-               "Transfer-Encoding: gzip", "Content-Length: 0\r\nContent-Length: 00", "a: \x01", "(: x", ":"]  # fmt: skip
+TARGETS = ["/", "*", "/a?b=c&d", "/é?é=%c3%a9", "/x?a=%zz&a=+", QUERY_PATH, QUERY_PATH + "?query=a", "/??", "http://a"]
+HEADERS = (
+    "Host: x", "a:", "Connection: close", "connection: Keep-Alive", "Content-Type: application/x-www-form-urlencoded",
+    "Content-Encoding: identity", "X-Y:\tz", "a: é",
+)  # fmt: skip
+BAD_HEADERS = (
+    "no colon", "a : b", " folded: x", "Content-Length: x", "Content-Length: 33554433", "Content-Encoding: br", "(: x",
+    "Transfer-Encoding: gzip", "Content-Length: 0\r\nContent-Length: 00", "a: \x01", ":",
+)  # fmt: skip
 
 
 def chunks(random, body):
@@ -126,5 +130,6 @@ def cases(random):
         lines.append(f"a cut {n} | {case_of(data[: random.randrange(len(data))])}")
         lines += [f"damaged {n} | {case_of(damaged(random, data))}" for _ in range(2)]
     for header in BAD_HEADERS:
-        lines.append(f"{header!r} | {case_of(f'GET / HTTP/1.1{chr(13)}{chr(10)}{header}{chr(13)}{chr(10) * 2}'.encode())}")
+        data = f"GET / HTTP/1.1\r\n{header}\r\n\r\n".encode("utf-8")
+        lines.append(f"{header!r} | {case_of(data)}")
     return table(lines)

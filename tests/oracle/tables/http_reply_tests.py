@@ -3,7 +3,7 @@ from chance import lines_of, table
 from http_replies import JSON, LINES, TEXT, Reply
 
 KINDS = {"text": TEXT, "json": JSON, "lines": LINES}
-WORDS = [*(f"200 {kind}" for kind in KINDS), "400", "404", "405 GET", "405 POST", "405 GET POST", "413", "415", "422", "503"]
+REFUSED = ["400", "404", "405 GET", "405 POST", "405 GET POST", "413", "415", "422", "503", "507", "no memory"]
 
 
 def answers(stdin):
@@ -25,12 +25,12 @@ def answer(line):
     return f"{name} | " + data.replace("\r", "\\r").replace("\n", "\\n")
 
 
-CONTENTS = ["", "\\n", "OK\\n", "é\\n", "日本語\\n", '{"a":"b"}\\n' * 3, "x" * 99, "x" * 1000, "no such path\\n", "a | b\\n", "a\\\\b"]
+CONTENTS = ["", "\\n", "OK\\n", "é\\n", "日本語\\n", '{"a":"b"}\\n' * 3, "x" * 99, "x" * 1000, "a | b\\n", "a\\\\b"]
 
 
 def cases(random):
     lines = []
-    for status in [*WORDS, "507", "no memory"]:
+    for status in [*(f"200 {kind}" for kind in KINDS), *REFUSED]:
         for delivery in ("open", "closes", "bare", "bare closes"):
             # a bare reply is one to HEAD, to which no path replies with a body
             if delivery.startswith("bare") and status.startswith("200"):

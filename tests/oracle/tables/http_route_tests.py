@@ -40,15 +40,17 @@ def options_text(options):
         return "".join(f" {spelled(name.encode('utf-8'))}" for name in names)
 
     fields = "".join(f"{listed([name])}={spelled(value.encode('utf-8'))}" for name, value in options.extra_fields)
-    time = listed([options.time_field])
-    messages, ignored = listed(options.message_fields), listed(options.ignored_fields)
-    return f"insert, streams{listed(options.stream_fields)}, time{time}, messages{messages}, ignored{ignored}, extra{fields}"
+    said = f"insert, streams{listed(options.stream_fields)}, time{listed([options.time_field])}"
+    said += f", messages{listed(options.message_fields)}, ignored{listed(options.ignored_fields)}"
+    return f"{said}, extra{fields}"
 
 
-PATHS = [*METHODS, *METHODS, "/", "/status/", "/Health", "/%73tatus", "*", "/insert/jsonline/", "/select/logsql/tail", "/é"]
-NAMES = ["query", "query", "limit", "start", "end", "offset", "timeout", "Query", "_stream_fields", "_time_field", "_msg_field",
-         "ignore_fields", "extra_fields", "extra_fields"]  # fmt: skip
-VALUES = ["", "a", "*", "a,b", ",a,,b,", "a=b", "a=b,c=", "=b", "a=", "a=b=c", "é", " a ", "a+b", "%2C", "%zz", "%ff", "5", "a%3Db"]
+PATHS = [*METHODS, *METHODS, "/", "/status/", "/Health", "/%73tatus", "*", "/insert/jsonline/", "/select/logsql", "/é"]
+NAMES = ("query", "query", "limit", "start", "end", "offset", "timeout", "Query")
+NAMES += ("_stream_fields", "_time_field", "_msg_field", "ignore_fields", "extra_fields", "extra_fields")
+VALUES = ("", "a", "*", "a,b", ",a,,b,", "a=b", "a=b,c=", "=b", "a=", "a=b=c", "é", "a+b", "%2C", "%ff", "a%3Db")
+TYPES = ([], [b"Content-Type: application/x-www-form-urlencoded"], [b"Content-Type: text/plain"])
+MORE = ([], [], [], [b"Connection: close"], [b"Content-Encoding: gzip"], [b"Content-Length: x"])
 
 
 def some_arguments(random):
@@ -63,9 +65,9 @@ def cases(random):
         method = random.choice(["GET", "GET", "POST", "POST", "HEAD", "PUT", "get"])
         body = some_arguments(random).encode("utf-8") if path == QUERY_PATH else b""
         headers = [b"Content-Length: %d" % len(body)] if body else []
-        headers += random.choice([[], [b"Content-Type: application/x-www-form-urlencoded"], [b"Content-Type: text/plain"]])
-        headers += random.choice([[], [], [], [b"Connection: close"], [b"Content-Encoding: gzip"], [b"Content-Length: x"]])
-        first = f"{method} {path}{random.choice(['?', '?', '?', ''])}{query} HTTP/1.{random.choice('1110')}".encode("utf-8")
+        headers += random.choice(TYPES) + random.choice(MORE)
+        target = path + random.choice(["?", "?", "?", ""]) + query
+        first = f"{method} {target} HTTP/1.{random.choice('1110')}".encode("utf-8")
         data = b"\r\n".join([first, *headers, b"", body])
         lines.append(f"case {n} | {case_of(data)}")
     return table(lines)

@@ -36,17 +36,20 @@ def headers_text(data):
     return said + "".join(f", the last of 1.{minor}" for minor in (0, 1) if asks_close(headers, minor))
 
 
-NAMES = ["Content-Length", "content-length", "Transfer-Encoding", "Content-Encoding", "Content-Type", "Connection", "Host"]
-SIZES = ["0", "5", "05", "5 ", "\t5", "+5", "-0", "5, 5", "0x5", "", "٣", "33554432", "33554433", str(2**64 - 1), str(2**64)]
+BODIES = ["Content-Length", "content-length", "Transfer-Encoding", "Content-Encoding", "Content-Type"]
+NAMES = BODIES * 4 + ["Connection", "Connection", "Host"]
+SIZES = ["0", "5", "05", "5 ", "\t5", "+5", "-0", "5, 5", "0x5", "", "٣", "5;", "5.0", "1" * 5000, "0" * 400 + "7"]
+FORM = "application/x-www-form-urlencoded"
 VALUES = {
-    "content-length": SIZES + ["1" * 5000, "0" * 400 + "7", "5;", "5.0", "five"],
-    "transfer-encoding": ["chunked", "Chunked", "chunked, chunked", "gzip", "gzip, chunked", "identity", "", "chunked;q=1"],
+    "content-length": SIZES + ["33554432", "33554433", str(2**64 - 1), str(2**64)],
+    "transfer-encoding": ["chunked", "Chunked", "chunked, chunked", "gzip", "gzip, chunked", "identity", ""],
     "content-encoding": ["identity", "IDENTITY", "gzip", "", "identity, identity", "br"],
-    "content-type": ["application/x-www-form-urlencoded", "application/x-www-form-urlencoded;charset=x", "text/plain", ""],
-    "connection": ["close", "Close", "keep-alive", "Keep-Alive, x", "x,close", "closed", " , ,", "upgrade", "keep-alive,close"],
+    "content-type": [FORM, FORM + ";charset=x", FORM.upper(), "text/plain", ""],
+    "connection": ["close", "Close", "keep-alive", "Keep-Alive, x", "x,close", "closed", " , ,", "keep-alive,close"],
     "host": ["a", "", "x:1"],
 }
-PIECES = ["a", "b", "=", "&", "+", "%", "%4", "%41", "%c3%a9", "%C3", "%ff", "%zz", "é", "%00", "%26", "%3D", "%2B", "?", ";"]
+PIECES = ["a", "b", "=", "&", "+", "%", "%4", "%41", "%c3%a9", "%C3", "%ff", "%zz", "é", "%00", "%26", "%3D", "%2B"]
+ENDS = [b"\r\n"] * 6 + [b"\n", b"", b"\r", b"no colon\r\n\r\n", b" a: b\r\n\r\n", b": x\r\n\r\n"]
 
 
 def cases(random):
@@ -54,12 +57,11 @@ def cases(random):
     for n in range(250):
         data = b""
         for _ in range(random.randrange(5)):
-            name = random.choice(NAMES[:5] * 3 + NAMES)
+            name = random.choice(NAMES)
             space = random.choice(["", " ", "  ", "\t"])
             value = random.choice(VALUES[name.lower()])
             data += f"{name}:{space}{value}".encode("utf-8") + random.choice([b"\r\n", b"\r\n", b"\n"])
-        data += random.choice([b"\r\n"] * 6 + [b"\n", b"", b"\r", b"no colon\r\n\r\n", b" a: b\r\n\r\n", b": x\r\n\r\n"])
-        lines.append(f"case {n} | {case_of(data)}")
+        lines.append(f"case {n} | {case_of(data + random.choice(ENDS))}")
     for n in range(150):
         lines.append(f"form {n} | {case_of(''.join(random.choices(PIECES, k=random.randrange(9))).encode('utf-8'))}")
     return table(lines)

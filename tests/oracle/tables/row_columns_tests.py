@@ -1,5 +1,7 @@
-"""The columns of rows (docs/BYTES.md, "Block"): the keys, and for each name in byte order the values of the rows. A row
-is also made again of its labels, its key and its fields."""
+"""The columns of rows (docs/BYTES.md, "Block"): the keys, and for each name in byte order the values of the rows.
+
+A line `row` makes a row again of its labels, its key and its fields.
+"""
 from blocks import names_of, numbered_of, values_of
 from byte_items import cut_once
 from chance import lines_of, table
@@ -41,7 +43,9 @@ TIMES = [0, 1, 5, 2**63 - 1, -1, 2**63, "x", ""]
 
 
 def row_text(random, wide=False):
-    names = [f"n{n}" for n in range(random.choice([999, 1000, 1001]))] if wide else random.choices(NAMES, k=random.randrange(5))
+    names = random.choices(NAMES, k=random.randrange(5))
+    if wide:
+        names = [f"n{n}" for n in range(random.choice([999, 1000, 1001]))]
     fields = ",".join(f"{name}={random.choice(VALUES if not wide else VALUES[1:])}" for name in names)
     time = random.choice(TIMES[:4] if random.random() < 0.9 else TIMES)
     key = f"{time} {random.choice([0, 1, 2**64 - 1])} {random.choice([0, 7, 2**32 - 1])}"

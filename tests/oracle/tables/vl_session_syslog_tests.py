@@ -1,5 +1,5 @@
-"""Sessions of syslog over a log that is empty before (docs/SYSLOG.md): how many messages were accepted and refused, how
-the session ends, and what a query answers afterwards.
+"""Sessions of syslog over a log that is empty before (docs/SYSLOG.md): how many messages were accepted and how many
+refused, how the session ends, and what a query answers afterwards.
 
 A short input is also read a byte at a time, and so that each of its reads fails; the answer is written where it is not
 the same, or not the one of the input that ended there. The last answer is that to an input without an end, of which
@@ -86,7 +86,8 @@ def endless():
     return f"no end: accepted {session.accepted}, refused {session.refused}, Limit"
 
 
-HEADERS = ["<13>1 - - - - - -", "<34>1 2003-10-11T22:14:15.003Z h su - ID47 -", "<0>1 - h a 1 m [x n=\"v\"]", "<191>1 - - - - - - "]
+HEADERS = ("<13>1 - - - - - -", "<34>1 2003-10-11T22:14:15.003Z h su - I -", '<0>1 - h a 1 m [x n="v"]')
+ENDS = [b"12x", b"5 ab", b"x", b"65537 ", b"9", b""]
 TEXTS = ["", " error", " é", ' a\\"b', " \ufeff!", " {x}"]
 WRONG = ["<192>1 - - - - - -", "<13>2 - - - - - -", "<13>1 x - - - - -", "x", "<13>1 - - - - -", "<13>1 - - - - - [x"]
 QUERIES = ["* | delete _time, _stream, _stream_id", "*", "* | fields _time", "* | fields _msg, severity", "error"]
@@ -107,15 +108,17 @@ def frame(random):
 
 def cases(random):
     one = case_of(b"<13>1 - - - - - -\n")
-    lines = [f"{count} in a read / * | stats count() as n / 0 / {count} / {one}" for count in (255, 256, 257, 513, 3640)]
-    lines += [f"{count} reads / * | stats count() as n / 18 / {count} / {one}" for count in (2, 257, 4095, 4096, 4097)]
+    counts = "* | stats count() as n"
+    lines = [f"{count} in a read / {counts} / 0 / {count} / {one}" for count in (255, 256, 257, 513, 3640)]
+    lines += [f"{count} reads / {counts} / 18 / {count} / {one}" for count in (2, 257, 4095, 4096, 4097)]
     for size in (65535, 65536, 65537):
-        lines.append(f"a counted one of {size} / * | stats count() as n / 0 / 1 / {size}\\20;\\61x{size};")
-        lines.append(f"a line of {size} / * | stats count() as n / 0 / 1 / \\61x{size};\\0a;")
-        lines.append(f"a line of {size} with its end / * | stats count() as n / 0 / 1 / \\61x{size - 1};\\0d;\\0a;")
-    for n in range(120):
+        lines.append(f"a counted one of {size} / {counts} / 0 / 1 / {size}\\20;\\61x{size};")
+        lines.append(f"a line of {size} / {counts} / 0 / 1 / \\61x{size};\\0a;")
+        lines.append(f"a line of {size} with its end / {counts} / 0 / 1 / \\61x{size - 1};\\0d;\\0a;")
+    for n in range(70):
         data = b"".join(frame(random) for _ in range(random.randint(1, 4)))
-        data = random.choice([data, data, data + random.choice([b"12x", b"5 ab", b"x", b"65537 ", b"9", message(random)])])
+        data += random.choice([b"", b"", message(random), random.choice(ENDS)])
         # a query that counts has other lines wherever a read fails, so short inputs have none
-        lines.append(f"case {n} / {random.choice(QUERIES)} / {random.choice([0, 0, 1, 7, 18, 40])} / 1 / {case_of(data)}")
+        query, piece = random.choice(QUERIES), random.choice([0, 0, 1, 7, 18, 40])
+        lines.append(f"case {n} / {query} / {piece} / 1 / {case_of(data)}")
     return table(lines)

@@ -24,11 +24,15 @@ def answer(line):
     return f"{name} | {spelled(session.written, LONGEST)}{turns} {len(session.turns)} turns, {session.end}"
 
 
-LINES = ['{"_msg":"a b","app":"x"}', '{"_msg":"error","n":7,"app":"y"}', '{"n":"9223372036854775807"}', "x", "", " ", "[]", "{}",
-         '{"_time":"2024-05-01T10:00:00Z","_msg":"é"}', '{"_time":"x"}', '{"a":{"b":null,"c":[1, 2]}}', '{"a":']  # fmt: skip
-QUERIES = ["*", "a", "error", "n:>5", '{app="x"}', "* | stats count() as n", "* | stats sum(n) as s", "* | fields _msg", "a b)",
-           "~%22(%22", "", "* | limit 1", "_time:1s", "app:in(x,y) | sort by (app desc)", "* | stats by (app) count()"]  # fmt: skip
-OPTIONS = ["", "?_stream_fields=app", "?extra_fields=app%3Dz&_msg_field=a.c", "?ignore_fields=app,n", "?extra_fields=x"]
+LINES = (
+    '{"_msg":"a b","app":"x"}', '{"_msg":"error","n":7,"app":"y"}', '{"n":"9223372036854775807"}', "x", "", " ", "[]",
+    "{}", '{"_time":"2024-05-01T10:00:00Z","_msg":"é"}', '{"_time":"x"}', '{"a":{"b":null,"c":[1, 2]}}', '{"a":',
+)  # fmt: skip
+QUERIES = (
+    "*", "a", "error", "n:>5", '{app="x"}', "* | stats count() as n", "* | stats sum(n) as s", "* | fields _msg",
+    "a b)", "~%22(%22", "", "* | limit 1", "_time:1s", "app:in(x,y) | sort by (app desc)", "* | stats by (n) count()",
+)  # fmt: skip
+OPTIONS = ("", "?_stream_fields=app", "?extra_fields=app%3Dz&_msg_field=a.c", "?ignore_fields=app", "?extra_fields=x")
 REST = ["GET /status", "GET /health", "HEAD /health", "GET /x", "POST /status", "DELETE /insert/jsonline"]
 
 
@@ -39,12 +43,14 @@ def request(random):
     if kind == 0:
         body = "\n".join(random.choices(LINES, k=random.randrange(5))) + random.choice(["", "\n"])
         size = len(body.encode("utf-8"))
-        return f"POST /insert/jsonline{random.choice(OPTIONS)} HTTP/1.1\r\nContent-Length: {size}{end}\r\n{body}".encode()
+        first = f"POST /insert/jsonline{random.choice(OPTIONS)} HTTP/1.1"
+        return f"{first}\r\nContent-Length: {size}{end}\r\n{body}".encode("utf-8")
     if kind == 1:
         query = random.choice(QUERIES).replace(" ", "+")
         more = random.choice(["", "", "", "&limit=1", "&timeout=1s"])
-        return f"GET /select/logsql/query?query={query}{more} HTTP/1.{random.choice('111110')}{end}\r\n".encode()
-    return f"{random.choice(REST)} HTTP/1.1{end}\r\n".encode()
+        version = random.choice(["1.1"] * 5 + ["1.0"])
+        return f"GET /select/logsql/query?query={query}{more} HTTP/{version}{end}\r\n".encode("utf-8")
+    return f"{random.choice(REST)} HTTP/1.1{end}\r\n".encode("utf-8")
 
 
 def cases(random):

@@ -49,8 +49,8 @@ def cases(random):
     lines = ["", "column ", "again 0 a", "again 5 a b,c", "x" * 3000, "read ", "column " + ",".join(["a"] * 300)]
     for most in (1, 3, 8, 20, 300):
         for _ in range(25):
-            values = ["".join(random.choices(ALPHABET, k=random.randrange(most))) for _ in range(random.randrange(1, 8))]
-            line = ",".join(values)
+            sizes = (random.randrange(most) for _ in range(random.randrange(1, 8)))
+            line = ",".join("".join(random.choices(ALPHABET, k=size)) for size in sizes)
             lines += [line, f"column {line}", f"again {random.randrange(1, 9)} {line}"]
     lines += [f"column {','.join(str(random.randrange(-999, 999)) for _ in range(40))}" for _ in range(5)]
     lines += [",".join(f"w{random.randrange(10**6)} of {n}" for n in range(count)) for count in (255, 256, 257, 1000)]
