@@ -86,7 +86,7 @@ listens() {
 runs() {
   local script=$examples/$1
   shift
-  timeout 60 "$script" "$@" 2>&1
+  timeout 100 "$script" "$@" 2>&1
   echo "status $?"
 }
 
@@ -114,12 +114,13 @@ status 0"
 }
 
 by_ship() {
-  local before after
+  local before after first
+  first=$(batches)
   before=$(ask '* | stats count() as n' | sed 's/[^0-9]//g')
-  seq 2500 | sed 's/.*/{"_msg":"shipped &"}/' > "$work/rows"
-  judge "ship.sh" "$(runs ship.sh < "$work/rows")" "status 0"
+  seq 1200 | sed 's/.*/{"_msg":"shipped &"}/' > "$work/rows"
+  judge "ship.sh" "$(SHIP_SECONDS=30 runs ship.sh < "$work/rows")" "status 0"
   after=$(ask '* | stats count() as n' | sed 's/[^0-9]//g')
-  judge "2,500 lines" "$((after - before))" 2500
+  judge "1,200 lines in two requests" "$((after - before)) rows, $(($(batches) - first)) batches" "1200 rows, 2 batches"
   (echo '{"_msg":"early"}'; sleep 1; printf '{"_msg":'; sleep 4; echo '"late"}'; sleep 20) |
     timeout 60 "$examples/ship.sh" &
   started+=("$!")
@@ -192,7 +193,8 @@ by_nginx() {
   judge "nginx: the shipper does not ask" "$(code shipper:ship "$front/select/logsql/query?query=a")" 401
   other='Sec-Fetch-Site: cross-site'
   judge "nginx: a query by another site" "$(code reader:read "$front/select/logsql/query?query=a" -H "$other")" 403
-  judge "nginx: an insert by another site" "$(code shipper:ship "$front/insert/jsonline" -H "$other" -d '{"_msg":"a"}')" 403
+  judge "nginx: an insert by another site" \
+    "$(code shipper:ship "$front/insert/jsonline" -H "$other" -d '{"_msg":"a"}')" 403
   judge "nginx: a link from another site" "$(code reader:read "$front/" -H "$other")" 200
   judge "nginx: the page" "$(fronted reader:read "$front/" | cmp - "$examples/web/index.html" 2>&1)" ''
   judge "nginx: its access log as rows" "$(runs ship.sh '_stream_fields=server_name' < "$work/nginx/duvonka.jsonl")" \
