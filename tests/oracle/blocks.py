@@ -127,19 +127,17 @@ def take_named(items, rows):
 
 def rows_of(parts):
     """Returns the rows that parts say, or None if one of them is no row of a block in the stream of the labels."""
-    fields = [{} for _ in parts.keys]
-    for name, _, values in parts.columns:
-        for row, value in zip(fields, values):
-            set_field(row, name, value)
-    labels = dict(parts.labels)
+    # of two columns of one name the later counts
+    columns, labels = {name: values for name, _, values in parts.columns}, dict(parts.labels)
     rows = []
-    for (time, batch, place), pairs in zip(parts.keys, fields):
+    for n, (time, batch, place) in enumerate(parts.keys):
+        fields = {name: values[n] for name, values in columns.items() if values[n]}
         try:
-            row = Row(time, labels, pairs)
+            row = Row(time, labels, fields)
         except Fault:
             return None
         # an empty name or a computed one is no name of a field
-        if "" in pairs or row.fields != pairs or row.labels != labels:
+        if "" in fields or row.fields != fields or row.labels != labels:
             return None
         rows.append(Numbered(row, batch, place))
     return rows
