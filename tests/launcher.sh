@@ -34,7 +34,7 @@ echo "\$*" >> "$work/calls"
 if [ "\$1" = try ]; then echo "run=stand-in" >&2; shift 4; echo "unproved: \$*"; exit 3; fi
 ls -A . crates crates/* > "$work/copied"
 echo 'rt: low proved'
-[ ! -e "$work/waits" ] || sleep 2
+while [ -e "$work/waits" ]; do sleep 0.1; done
 [ ! -e "$work/refuses" ] || { echo 'rt: duvonka NOT PROVED'; echo '1 passed, 1 failed'; exit 1; }
 mkdir -p crates/duvonka/out
 cat > crates/duvonka/out/duvonka << PROGRAM
@@ -114,7 +114,7 @@ by_release() {
   before=$(date +%s%N)
   run pipe error
   # (within a second on a machine that does nothing else)
-  judge "a fresh clone without rt answers within five seconds" "$((($(date +%s%N) - before) / 5000000000))" 0
+  judge "a fresh clone without rt answers within ten seconds" "$((($(date +%s%N) - before) / 10000000000))" 0
   judge "it runs the release" "$got" "built from one: pipe error, status 0"
   judge "it says once that the program comes from elsewhere" "$said" \
     "duvonka: this is the program of release/, which was proved and built elsewhere; $hint"
@@ -213,7 +213,7 @@ by_change() {
 }
 
 by_two() {
-  local first
+  local first second
   make_clone two
   with_rt
   rm -f "$work/calls"
@@ -224,13 +224,20 @@ by_two() {
   "$clone/duvonka" --clean 2> "$work/clean_said"
   said=$(cat "$work/clean_said")
   has "--clean leaves the copy of a running build" "a launcher is building in "
-  run second
+  "$clone/duvonka" second > "$work/second" 2> "$work/said" < /dev/null &
+  second=$!
+  for _ in {1..300}; do
+    [ ! -s "$work/said" ] || break
+    sleep 0.1
+  done
+  rm "$work/waits"
   wait "$first"
+  wait "$second"
   judge "two launchers at once: the first" "$(cat "$work/first")" "built from one: first"
-  judge "the second waits, and does not build" "$got $(calls)" "built from one: second, status 0 1"
-  has "it says so" "duvonka: another launcher is building this program; waiting for it"
+  judge "the second waits, and does not build" "$(cat "$work/second") $(calls)" "built from one: second 1"
+  judge "it says so" "$(cat "$work/said")" "duvonka: another launcher is building this program; waiting for it"
   judge "nothing of both stays below the cache" "$(find "$cache" -mindepth 1 -maxdepth 1 ! -name release)" ""
-  rm "$work/calls" "$work/waits"
+  rm "$work/calls"
 }
 
 by_end() {
