@@ -1,8 +1,9 @@
 //! What the readers and writers of items answer.
+use crate::padded::Padded;
 use byte_format::{
-    Stop, first_difference, put_i64s, put_text16, put_text32, put_u32s, put_u64s, take_i64,
-    take_i64s, take_text16, take_text32, take_u8, take_u16, take_u32, take_u32s, take_u64,
-    take_u64s,
+    Stop, first_difference, put_i64s, put_text16, put_text32, put_u32s, put_u64s, read_exactly,
+    take_i64, take_i64s, take_inside, take_text16, take_text32, take_u8, take_u16, take_u32,
+    take_u32s, take_u64, take_u64s,
 };
 use std::alloc::{AllocError, Global};
 
@@ -27,6 +28,8 @@ pub fn answer(alloc: Global, line: &str) -> Result<String, AllocError> {
         "u32s" => u32s(alloc, count, bytes),
         "u64s" => u64s(alloc, count, bytes),
         "i64s" => i64s(alloc, count, bytes),
+        "padded" => padded(alloc, count, bytes),
+        "window" => window(alloc, count, bytes),
         _ => differ(alloc, bytes, count),
     }
 }
@@ -125,6 +128,22 @@ fn i64s(alloc: Global, count: usize, bytes: &[u8]) -> Result<String, AllocError>
             let again = bytes.starts_with(out.as_slice());
             format!(in alloc; "{numbers:?} behind {} {again}", rest.len())
         }
+        Err(stop) => format!(in alloc; "{stop:?}"),
+    }
+}
+
+/// The number that the bytes spell, if it is at most this.
+fn padded(alloc: Global, most: usize, bytes: &[u8]) -> Result<String, AllocError> {
+    match read_exactly::<Padded>(alloc, most.min(255) as u8, bytes) {
+        Ok(n) => format!(in alloc; "{n}"),
+        Err(fault) => format!(in alloc; "{fault:?}"),
+    }
+}
+
+/// The number in exactly the next bytes.
+fn window(alloc: Global, length: usize, bytes: &[u8]) -> Result<String, AllocError> {
+    match take_inside::<Padded>(alloc, 255, length, bytes) {
+        Ok((padded, rest)) => format!(in alloc; "{} behind {}", padded.n, rest.len()),
         Err(stop) => format!(in alloc; "{stop:?}"),
     }
 }

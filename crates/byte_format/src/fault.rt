@@ -1,0 +1,11 @@
+/// Why no value was read of bytes.
+#[derive(Clone, Copy, Debug, Drop, PartialEq, Eq)]
+pub enum Fault {
+    /// The bytes spell no value.
+    Damaged {
+        /// Where the first damaged item starts.
+        at: usize,
+    },
+    /// There is no memory for the value.
+    Memory,
+}
