@@ -2,7 +2,7 @@
 from chance import lines_of, table
 import notation_cases
 from notation import record, record_text, stats
-from pipes import outcome
+from record_pipes import outcome
 
 
 def answers(stdin):
