@@ -2,7 +2,7 @@
 from chance import lines_of, table
 import notation_cases
 from notation import part, record, record_text, sort, top, uniq
-from record_pipes import apply
+from pipes import apply
 
 
 def answers(stdin):

@@ -3,7 +3,7 @@ from chance import TEXTS, lines_of
 from faults import Fault
 import notation_cases
 from notation import pairs, pipes, record
-from record_pipes import outcome
+from pipes import outcome
 from rows import Row
 from values import json_line, number, record_of
 

@@ -2,7 +2,7 @@
 from chance import lines_of, table
 import notation_cases
 from notation import record, record_text, stats
-from record_pipes import outcome
+from pipes import outcome
 
 
 def answers(stdin):
