@@ -241,5 +241,7 @@ def cases(random):
             draft = Draft(rows)
             for _ in range(random.choice([1, 1, 2])):
                 draft.change(random)
-            lines.append(f"= {draft.to_bytes().hex()}")
+            # whether the first of two columns without a name counts is not said
+            if [column.name for column in draft.columns].count("") < 2:
+                lines.append(f"= {draft.to_bytes().hex()}")
     return table(lines)
