@@ -4,12 +4,15 @@
 # usage: tail -n 0 -F app.jsonl | ship.sh [ARGUMENTS]     as ship.sh '_stream_fields=host,app&_time_field=ts'
 # The environment variable DUVONKA_URL is the server's address (default: http://127.0.0.1:9428); curl takes a password
 # for it from ~/.netrc. Plain text becomes JSON lines by `jq -Rc --unbuffered '{_msg: .}'`.
+# Each request is a batch, and a server holds 4,096 batches. So for a log that goes on for hours set the environment
+# variable SHIP_SECONDS to 30 or more: that is how long a line waits at most.
 # Where the server cannot be reached or is full, a request is tried again for about a minute. After that ship.sh prints
 # the lines that it could not send, and ends with status 1. If the reply to an accepted request is lost, its lines are
 # sent twice.
 # It reads some thousand lines a second. For a file that is complete, use curl --data-binary @FILE.
 set -u
 target="${DUVONKA_URL:-http://127.0.0.1:9428}/insert/jsonline${1:+?$1}"
+delay=$((${SHIP_SECONDS:-2} * 1000))
 lines=() size=0 partial='' deadline='' ended=''
 trap 'ended=1' INT TERM
 
@@ -58,15 +61,17 @@ send() {
 
 while [ -z "$ended" ]; do
   now
-  remaining=2000
-  [ -z "$deadline" ] || remaining=$((deadline > now ? deadline - now : 1))
+  # at most a second, so that a signal ends the script soon
+  remaining=1000
+  [ -z "$deadline" ] || remaining=$((deadline - now))
+  remaining=$((remaining < 1 ? 1 : remaining > 1000 ? 1000 : remaining))
   IFS= read -r -t "$((remaining / 1000)).$(printf %03d $((remaining % 1000)))" line
   status=$?
   # a line of which only a part came in time is kept
   partial+=$line
   if [ "$status" = 0 ]; then
     lines+=("$partial") size=$((size + ${#partial} + 1)) partial=''
-    [ -n "$deadline" ] || { now; deadline=$((now + 2000)); }
+    [ -n "$deadline" ] || { now; deadline=$((now + delay)); }
   elif [ "$status" -le 128 ]; then
     ended=1
   fi

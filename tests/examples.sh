@@ -9,11 +9,11 @@ top=$(cd "$(dirname "$0")/.." && pwd)
 program=${DUVONKA:-$top/crates/duvonka/out/duvonka} examples=$top/examples
 [ -x "$program" ] || { echo "examples.sh: the program is not built: run ./duvonka first" >&2; exit 2; }
 work=$(mktemp -d) || exit 2
-# where scripts and browser keep their own files
+# for the files of curl, of the browser and of others
 export HOME=$work
 # shellcheck source=tests/serving.sh
 . "$top/tests/serving.sh"
-# serving.sh sets these
+# set by serving.sh
 http='' syslog='' port=''
 started=()
 end() {
@@ -37,7 +37,7 @@ judge() {
   fi
 }
 
-# has NAME TOOLS..: whether the tools of a part are installed; skips the part where one is missing
+# has NAME TOOLS..: succeeds if these tools are installed; else prints that this part is skipped, and counts it
 has() {
   local name=$1 tool
   shift
@@ -49,7 +49,7 @@ has() {
   done
 }
 
-# comes_to NAME QUERY WANTED: the records of a query, once they are so; what comes by syslog takes its time
+# comes_to NAME QUERY WANTED: waits up to 15 seconds until a query returns these records, and judges its last reply
 comes_to() {
   local got
   for _ in {1..150}; do
@@ -60,20 +60,20 @@ comes_to() {
   judge "$1" "$got" "$3"
 }
 
-# starts COMMAND..: starts a daemon, which end stops; its output goes to the file log
+# starts COMMAND..: starts a daemon with its output in the file log
 starts() {
   timeout 120 "$@" < /dev/null > "$work/log" 2>&1 &
   started+=("$!")
 }
 
-# stops: ends the daemon that was started last
+# stops: stops the process that was started last
 stops() {
   kill "${started[-1]}" 2> /dev/null
   wait "${started[-1]}" 2> /dev/null
   unset 'started[-1]'
 }
 
-# listens PORT: whether somebody listens there within 10 seconds
+# listens PORT: waits up to 10 seconds until this port accepts connections
 listens() {
   for _ in {1..100}; do
     (exec 3<> "/dev/tcp/127.0.0.1/$1") 2> /dev/null && return 0
@@ -82,11 +82,11 @@ listens() {
   return 1
 }
 
-# runs SCRIPT WORDS..: the output of a script of examples/, its error text and its status
+# runs SCRIPT WORDS..: prints the output, the error text and the status of a script of examples/
 runs() {
   local script=$examples/$1
   shift
-  timeout 60 "$script" "$@" 2>&1
+  timeout 100 "$script" "$@" 2>&1
   echo "status $?"
 }
 
@@ -114,12 +114,13 @@ status 0"
 }
 
 by_ship() {
-  local before after
+  local before after first
+  first=$(batches)
   before=$(ask '* | stats count() as n' | sed 's/[^0-9]//g')
-  seq 2500 | sed 's/.*/{"_msg":"shipped &"}/' > "$work/rows"
-  judge "ship.sh" "$(runs ship.sh < "$work/rows")" "status 0"
+  seq 1200 | sed 's/.*/{"_msg":"shipped &"}/' > "$work/rows"
+  judge "ship.sh" "$(SHIP_SECONDS=30 runs ship.sh < "$work/rows")" "status 0"
   after=$(ask '* | stats count() as n' | sed 's/[^0-9]//g')
-  judge "2,500 lines" "$((after - before))" 2500
+  judge "1,200 lines in two requests" "$((after - before)) rows, $(($(batches) - first)) batches" "1200 rows, 2 batches"
   (echo '{"_msg":"early"}'; sleep 1; printf '{"_msg":'; sleep 4; echo '"late"}'; sleep 20) |
     timeout 60 "$examples/ship.sh" &
   started+=("$!")
@@ -142,7 +143,7 @@ by_tail() {
   judge "tail.sh, a refused filter" "$(runs tail.sh 'a b)')" $'tail.sh: Syntax at 3\nstatus 1'
 }
 
-# start_front: starts nginx by the file of examples/, with other ports and paths. Sets front to its address
+# start_front: starts nginx with the file of examples/, at other ports and paths. Sets front to its address
 start_front() {
   local folder=$work/nginx
   free_port || return 1
@@ -172,13 +173,14 @@ CONF
   listens "$port"
 }
 
-# fronted USER:PASSWORD ARGUMENTS..: what curl gets from the front
+# fronted USER:PASSWORD ARGUMENTS..: prints what curl gets from nginx
 fronted() { curl -q -sk --noproxy '*' -m 20 -u "$@"; }
 
-# code USER:PASSWORD ARGUMENTS..: the status that curl gets from the front
+# code USER:PASSWORD ARGUMENTS..: prints the status that curl gets from nginx
 code() { fronted "$@" -o /dev/null -w '%{http_code}'; }
 
 by_nginx() {
+  local other
   has "nginx" nginx curl openssl || return
   start_front || { judge "nginx" "$(head -n 3 "$work/log")" "listens"; return; }
   judge "nginx: health without a password" "$(code : "$front/health")" 200
@@ -189,14 +191,19 @@ by_nginx() {
     -d '{"_msg":"<b>by nginx</b>","_time":"2020-01-01T00:00:30Z"}' | sed 's/"batch":"[0-9]*",//')" \
     '{"accepted":"1","refused":"0"}'
   judge "nginx: the shipper does not ask" "$(code shipper:ship "$front/select/logsql/query?query=a")" 401
-  judge "nginx: a page of another site" "$(code reader:read "$front/status" -H 'Sec-Fetch-Site: cross-site')" 403
+  other='Sec-Fetch-Site: cross-site'
+  judge "nginx: a query by another site" "$(code reader:read "$front/select/logsql/query?query=a" -H "$other")" 403
+  judge "nginx: an insert by another site" \
+    "$(code shipper:ship "$front/insert/jsonline" -H "$other" -d '{"_msg":"a"}')" 403
+  judge "nginx: a link from another site" "$(code reader:read "$front/" -H "$other")" 200
   judge "nginx: the page" "$(fronted reader:read "$front/" | cmp - "$examples/web/index.html" 2>&1)" ''
   judge "nginx: its access log as rows" "$(runs ship.sh '_stream_fields=server_name' < "$work/nginx/duvonka.jsonl")" \
     "status 0"
   judge "nginx: its access log is read whole" \
     "$(ask '{server_name="logs.internal"} "/select/logsql/query" | fields _msg, remote_user, status')" \
     '{"_msg":"POST /select/logsql/query HTTP/1.1","remote_user":"reader","status":"200"}
-{"_msg":"GET /select/logsql/query?query=a HTTP/1.1","remote_user":"shipper","status":"401"}'
+{"_msg":"GET /select/logsql/query?query=a HTTP/1.1","remote_user":"shipper","status":"401"}
+{"_msg":"GET /select/logsql/query?query=a HTTP/1.1","remote_user":"reader","status":"403"}'
   limited_queries
   by_chromium
   stops
@@ -214,13 +221,13 @@ limited_queries() {
   for _ in {1..4}; do stops; done
 }
 
-# slow_query: starts a client that asks and does not end its request
+# slow_query: starts a client that begins a query and does not finish its request
 slow_query() {
   sleep 20 | curl -q -sk --noproxy '*' -m 20 -u reader:read -X POST -T - "$front/select/logsql/query" > /dev/null &
   started+=("$!")
 }
 
-# browsed FORM: the page in the browser after its requests, as HTML. No other address is reached
+# browsed FORM: prints the page as HTML, as it is in the browser after its requests. Reaches no other address
 browsed() {
   timeout 90 chromium --headless --no-sandbox --disable-gpu --user-data-dir="$work/chromium" \
     --ignore-certificate-errors \
@@ -249,13 +256,13 @@ by_chromium() {
     $'<pre id="fault">a b)\n   ^ Syntax at 3'
 }
 
-# sum_of ELEMENT: the sum that the policy of the page has for its script or style
+# sum_of ELEMENT: prints the checksum of the page's script or style, as its policy must have it
 sum_of() {
   sed -n "/<$1>/,/<\/$1>/p" "$examples/web/index.html" | sed "1s/.*<$1>//; \$s/<\/$1>.*//" | head -c -1 |
     openssl dgst -sha256 -binary | base64
 }
 
-# relayed PORT: sends messages of RFC 3164 to a relay, 100 over TCP one after another, and 100 over UDP
+# relayed PORT: sends RFC 3164 messages to a relay: 100 over TCP, with pauses, and 100 over UDP
 relayed() {
   local number
   (exec 3<> "/dev/tcp/127.0.0.1/$1" &&
@@ -267,10 +274,10 @@ relayed() {
     for number in {1..100}; do printf '<13>Oct 11 22:14:15 oldhost login: message %d' "$number" >&3; done)
 }
 
-# batches: how many batches the server holds
+# batches: prints how many batches the server holds
 batches() { exchange "$http" 'GET /status HTTP/1.0\r\n\r\n' | sed -n 's/.*"batches":"\([0-9]*\)".*/\1/p'; }
 
-# judge_relay NAME: what came by way of a relay, and from a file of 20 lines
+# judge_relay NAME: judges what came through a relay, and from a file of 20 lines
 judge_relay() {
   comes_to "$1, all messages" '* | stats by (app_name) count_uniq(_msg) as n' \
     $'{"app_name":"from-file","n":"20"}\n{"app_name":"login","n":"100"}\n{"app_name":"su","n":"100"}'
@@ -303,7 +310,7 @@ CONF
 # by_syslog_ng [lines]: tries the first destination of the file, or the second
 by_syslog_ng() {
   local folder=$work/syslog_ng$1
-  has "syslog-ng.conf $1" syslog-ng || return
+  has "syslog-ng.conf ${1:-http}" syslog-ng || return
   if ! start_server 2 syslog || ! free_port; then judge "a server for syslog-ng" none one; return; fi
   mkdir "$folder"
   seq -f 'line %g' 20 > "$folder/file"
@@ -323,7 +330,7 @@ CONF
   stop_server
 }
 
-# by_unit: the commands of the unit, with other ports, and what systemd says of the unit
+# by_unit: runs the commands of the unit with other ports, and lets systemd verify it
 by_unit() {
   local start post one
   free_port; one=$port

@@ -65,40 +65,43 @@ def spelled_case(data):
 
 # parts of messages, most of them right, and some near misses
 PRI = (b"<0>", b"<13>", b"<191>", b"<192>", b"<013>", b"<>", b"<1", b"13>", b"<-1>", b"<1000>", b"")
-VERSION = (b"1", b"1", b"1", b"1", b"0", b"2", b"01", b"")
 STAMPS = (
     b"-", b"2003-10-11T22:14:15.003Z", b"2003-10-11T22:14:15+02:00", b"2024-02-29T00:00:00.123456789-11:30",
+    b"1970-01-01T00:00:00Z", b"2262-04-11T23:47:16.854775807Z",
     b"2023-02-29T00:00:00Z", b"2003-10-11t22:14:15Z", b"2003-10-11T22:14:15", b"2003-10-11T22:14:15.Z",
-    b"1969-12-31T23:59:59Z", b"1970-01-01T00:00:00Z", b"2262-04-11T23:47:16.854775807Z",
+    b"1969-12-31T23:59:59Z",
     b"2262-04-11T23:47:16.854775808Z", b"2003-10-11T24:00:00Z", b"", b"1714557600",
 )  # fmt: skip
 DATA = (
-    b"-", b"[a]", b'[a b="c"]', b'[a b="c"][d e="f" e="g"]', b'[a b="\\"\\\\\\]\\n"]', b'[a b="]"]', b'[a b=""]',
-    b'[a b="\xc3\xa9\xff"]', b"[]", b'[a b="c" ]', b'[a  b="c"]', b"[a b=c]", b'[a b="c"', b'[a b="c\\"]', b'[a="b"]',
-    b'[a b="x y"]', b"", b"x", b"--", b'[a b="1"b="2"]', b"[" + b"i" * 32 + b"]", b"[" + b"i" * 33 + b"]",
-    b"[a " + b"n" * 32 + b'="v"]', b"[a " + b"n" * 33 + b'="v"]',
+    b"-", b"[a]", b'[a b="c"]', b'[a b="c"][d e="f" e="g"]', b'[a b="\\"\\\\\\]\\n"]', b'[a b=""]',
+    b'[a b="\xc3\xa9\xff"]', b"[" + b"i" * 32 + b" " + b"n" * 32 + b'="v"]', b'[a b="]"]', b"[]", b'[a b="c" ]',
+    b'[a  b="c"]', b"[a b=c]", b'[a b="c"', b'[a b="c\\"]', b'[a="b"]', b'[a b="x y"]', b"", b"x", b"--",
+    b'[a b="1"b="2"]', b"[" + b"i" * 32 + b"]", b"[" + b"i" * 33 + b"]", b"[a " + b"n" * 32 + b'="v"]',
+    b"[a " + b"n" * 33 + b'="v"]',
 )  # fmt: skip
 TEXTS = (
     b"", b" ", b" hi", b" \xef\xbb\xbfhi", b" \xef\xbb", b"  two", b" \xff\xfe", b" a\x00b", b" \xe2\x82",
-    b" \xc3\xa4", b"x", b" line\n", b" \xed\xa0\x80",
+    b" \xc3\xa4", b" line\n", b" \xed\xa0\x80",
 )  # fmt: skip
 
 
+def mostly(random, right, others):
+    """Returns one of the right parts most times."""
+    return random.choice(right if random.random() < 0.93 else others)
+
+
 def header_part(random, longest):
-    edge = random.choice((0, 1, 2, 5, longest, longest, longest + 1))
-    part = b"n" * random.choice((edge, random.randint(1, 9), random.randint(1, 9)))
-    return random.choice((b"-", b"~!", b"a\x7f", b"\xc3\xa4", *[part] * 8))
-
-
-def right_or_any(random, options):
-    return options[random.randint(0, 1)] if random.random() < 0.75 else random.choice(options)
+    """Returns a part of at most `longest` bytes, or a near miss."""
+    right = (b"-", b"~!", b"n" * random.randint(1, 9), b"n" * longest)
+    return mostly(random, right, (b"", b"n" * (longest + 1), b"a\x7f", b"\xc3\xa4"))
 
 
 def message(random):
-    head = right_or_any(random, PRI) + random.choice(VERSION)
-    parts = [head, right_or_any(random, STAMPS), *(header_part(random, longest) for longest in (255, 48, 128, 32))]
-    whole = b" ".join(parts) + b" " + random.choice(DATA) + random.choice(TEXTS)
-    return whole if random.random() < 0.9 else whole[: random.randint(0, len(whole))]
+    head = mostly(random, PRI[:3], PRI) + mostly(random, (b"1",), (b"0", b"2", b"01", b""))
+    parts = [head, mostly(random, STAMPS[:6], STAMPS)]
+    parts += [header_part(random, longest) for longest in (255, 48, 128, 32)]
+    whole = b" ".join(parts) + b" " + random.choice(random.choice((DATA[:8], DATA))) + mostly(random, TEXTS, (b"x", b"-"))
+    return whole if random.random() < 0.95 else whole[: random.randint(0, len(whole))]
 
 
 BODIES = (b"", b"a", b"hello world", b"a\r", b"\r\n", b"12", b"<13>1 - - - - - -", b"\xff\x00", b"x" * 65536)
