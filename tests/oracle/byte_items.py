@@ -51,7 +51,7 @@ class Items:
         return number
 
     def codes(self, count, limit):
-        """Returns so many bytes below a limit, each an item."""
+        """Returns this many bytes, each an item and below a limit."""
         data = self.data[self.at : self.at + count]
         if len(data) < count or max(data, default=0) >= limit:
             return [self.below(1, limit) for _ in range(count)]
@@ -60,7 +60,7 @@ class Items:
         return data
 
     def text(self, length):
-        """Returns a text after its length, a number of so many bytes. Both are one item."""
+        """Returns a text after its length, which has `length` bytes. Both are one item."""
         self.start()
         return self.decoded(self.more(int.from_bytes(self.more(length), "little")))
 
@@ -99,7 +99,7 @@ def signed(number, length):
 
 
 def text(value, length):
-    """Returns the bytes of a text after its length, a number of so many bytes."""
+    """Returns the bytes of a text after its length, which has `length` bytes."""
     data = value.encode("utf-8")
     return unsigned(len(data), length) + data
 

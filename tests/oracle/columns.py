@@ -103,7 +103,7 @@ def take_body(items, kind, rows):
 
 
 def read_column(data, rows):
-    """Returns the values of the column of so many rows whose spelling the bytes are."""
+    """Returns the values of the column of this many rows whose spelling the bytes are."""
     items = Items(data)
     values = take_body(items, take_kind(items), rows)
     items.end()

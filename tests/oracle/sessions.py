@@ -16,7 +16,7 @@ from words import size
 REQUESTS = 1000
 UNSETTLED = 4096
 BATCH = 67108864  # the most bytes of the names and values of a batch
-NAMED = 16  # so many refused lines are named in a reply
+NAMED = 16  # a reply names no more refused lines
 READ, INPUT, MESSAGES = 65536, 268435456, 256
 
 
@@ -132,14 +132,14 @@ class HttpSession:
 
 
 class SyslogSession:
-    """A stream of syslog over a log, read by read. The end is None as long as it goes on."""
+    """A stream of syslog over a log, read by read. The end is None until it ends."""
 
     def __init__(self, log, times):
         self.log, self.times = log, list(times)
         self.data, self.at, self.accepted, self.refused, self.end = b"", 0, 0, 0, None
 
     def copied(self):
-        """Returns a session that goes on by itself from here."""
+        """Returns a session of its own that continues here."""
         other = SyslogSession(Log(), self.times)
         other.log.batches = list(self.log.batches)
         other.data, other.at, other.end = self.data, self.at, self.end
@@ -193,7 +193,7 @@ class SyslogSession:
 
 
 def syslog_session(log, data, times, piece=READ):
-    """Serves a stream whose reads give at most so many bytes."""
+    """Serves a stream whose reads give at most `piece` bytes."""
     session = SyslogSession(log, times)
     while session.end is None:
         read = data[len(session.data) : len(session.data) + piece]

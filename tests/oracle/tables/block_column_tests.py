@@ -1,7 +1,7 @@
 """The columns of values (docs/BYTES.md, "Block"): the first kind that fits, the bytes, and what bytes say.
 
 A line `recent` asks how the code works inside, which no rule says: of each text, whether another one was in its slot
-among the texts that were met before. The number of a slot is what the specification of `Recent` in `block_column`
+among the texts before it. The number of a slot is what the specification of `Recent` in `block_column`
 says. No second table has such a line.
 """
 from byte_items import Damaged, Items, bytes_of, cut_once, damaged_copies, number_or
@@ -50,7 +50,7 @@ def read(rows, data):
 
 
 def made(rows, length):
-    """Answers for distinct values, which have so many bytes or more."""
+    """Answers for distinct values, each of `length` bytes or more."""
     values = fitting(",".join(f"v{n}".ljust(length, "x") for n in range(rows)), ROOM) if rows else []
     data = put_column(values)
     cut = read(len(values), data[:-1]).removeprefix("damaged at ")

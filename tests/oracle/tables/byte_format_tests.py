@@ -2,7 +2,7 @@
 item on, and where two runs of bytes differ.
 
 A padded number is a byte and a byte of 0, a format that the crate has for itself: `padded` reads bytes that are
-nothing but one, which is at most a given number, and `window` one in exactly so many bytes.
+nothing but one, which is at most a given number, and `window` one in exactly n bytes.
 """
 from byte_items import Damaged, Items, bytes_of, check_spelling, cut_once, number_or
 from chance import lines_of, table
@@ -58,7 +58,7 @@ def padded(data, most):
 
 
 def window(data, length):
-    """Reads a padded number, of which the second byte may be another one, in exactly so many bytes."""
+    """Reads a padded number, of which the second byte may be another one, in exactly `length` bytes."""
     items = Items(data[:length])
     try:
         number, _ = items.unsigned(1), items.unsigned(1)

@@ -37,7 +37,7 @@ def request_text(request):
 
 
 def ends_text(data):
-    """Returns what comes where the input ends after so many bytes, for all numbers from one to another."""
+    """Returns what comes where the input ends after n bytes, for each n, and once for those with the same result."""
     said, start, text = " |", 0, connection_text(*requests_of(b""))
     for end in range(1, len(data) + 1):
         other = connection_text(*requests_of(data[:end]))

@@ -1,8 +1,8 @@
 """The filter of the words of values (docs/BYTES.md, "Bloom filter" and "Block"): its bytes, and how bytes are read. A
 column has the filter of its values, of whatever kind it is.
 
-The words of the two longest lines have one slot among those that were met before, which is how the code works inside.
-The answers to them follow from the rules all the same.
+The words of the two longest lines share a slot of the table in which the code keeps recent words. How it works inside
+changes no answer.
 """
 from byte_items import Damaged, Items, bytes_of, cut_once, damaged_copies, number_or
 from chance import lines_of, table
