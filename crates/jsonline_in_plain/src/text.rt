@@ -6,7 +6,7 @@ ghost use Rattle.jsonline_in.specs.Clauses.{ReadsAs, mapped, flat_text};
 ghost use Rattle.jsonline_in.specs.Reading.{characters_at, label_at, flat_at, nested_at};
 
 use crate::bare::bare;
-use crate::escape::{push_lone_surrogate, push_escape, push_plain, read_escape};
+use crate::escape::{push_escape, push_lone_surrogate, push_plain, read_escape};
 use crate::scan::{expect, past, plain_len, skip_space};
 use crate::tokens::{Bracket, Tokens};
 use jsonline_in::ScanFault;

@@ -45,7 +45,11 @@ fn selected_records(
     }
 }
 
-fn matching_records(alloc: Global, only: &Filter, records: &[FieldList]) -> Result<Vec<FieldList>, AllocError>
+fn matching_records(
+    alloc: Global,
+    only: &Filter,
+    records: &[FieldList],
+) -> Result<Vec<FieldList>, AllocError>
     ensures { IfOk result (λ made. made.items ≡ filter (record_holds (condition only.now)) records.now) }
 {
     let mut kept = Vec::new(alloc);
