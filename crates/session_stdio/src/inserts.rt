@@ -18,7 +18,7 @@ const ROUNDS: u32 = 100;
 #[derive(Drop)]
 struct Caller {
     pass: Pass,
-    /// Whether all was read.
+    /// Whether all was inserted.
     is_done: bool,
 }
 
@@ -66,7 +66,7 @@ fn callers_of(
     Ok(callers)
 }
 
-/// Inserts the lines in this many threads beside this one, as far as there are passes, and says whether all was read.
+/// Inserts the lines in this many threads beside this one, as far as there are passes, and says whether all was inserted.
 pub(crate) fn insert_all<R: AllocGlobal + Threads + Wait + Sync>(
     rt: &R,
     desk: &Desk,

@@ -57,7 +57,7 @@ module _ (caller : Caller) (alone : IsAlone caller) (options : Options) (now : �
         },
   )
 
--- A group was read.
+-- A group was loaded.
 pub takes : (arrival : Arrival) (body : List ℕ) (old new : Seen) (insertion : Insertion)
     → (inserts : InsertsAlone arrival.options arrival.moment body old new insertion) → TakesGroup arrival body inserts.2.outcomes old new
 takes arrival body old new insertion (caller, alone, inserts) = record {

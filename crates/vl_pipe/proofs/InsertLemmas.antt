@@ -1,4 +1,4 @@
--- Why a group is not read.
+-- Why a group is not loaded.
 use Rattle.std.proofs.Common.{◌≡◌, ℕ, ◌+◌, ◌-◌, ◌^◌, ◌<◌, ◌≤◌, List, length, min, ap, arith}
 use Rattle.log_model.specs.Core.{held_limit}
 use Rattle.log_model.specs.Line.{lines_of}

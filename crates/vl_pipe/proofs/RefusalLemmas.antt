@@ -52,7 +52,7 @@ pub names : (before : ℕ) (outcomes : List Outcome) (told : List LineFault) →
     → names_after before told ≡ refusals_from (before + 1) outcomes
 names before outcomes told are = ap (names_after before) are ∙ names_from before 1 outcomes
 
--- A group is not read, and nothing was named.
+-- A group is not loaded, and nothing was named.
 pub stops_refused : (arrival : Arrival) (body : List ℕ) (before : ℕ) (old new : Seen) (written : Option (List ℕ))
     (faults_before faults_after : ℕ) (interrupt : Interrupt) → RefusesGroup arrival body old interrupt
     → StopsGroup arrival body before old new (record {

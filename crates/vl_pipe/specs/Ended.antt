@@ -42,7 +42,7 @@ pub record IsUnanswered (query : Question) (arrival : Arrival) (source errors : 
   pub overflows : Overflows query arrival input refusals cause
   pub said : IsTold errors refusals (said_of_query (overflow_text cause))
 
--- The error stream failed while the refused lines of a group were named, right after it was read.
+-- The error stream failed while the refused lines of a group were named, right after it was loaded.
 pub record IsNamingFault (arrival : Arrival) (source errors : Change) : Type 0 where
   pub groups : List (List Outcome)
   pub group : List Outcome
@@ -56,7 +56,7 @@ pub record IsNamingCut (arrival : Arrival) (source output errors : Change) : Typ
   pub fault : IsNamingFault arrival source errors
   pub unwritten : IsUntold output
 
--- Groups were read and their refused lines named. Then the run stopped, and says why.
+-- Groups were loaded and their refused lines named. Then the run stopped, and says why.
 pub record IsStopped (arrival : Arrival) (source errors : Change) (stop : Stop) : Type 0 where
   pub groups : List (List Outcome)
   pub behind : StopsBehind arrival source groups stop

@@ -23,14 +23,14 @@ pub record IsHeld (seen : Seen) (batches : List Batch) : Type 0 where
   pub few : length batches ≤ held_limit
   pub settled : seen.settled ≡ 0
 
--- why these rows are not read, by what has been seen then
+-- why these rows are not loaded, by what has been seen then
 abbrev pub IsTooMuch : Seen → List Row → Limit → Type 0
 IsTooMuch seen rows Long = ⊥
 IsTooMuch seen rows (Large weight) = (weight ≡ batch_weight rows) × (batch_limit < weight)
 IsTooMuch seen rows Full =
     (length seen.history ≡ seen.settled + held_limit) × (0 < length rows) × (batch_weight rows ≤ batch_limit)
 
--- why a group is not read
+-- why a group is not loaded
 abbrev pub RefusesGroup : Arrival → List ℕ → Seen → Interrupt → Type 0
 RefusesGroup arrival body seen Unreadable = ⊥
 RefusesGroup arrival body seen Unwritable = ⊥
@@ -45,7 +45,7 @@ AddsRows old new rows =
     (batch_weight rows ≤ batch_limit)
     × ((batches : List Batch) → IsHeld old batches → IsHeld new (batches ++ batches_of_rows rows))
 
--- a group whose lines have these outcomes was read
+-- a group whose lines have these outcomes was loaded
 pub record TakesGroup (arrival : Arrival) (body : List ℕ) (group : List Outcome)
     (old new : Seen) : Type 0 where
   pub intake : HaveOutcomes arrival body group
@@ -71,7 +71,7 @@ pub record IsLoaded (arrival : Arrival) (source errors : Change) (seen : Seen) :
   pub holding : IsHeld seen (batches_of groups)
   pub named : Took errors (refusals_of groups)
 
--- Groups were read and their refused lines named. Then the run stopped, and did not say yet why.
+-- Groups were loaded and their refused lines named. Then the run stopped, and did not say yet why.
 pub record StopsUntold (arrival : Arrival) (source errors : Change) (stop : model.Stop) : Type 0 where
   pub groups : List (List Outcome)
   pub behind : StopsBehind arrival source groups stop

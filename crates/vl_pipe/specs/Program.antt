@@ -104,7 +104,7 @@ IsCause arrival source groups begins unreadable = HasFailed source × HaveNoGrou
 IsCause arrival source groups begins (beyond limit) = IsBeyond arrival source groups begins limit
 IsCause arrival source groups begins no_memory = Unit {0}
 
--- The first groups of the input were read, and their batches can be held. Then the run stopped. No more was read
+-- The first groups of the input were loaded, and their batches can be held. Then the run stopped. No more was read
 -- after them than one group and what one read gives.
 pub record StopsBehind (arrival : Arrival) (source : Change) (groups : List (List Outcome)) (stop : Stop) : Type 0 where
   pub begins : BeginsWith arrival source groups

@@ -13,7 +13,7 @@ said_of (refusals.Unspelled fault) = said_of_query (refusal_text (unspelled faul
 said_of (refusals.Pattern nth) = said_of_query (refusal_text (unreadable_pattern nth))
 said_of refusals.Memory = stop_text no_memory
 
--- What is reported, and the status that it gives.
+-- The error text, and its status.
 abbrev pub ReportsRefused : Change → QueryRefusal → Status → Type 0
 ReportsRefused errors refusal status =
     ((status ≡ statuses.QueryRefused) × (refusal ≢ refusals.Memory) × IsTold errors [] (said_of refusal))

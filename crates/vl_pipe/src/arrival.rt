@@ -59,7 +59,7 @@ impl Arrival {
     }
 }
 
-/// Returns the labels of rows are those of their fields that the list names.
+/// Returns the options by which the fields that the list names are the labels of rows.
 #[tactic(auto, unfolding(ingest_row::specs::Asked::pieces, ingest_row::specs::Asked::extras_of))]
 fn labelled_by(alloc: Global, list: &str) -> Result<Options, AllocError>
     ensures { IfOk result (λ options. options ≡ labelled_by (Some list.now)) }

@@ -1,4 +1,4 @@
-//! What is reported on the error stream where a query ends before all is done.
+//! Writes to the error stream why a query ended early.
 ghost use Rattle.vl_io.specs.Change.{change_of};
 ghost use Rattle.vl_pipe.specs.Pipe.{ReportsInterrupt};
 ghost use Rattle.vl_pipe.specs.Refused.{ReportsRefused};
@@ -10,7 +10,7 @@ use std::alloc::Global;
 use vl_io::Sink;
 use vl_status::{Status, report_no_memory, say};
 
-/// The query is refused. Where memory ran out to say why, that is what is reported.
+/// Reports a refused query, or that memory ran out for its text.
 pub fn report_refused<E: Sink>(alloc: Global, refusal: QueryRefusal, err: &mut E) -> Status
     ensures { ReportsRefused (change_of E.written E.faults err.old err.new) refusal result }
 {
@@ -26,8 +26,8 @@ pub fn report_refused<E: Sink>(alloc: Global, refusal: QueryRefusal, err: &mut E
     }
 }
 
-/// A run is interrupted. Where memory ran out to say why, that is what is reported. That a stream can't be written
-/// to is not said.
+/// Reports an interrupted run, or that memory ran out for its text. A stream that can't be written to is not
+/// reported.
 pub fn report_interrupt<E: Sink>(alloc: Global, interrupt: Interrupt, err: &mut E) -> Status
     ensures { ReportsInterrupt (change_of E.written E.faults err.old err.new) interrupt result }
 {

@@ -128,7 +128,7 @@ module _ (caller : Caller) (options : Options) (now : ℕ) (body : List ℕ) (in
       (can_insert caller options now body outcomes old new is.given incoming incoming.batch refl some is.holds) refused
       away.said
 
-  -- the lines of an insert were read, or not
+  -- the lines of an insert were inserted, or not
   pub insert_answered : TakesIn caller incoming old new delivery reply → IsAnswered
   insert_answered (inl taken) = taken_none incoming.batch refl is.holds taken taken.commits.inserts
   insert_answered (inr refused) = refused_so refused

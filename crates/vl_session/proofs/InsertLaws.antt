@@ -70,7 +70,7 @@ module _ (only : HasOneIntake) (options : Options) (now : ℕ) (body : List ℕ)
   only_for_memory caller old new room faults.Spent why = absurd (not_last new room why.1.3)
   only_for_memory caller old new room faults.Memory why = refl
 
-  -- Where they are read, they are a batch.
+  -- Where they are inserted, they are a batch.
   pub is_batch : (caller : Caller) (old new : Seen) (insertion : Insertion)
       → IsInsertion caller options now body old new insertion → insertion.batch ≡ Some (length new.history)
   is_batch caller old new insertion is =

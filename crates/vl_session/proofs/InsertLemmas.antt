@@ -142,7 +142,7 @@ end_step : (faults name count end : List ℕ)
     → (faults ++ ((name ++ count) ++ [])) ++ end ≡ faults ++ (name ++ (count ++ end))
 end_step faults name count end = ap (λ l. (faults ++ l) ++ end) (append-nil (name ++ count)) ∙ simp append_assoc
 
--- the end of what is reported
+-- the end of the reply
 pub refused_is : (faults : List LineFault) → length faults < 2 ^ 64
     → refused_text faults ≡ flat_map later_member (fault_fields faults)
     ++ (codes "\",\"refused\":\"" ++ (decimal (length faults) ++ codes "\"}\n"))

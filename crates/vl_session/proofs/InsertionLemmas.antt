@@ -1,4 +1,4 @@
--- Lines that were read, or not, by what has been seen then.
+-- Lines that were inserted, or not, by what has been seen then.
 use Rattle.std.proofs.Common.{◌≡◌, ◌≢◌, ℕ, pos, List, [], ◌∷◌, length, Option, Some, None, refl, sym, ap, subst, ◌∙◌, arith}
 use Rattle.log_model.specs.Row.{Batch, Row}
 use Rattle.ingest_row.specs.Ingest.{Options}

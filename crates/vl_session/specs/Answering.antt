@@ -24,7 +24,7 @@ pub record Answered (caller : Caller) (wanted : Result Wanted Refusal) (body : L
   pub has : Has caller old new effect
   pub answers : Answers wanted body now new delivery effect reply
 
--- Lines were read, and that is what is reported, with the number of their batch, if there is one.
+-- Lines were inserted, and this is the reply, with the number of their batch, if there is one.
 pub record IsAccepted (caller : Caller) (incoming : Incoming) (old new : Seen) (delivery : Delivery)
     (reply : List ℕ) : Type 0 where
   pub insertion : Insertion
@@ -46,7 +46,7 @@ abbrev pub TakesIn : Caller → Incoming → Seen → Seen → Delivery → List
 TakesIn caller incoming old new delivery reply =
     IsAccepted caller incoming old new delivery reply ⊎ IsTurnedAway caller incoming old new delivery reply
 
--- A query has this outcome over what has then been seen, and that is what is reported.
+-- A query has this outcome over what has then been seen, and this is the reply.
 pub record SaysOutcome (caller : Caller) (text : List ℕ) (now : ℕ) (old new : Seen) (delivery : Delivery)
     (reply : List ℕ) : Type 0 where
   pub outcome : QueryOutcome

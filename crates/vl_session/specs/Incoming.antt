@@ -1,4 +1,4 @@
--- Lines that were read, on their way to the desk.
+-- Lines on their way to the desk.
 use Rattle.std.specs.Prelude.{◌≡◌, ◌≢◌, ℕ, ℤ, ◌-◌, ◌^◌, ◌<◌, ◌≤◌, List, [], ◌∷◌, ◌++◌, length, min, Option}
 use Rattle.std.specs.Prelude.{None, Some, Bool, codes, decimal, if◌then◌else◌, is_some}
 use Rattle.log_model.specs.Field.{Field}

@@ -1,4 +1,4 @@
--- What becomes of a body that is to be read (VictoriaLogs, "Data ingestion").
+-- What becomes of a body that is to be inserted (VictoriaLogs, "Data ingestion").
 use Rattle.std.specs.Prelude.{◌≡◌, ℕ, ◌-◌, ◌^◌, ◌<◌, ◌≤◌, pos, List, [], ◌∷◌, ◌++◌, length, map, take, codes}
 use Rattle.std.specs.Prelude.{decimal, flat_map, min}
 use Rattle.log_model.specs.Field.{Field}
@@ -63,7 +63,7 @@ insert_status (large weight) = statuses.ContentTooLarge
 insert_status full = statuses.ServiceUnavailable
 insert_status spent = statuses.ServiceUnavailable
 
--- ---- what is reported
+-- ---- replies
 
 -- this many refused lines are named
 abbrev pub named_limit : ℕ
@@ -89,7 +89,7 @@ insert_fields outcomes batch =
     (codes "accepted", decimal (length (rows_read outcomes)))
     ∷ (batch ++ (fault_fields refused ++ (codes "refused", decimal (length refused)) ∷ []))
 
--- what is reported where nothing was read
+-- the reply where nothing was inserted
 abbrev pub refusal_text : InsertOutcome → List ℕ
 refusal_text (no_row outcomes) = []
 refusal_text (taken outcomes) = []

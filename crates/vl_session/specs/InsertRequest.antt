@@ -12,7 +12,7 @@ use Rattle.vl_session.specs.Insert.{CanBeBatch, insert_content, taken}
 use Rattle.vl_session.specs.Reply.{AnswersNothing, IsServed}
 use Rattle.vl_session.specs.Seen.{Effect, HasRoom}
 
--- a request that wants the lines of its body read, how it was served, and what its lines come to
+-- a request that wants the lines of its body inserted, how it was served, and the outcome of its lines
 pub record InsertRequest : Type 0 where
   pub asked : Asked
   pub closes : Bool

@@ -17,7 +17,7 @@ abbrev pub batch_number : List Row → History → Option ℕ
 batch_number [] history = None
 batch_number (row ∷ rows) history = Some (length history)
 
--- what lines with these rows come to, if they are read
+-- the outcome of lines with these rows, if they are inserted
 abbrev pub accepted : List Row → List Outcome → InsertOutcome
 accepted [] outcomes = no_row outcomes
 accepted (row ∷ rows) outcomes = taken outcomes
@@ -46,7 +46,7 @@ IsOfLines (faults.Full limit) = ⊥
 IsOfLines faults.Spent = ⊥
 IsOfLines faults.Memory = Unit {0}
 
--- Why nothing is read. `Memory` may always be returned.
+-- Why nothing is inserted. `Memory` may always be returned.
 abbrev pub RefusesLines : Caller → Options → ℕ → List ℕ → Seen → Seen → InsertionFault → Type 0
 RefusesLines caller options now body old new (faults.Large weight) =
     IsRefusal caller options now body old new (large weight)

@@ -23,7 +23,7 @@ status_text batches settled =
 abbrev pub status_content : Seen → List ℕ
 status_content seen = status_text (length seen.history) seen.settled
 
--- a query has this outcome, which is what is reported
+-- a query has this outcome, and this is its reply
 pub record AnswersQuery (text : List ℕ) (now : ℕ) (seen : Seen) (delivery : Delivery) (effect : Effect)
     (reply : List ℕ) : Type 0 where
   pub outcome : QueryOutcome
@@ -31,7 +31,7 @@ pub record AnswersQuery (text : List ℕ) (now : ℕ) (seen : Seen) (delivery : 
   pub effect_is : effect ≡ query_effect outcome
   pub said : reply ≡ reply_bytes (query_status outcome) (query_content outcome) delivery
 
--- a body has this outcome, which is what is reported
+-- a body has this outcome, and this is its reply
 pub record AnswersInsert (options : Options) (now : ℕ) (body : List ℕ) (seen : Seen) (delivery : Delivery)
     (effect : Effect) (reply : List ℕ) : Type 0 where
   pub outcome : InsertOutcome

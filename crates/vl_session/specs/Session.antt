@@ -27,7 +27,7 @@ pub record StopsReading (start : ℕ) (rest : List ℕ) (ended : Type 0) (fault 
   pub explained : Explains start rest ended fault
   pub lasts : lasting fault ≡ Some fault
 
--- Of the last reply, or of the one to a fault, a proper prefix was written only, since the sink failed.
+-- Of the last reply, or of the one to a fault, only a proper prefix was written, since the sink failed.
 abbrev pub IsReplyCut : Change → List Turn → ℕ → List ℕ → Type 0 → Type 0
 IsReplyCut sink turns start rest ended =
     ((front : List Turn) × (turn : Turn) × (turns ≡ front ++ turn ∷ []) × IsCut sink (replies_of front) turn.reply)

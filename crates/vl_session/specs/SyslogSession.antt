@@ -205,7 +205,7 @@ EndsStream source reads bytes last ends.Spent =
     IsFront bytes (messages_of reads) × IsHeldUp reads × (IsFull last → ⊥) × HasLastNumber last
 EndsStream source reads bytes last ends.Memory = IsFront bytes (messages_of reads)
 
--- For out of memory, the last piece that the source gave may not have been looked at.
+-- If memory ran out, the last piece that the source gave may not have been looked at.
 abbrev pub IsLeft : SyslogEnd → List ℕ → Type 0
 IsLeft ends.Closed left = left ≡ []
 IsLeft ends.Limit left = left ≡ []

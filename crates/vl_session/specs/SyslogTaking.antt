@@ -123,6 +123,6 @@ Comes fed source old new messages taken (Some ends.Memory) =
     (piece : List ℕ) × Gave source piece × (length piece ≤ read_limit)
     × (length (fed ++ piece) ≤ session_limit) × (messages ≡ [])
 
--- what is reported
+-- the report
 abbrev pub report_of : Counts → SyslogEnd → SyslogReport
 report_of counts end = record { accepted = counts.accepted; refused = counts.refused; end = end }

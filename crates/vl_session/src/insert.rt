@@ -1,4 +1,4 @@
-//! Lines of JSON read by the desk.
+//! Inserts lines of JSON into the desk.
 ghost use Rattle.std.specs.Prelude.{◌≡◌, ◌≤ℤ◌, IfErr, IfOk, List, Some, length, pos, unsigned_abs};
 ghost use Rattle.ingest_row.specs.Intake.{Outcome};
 ghost use Rattle.log_desk.specs.Passes.{IsPassOf};
@@ -26,7 +26,7 @@ pub struct Insertion {
     pub refused: Items<LineFault>,
 }
 
-/// Why nothing of a body was read.
+/// Why nothing of a body was inserted.
 #[derive(Clone, Copy, Debug, PartialEq, Eq, Drop)]
 pub enum InsertionFault {
     /// The rows weigh this much together, which is more than a batch may, or the largest `u64` where that is more.
@@ -63,7 +63,7 @@ impl From<InsertFault> for InsertionFault {
     }
 }
 
-/// Takes in the lines of a body that came at the moment `now`, in nanoseconds since the start of 1970. Their rows
+/// Inserts the lines of a body that came at the moment `now`, in nanoseconds since the start of 1970. Their rows
 /// become one batch. Where no line gives a row there is no batch.
 ///
 /// All memory is taken before the batch is inserted.

@@ -64,7 +64,7 @@ fn push_named(text: &mut String, fault: &LineFault) -> Result<(), AllocError>
     write!(text, "{number} {kind}")
 }
 
-/// Returns the reply where nothing was read. There is none where memory ran out.
+/// Returns the reply where nothing was inserted. There is none where memory ran out.
 pub(crate) fn refusal_reply(
     alloc: Global,
     fault: InsertionFault,

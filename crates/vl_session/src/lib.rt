@@ -1,4 +1,4 @@
-//! Sessions of HTTP and of syslog over a log: what is replied, what is read, and the result of one connection.
+//! Sessions of HTTP and of syslog over a log: replies, inserts, and the outcome of one connection.
 #![tactic(auto)]
 
 mod access;

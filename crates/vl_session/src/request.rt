@@ -10,7 +10,7 @@ use http_in::{Reader, Request, RequestFault};
 use http_route::fault_reply;
 use vl_io::{Failed, Sink, Source, put_all};
 
-/// Returns the next request. Where there is none, what is reported to that was written.
+/// Returns the next request. If there is none, the reply to the fault has been written.
 pub(crate) fn next_request<S: Source, K: Sink>(
     reader: &mut Reader,
     src: &mut S,

@@ -84,7 +84,7 @@ impl Inflow {
         }
     }
 
-    /// Returns the source gave a piece.
+    /// Handles a piece that the source gave.
     fn feed(&mut self, alloc: Global, piece: &[u8]) -> Option<SyslogEnd>
         requires empty { self.old.messages ≡ [] }
         requires some { 0 < length piece.now }

@@ -1,4 +1,4 @@
-//! Messages of syslog read by the desk.
+//! Inserts messages of syslog into the desk.
 ghost use Rattle.std.specs.Prelude.{◌≡◌, ℕ, ◌+◌, ◌*◌, ◌^◌, ◌<◌, ◌≤◌, ◌≤ℤ◌, IfErr, IfOk, IfSome, List, OnOk, Option};
 ghost use Rattle.std.specs.Prelude.{length, pos, unsigned_abs, vec_len};
 ghost use Rattle.log_model.specs.Row.{Batch as Rows, IsRow, Row as Event, batch_weight};
@@ -19,10 +19,10 @@ use syslog_in::Frames;
 use vl_io::Clock;
 use vl_row::{Batch, BatchFault, Row};
 
-/// The most rows of a batch. This many rows are never too much for one.
+/// The most rows of a batch. This many rows never weigh too much for one.
 const BATCH_ROWS: usize = 256;
 
-/// How many messages have a row that was read, and how many have none.
+/// How many messages gave a row that was inserted, and how many gave none.
 #[derive(Clone, Copy)]
 pub(crate) struct Counts {
     pub(crate) accepted: u64,
@@ -37,7 +37,7 @@ struct Chunk {
     end: usize,
 }
 
-/// Reads the messages that a read completed. The clock is asked once, if there are any. Messages that an end keeps
+/// Inserts the messages that a read completed. The clock is asked once, if there are any. Messages that an end keeps
 /// back are not counted.
 pub(crate) fn take_in<R: Wait, C: Clock>(
     access: &Access<'_, R>,
@@ -66,7 +66,7 @@ pub(crate) fn take_in<R: Wait, C: Clock>(
     take_batches(access, pass, messages, now, counts)
 }
 
-/// Takes in messages that came in at this moment, a batch at a time.
+/// Inserts messages that arrived at this moment, one batch at a time.
 fn take_batches<R: Wait>(
     access: &Access<'_, R>,
     pass: &mut Pass,

@@ -7,15 +7,15 @@ use syslog_in::FrameFault;
 /// What a session of syslog did.
 #[derive(Clone, Copy, Debug, PartialEq, Eq)]
 pub struct SyslogReport {
-    /// How many messages have a row that was read.
+    /// How many messages gave a row that was inserted.
     pub accepted: u64,
-    /// How many messages have none.
+    /// How many messages gave no row.
     pub refused: u64,
     pub end: SyslogEnd,
 }
 
-/// Why a session of syslog ended. With one of the last three, messages that came were not read, and are not
-/// counted.
+/// Why a session of syslog ended. With one of the last three, messages that came were not inserted, and are
+/// not counted.
 #[derive(Clone, Copy, Debug, PartialEq, Eq)]
 pub enum SyslogEnd {
     /// The input ended, and not inside a counted frame.

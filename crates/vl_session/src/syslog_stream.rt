@@ -1,4 +1,4 @@
-//! A session of syslog: messages of one stream, read a read at a time.
+//! A session of syslog: the messages of one stream, inserted one read at a time.
 ghost use Rattle.std.specs.Prelude.{◌≡◌};
 ghost use Rattle.vl_io.specs.Change.{change_of};
 ghost use Rattle.log_desk.specs.Passes.{IsPassOf};
@@ -15,12 +15,12 @@ use std::alloc::{AllocError, Global};
 use std::sync::Wait;
 use vl_io::{Clock, Source};
 
-/// Reads the messages of a stream (RFC 5424, in the frames of RFC 6587), until the input ends, something fails, or
+/// Inserts the messages of a stream (RFC 5424, in the frames of RFC 6587), until the input ends, something fails, or
 /// 268,435,456 bytes came. The readable messages that one read completes become batches of 256, of which the last may
 /// have fewer. The clock is asked once for each read that completes a message, and a message without a moment of its
 /// own has that one.
 ///
-/// What was read before an end stays. Batches of other callers may lie between those of the stream.
+/// What was inserted before an end stays. Batches of other callers may lie between those of the stream.
 pub fn syslog_session<R: Wait, S: Source, C: Clock>(
     rt: &R,
     alloc: Global,
@@ -48,7 +48,7 @@ pub fn syslog_session<R: Wait, S: Source, C: Clock>(
     }
 }
 
-/// Reads the messages of a stream, counts them, and says why there are no more.
+/// Inserts the messages of a stream, counts them, and says why there are no more.
 fn take_stream<R: Wait, S: Source, C: Clock>(
     access: &Access<'_, R>,
     pass: &mut Pass,

@@ -8,7 +8,7 @@ use crate::serving::ServeEnd;
 use vl_io::Sink;
 use vl_status::{Status, report_no_memory, say};
 
-/// Returns the text for words that are not a command.
+/// Reports words that are not a command, by the usage line.
 pub fn report_usage<E: Sink>(err: &mut E) -> Status
     ensures status { result ≡ Status.Usage }
     ensures said { IsTold (change_of E.written E.faults err.old err.new) [] usage_text }
@@ -33,7 +33,7 @@ pub(crate) fn report_end<E: Sink>(end: &ServeEnd, err: &mut E) -> Status
     Status::Done
 }
 
-/// Returns a door failed.
+/// Reports that the listeners failed.
 fn report_door_fault<E: Sink>(err: &mut E) -> Status
     ensures status { result ≡ Status.DoorFault }
     ensures said { IsTold (change_of E.written E.faults err.old err.new) [] door_fault_text }
