@@ -43,7 +43,7 @@ def is_within(low, value, high):
 OF_VALUE = {
     "Any": lambda value: value != "",
     "Empty": lambda value: value == "",
-    "Phrase": lambda value, text: has_phrase(text, value) if text else not value,
+    "Phrase": lambda value, text: has_phrase(text, value),
     "Prefix": lambda value, text: has_phrase(text, value, any_end=True) if text else value != "",
     "Exact": lambda value, text: value == text,
     "ExactPrefix": lambda value, text: value.startswith(text),

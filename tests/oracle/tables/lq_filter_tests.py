@@ -97,13 +97,16 @@ def parts(random, form, value):
         return bound(random), bound(random)
     if form == "fold":
         return random.choice((near, near.upper(), near.lower(), near.swapcase())), ""
+    if form in ("phrase", *JOINED_FORMS):
+        # a phrase is not empty: a query without a text asks whether the field is empty
+        return near or "a", random.choice((value, near, random.choice(TEXTS))) or "b"
     return near, random.choice((value, value + "\x00", "", random.choice(TEXTS), "\U0010ffff"))
 
 
 def cases(random):
     forms = [*TEXT_FORMS, *TEXT_FORMS, *LIST_FORMS, *LABEL_FORMS, *FIELD_FORMS, *JOINED_FORMS]
     forms += ["between", "length", "range", "none"]
-    lines = ["", "phrase", "record phrase\tv", "not not phrase\tv\ta\t\ta"]
+    lines = ["", "none", "record empty\tv", "not phrase\tv\ta\t\ta"]
     for _ in range(1500):
         form = random.choice(forms)
         any_text = random.choice(TEXTS + NUMBERS + STAMPS)
