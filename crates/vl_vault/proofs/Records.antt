@@ -25,7 +25,7 @@ past_of-take calls k below =
     length-reverse (map event_of rest) ∙ length-map rest event_of ∙ length-drop k calls in
     sym (ap (drop (length calls - k)) parts ∙ drop_at (past_of rest) (past_of first) (length calls - k) long)
 
--- the same, where the calls stand behind the contents that the vault began with
+-- the same, where the calls come after the contents that the vault began with
 pub past_of-moment : (calls : List Call) (n initial call : ℕ) → length calls ≡ n → initial + call ≤ n
     → drop ((n - initial) - call) (past_of calls) ≡ past_of (take (initial + call) calls)
 past_of-moment calls n initial call is below =

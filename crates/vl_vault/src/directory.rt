@@ -58,7 +58,7 @@ impl<R: Files<File = File> + Eprint + Drop> DirVault<R> {
         ensures stays { directory_faults self.old ≤ directory_faults self.new }
     {
         if self.faults == 0 {
-            // A standard error that takes nothing leaves nobody to tell.
+            // An error of writing this line cannot be reported.
             let path = self.files.path();
             let _ = eprintln!(self.rt; "{path}: {reason}");
         }

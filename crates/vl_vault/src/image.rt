@@ -187,7 +187,7 @@ fn fill_of(outcome: u64) -> Option<u8> {
     }
 }
 
-/// Returns the bytes, and behind them as many as are missing up to this length.
+/// Returns the bytes, followed by as many as are missing up to this length.
 fn extended(alloc: Global, bytes: &[u8], to: u64, fill: u8) -> Result<Vec<u8>, AllocError>
     ensures { IfOk result (λ new. (more : List ℕ) × (new.items ≡ bytes.now ++ more)
         × (length more ≡ to - length bytes.now)) }

@@ -18,7 +18,7 @@ pub struct MemoryVault {
     alloc: Global,
     /// The contents that the vault began with, and then the calls.
     entries: Vec<Call>,
-    /// How many of the first entries are no calls.
+    /// How many of the first entries are not calls.
     initial: usize,
     failing: Vec<u64>,
     faults: u64,
