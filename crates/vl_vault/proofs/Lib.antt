@@ -1,0 +1,5 @@
+pub mod Leaving
+pub mod Runs
+pub mod Tearing
+pub mod Records
+pub mod Covering

@@ -1,0 +1,7 @@
+use Rattle.std.proofs.Common.{◌≡◌, take}
+use Rattle.vl_vault.specs.Disk.{content}
+use Rattle.vl_vault.specs.Record.{past_of}
+use Rattle.vl_vault.proofs.call.content.Given as goal
+
+abbrev pub invariant-loop-call : goal.invariant-loop-call
+invariant-loop-call l = l.bytes ≡ content (past_of (take l.call-index l.calls)) l.file

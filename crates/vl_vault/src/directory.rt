@@ -1,0 +1,122 @@
+//! A vault over a directory. No clause says what a file system holds, so it tells nothing.
+ghost use Rattle.std.specs.Prelude.{◌≡◌, ◌≤◌, [], IfOk};
+ghost use Rattle.vl_io.specs.Faults.{Rose};
+ghost use Rattle.vl_vault.specs.Directory.{directory_faults};
+
+use crate::files::{Access, FileTable};
+use crate::vault::Vault;
+use std::alloc::{AllocError, Global};
+use std::fs::{File, Files};
+use std::io;
+use vl_io::Failed;
+
+/// A vault over a directory. File n is the file under the decimal name n, and a missing file is an empty one.
+///
+/// No clause speaks of what the files hold. Every call that fails is counted, and the first writes one line with the
+/// system's reason to standard error. A directory that cannot be used gives a vault that fails at its first call.
+#[derive(Drop)]
+pub struct DirVault<R> {
+    rt: R,
+    files: FileTable,
+    faults: u64,
+}
+
+impl<R: Files<File = File> + Eprint + Drop> DirVault<R> {
+    /// Returns a vault over the directory, which is created if it does not exist. The vault holds the lock on the
+    /// directory, so that no other program can use it.
+    pub fn open(rt: R, alloc: Global, directory: &str) -> Result<DirVault<R>, AllocError>
+        ensures { IfOk result (λ vault. directory_faults vault ≡ 0) }
+    {
+        let files = FileTable::open(&rt, alloc, directory, Access::Write)?;
+        Ok(DirVault {
+            rt,
+            files,
+            faults: 0,
+        })
+    }
+
+    /// Returns a vault over the directory that only reads. It creates nothing, and every call that would change a file
+    /// fails. Other vaults that only read can share the directory with it.
+    pub fn open_for_reading(
+        rt: R,
+        alloc: Global,
+        directory: &str,
+    ) -> Result<DirVault<R>, AllocError>
+        ensures { IfOk result (λ vault. directory_faults vault ≡ 0) }
+    {
+        let files = FileTable::open(&rt, alloc, directory, Access::Read)?;
+        Ok(DirVault {
+            rt,
+            files,
+            faults: 0,
+        })
+    }
+
+    /// Counts a fault, and writes the reason of the first.
+    fn fail(&mut self, reason: &io::Error) -> Failed
+        ensures rose { Rose (directory_faults self.old) (directory_faults self.new) }
+        ensures stays { directory_faults self.old ≤ directory_faults self.new }
+    {
+        if self.faults == 0 {
+            // An error of writing this line cannot be reported.
+            let path = self.files.path();
+            let _ = eprintln!(self.rt; "{path}: {reason}");
+        }
+        self.faults = self.faults.saturating_add(1);
+        Failed
+    }
+}
+
+impl<R: Files<File = File> + Eprint + Drop> Vault for DirVault<R> {
+    ghost is_told = { ⊥ };
+
+    ghost past = { λ _. [] };
+
+    ghost faults = { directory_faults };
+
+    fn length(&mut self, file: u64) -> Result<u64, Failed> {
+        match self.files.length(&self.rt, file) {
+            Ok(length) => Ok(length),
+            Err(reason) => Err(self.fail(&reason)),
+        }
+    }
+
+    fn read(&mut self, file: u64, at: u64, buf: &mut [u8]) -> Result<usize, Failed> {
+        match self.files.read(&self.rt, file, at, buf) {
+            Ok(count) => Ok(count),
+            Err(reason) => Err(self.fail(&reason)),
+        }
+    }
+
+    fn write_at(&mut self, file: u64, at: u64, piece: &[u8]) -> Result<(), Failed> {
+        match self.files.write_at(&self.rt, file, at, piece) {
+            Ok(()) => Ok(()),
+            Err(reason) => Err(self.fail(&reason)),
+        }
+    }
+
+    fn cut(&mut self, file: u64, length: u64) -> Result<(), Failed> {
+        match self.files.cut(&self.rt, file, length) {
+            Ok(()) => Ok(()),
+            Err(reason) => Err(self.fail(&reason)),
+        }
+    }
+
+    fn sync(&mut self, file: u64) -> Result<(), Failed> {
+        match self.files.sync(&self.rt, file) {
+            Ok(()) => Ok(()),
+            Err(reason) => Err(self.fail(&reason)),
+        }
+    }
+
+    fn remove(&mut self, file: u64) -> Result<(), Failed> {
+        match self.files.remove(&self.rt, file) {
+            Ok(()) => Ok(()),
+            Err(reason) => Err(self.fail(&reason)),
+        }
+    }
+
+    fn faults(&self) -> u64 {
+        self.faults
+    }
+}

@@ -1,0 +1,345 @@
+//! The files of a directory, with the handles that are open. This is the edge where the program meets the file system:
+//! no clause says what these functions do there.
+ghost use Rattle.std.specs.Prelude.{◌<◌, ◌≤◌, IfOk, IfSome, length, vec_len};
+
+use std::alloc::{AllocError, Global};
+use std::fs::{File, Files, OpenOptions, TryLockError};
+use std::io::ErrorKind;
+use std::os::unix::fs::FileExt;
+use std::{fs, io};
+
+/// How many files are open at once at most.
+const OPEN_FILES: usize = 64;
+
+/// How many digits a file's number has at most.
+const DIGITS: usize = 20;
+
+/// How many bytes one write to the system has at most.
+const PIECE_LEN: usize = 1_048_576;
+
+/// Whether files may be changed.
+#[derive(Clone, Copy, Debug, PartialEq, Eq)]
+pub enum Access {
+    Read,
+    Write,
+}
+
+/// A file that was changed since it was last synced. It stays open until it is synced, since the system tells an
+/// error of writing back only to handles that were open when it came.
+#[derive(Drop)]
+struct OpenFile {
+    number: u64,
+    handle: File,
+}
+
+/// The files of a directory.
+#[derive(Drop)]
+pub struct FileTable {
+    access: Access,
+    /// The directory, which is locked. There is none where it cannot be used.
+    directory: Option<File>,
+    /// Why the directory cannot be used, until a call said it.
+    refused: Option<io::Error>,
+    /// The directory's path.
+    name: String,
+    /// The path of the file that was used last. It has room for that of every file.
+    path: String,
+    changed: Vec<OpenFile>,
+    /// Whether a file may have been created or removed since the directory was last synced.
+    names_changed: bool,
+}
+
+impl FileTable {
+    /// Returns the files of the directory, and locks it. All memory is taken here.
+    pub fn open<R: Files<File = File>>(
+        rt: &R,
+        alloc: Global,
+        directory: &str,
+        access: Access,
+    ) -> Result<FileTable, AllocError> {
+        let name = String::from_str(alloc, directory)?;
+        let mut path = String::from_str(alloc, directory)?;
+        path.reserve(DIGITS + 1)?;
+        let mut changed = Vec::new(alloc);
+        changed.reserve(OPEN_FILES)?;
+        let (directory, refused) = match lock_directory(rt, directory, access) {
+            Ok(handle) => (Some(handle), None),
+            Err(reason) => (None, Some(reason)),
+        };
+        Ok(FileTable {
+            access,
+            directory,
+            refused,
+            name,
+            path,
+            changed,
+            names_changed: true,
+        })
+    }
+
+    /// Returns the path that was used last.
+    pub fn path(&self) -> &str {
+        self.path.as_str()
+    }
+
+    /// Returns the length of the file.
+    pub fn length<R: Files<File = File>>(&mut self, rt: &R, file: u64) -> io::Result<u64> {
+        self.find(file)?;
+        if let Some(i) = self.place(file) {
+            return Ok(self.changed[i].handle.metadata()?.len());
+        }
+        match fs::metadata(rt, self.path.as_str()) {
+            Ok(metadata) => Ok(metadata.len()),
+            Err(reason) if reason.kind() == ErrorKind::NotFound => Ok(0),
+            Err(reason) => Err(reason),
+        }
+    }
+
+    /// Reads the file's bytes from `at` on, as many as there are and fit.
+    pub fn read<R: Files<File = File>>(
+        &mut self,
+        rt: &R,
+        file: u64,
+        at: u64,
+        buf: &mut [u8],
+    ) -> io::Result<usize>
+        ensures { IfOk result (λ n. n ≤ length buf.new) }
+    {
+        self.find(file)?;
+        if let Some(i) = self.place(file) {
+            return read_all_at(&self.changed[i].handle, at, buf);
+        }
+        match File::open(rt, self.path.as_str()) {
+            Ok(handle) => read_all_at(&handle, at, buf),
+            Err(reason) if reason.kind() == ErrorKind::NotFound => Ok(0),
+            Err(reason) => Err(reason),
+        }
+    }
+
+    /// Writes the piece at `at`. A missing file is created.
+    pub fn write_at<R: Files<File = File>>(
+        &mut self,
+        rt: &R,
+        file: u64,
+        at: u64,
+        piece: &[u8],
+    ) -> io::Result<()> {
+        self.find_for_change(file)?;
+        if self.place(file).is_none() {
+            let handle = self.open_or_create(rt)?;
+            self.keep_open(file, handle)?;
+        }
+        match self.place(file) {
+            Some(i) => write_all_at(&self.changed[i].handle, at, piece),
+            None => Err(io::Error::from(ErrorKind::OutOfMemory)),
+        }
+    }
+
+    /// Shortens the file. A shorter or a missing one stays as it is.
+    pub fn cut<R: Files<File = File>>(&mut self, rt: &R, file: u64, length: u64) -> io::Result<()> {
+        self.find_for_change(file)?;
+        if self.place(file).is_none() {
+            match changing().open(rt, self.path.as_str()) {
+                Ok(handle) => self.keep_open(file, handle)?,
+                Err(reason) if reason.kind() == ErrorKind::NotFound => return Ok(()),
+                Err(reason) => return Err(reason),
+            }
+        }
+        match self.place(file) {
+            Some(i) => shorten(&self.changed[i].handle, length),
+            None => Err(io::Error::from(ErrorKind::OutOfMemory)),
+        }
+    }
+
+    /// Removes the file.
+    pub fn remove<R: Files<File = File>>(&mut self, rt: &R, file: u64) -> io::Result<()> {
+        self.find_for_change(file)?;
+        if let Some(i) = self.place(file) {
+            self.changed.swap_remove(i);
+        }
+        self.names_changed = true;
+        match fs::remove_file(rt, self.path.as_str()) {
+            Err(reason) if reason.kind() != ErrorKind::NotFound => Err(reason),
+            _ => Ok(()),
+        }
+    }
+
+    /// Syncs the file, and the directory where a file was created or removed since it was last synced.
+    pub fn sync<R: Files<File = File>>(&mut self, rt: &R, file: u64) -> io::Result<()> {
+        self.find(file)?;
+        match self.place(file) {
+            Some(i) => {
+                self.changed[i].handle.sync_all()?;
+                self.changed.swap_remove(i);
+            }
+            None => sync_closed(rt, self.path.as_str())?,
+        }
+        self.sync_names()
+    }
+
+    /// Syncs the directory where a file was created or removed since it was last synced.
+    fn sync_names(&mut self) -> io::Result<()> {
+        if let Some(directory) = &self.directory {
+            if self.names_changed {
+                directory.sync_all()?;
+                self.names_changed = false;
+            }
+        }
+        Ok(())
+    }
+
+    /// Sets the path to that of the file. It fails where the directory cannot be used.
+    fn find(&mut self, file: u64) -> io::Result<()> {
+        if self.directory.is_none() {
+            let reason = self.refused.take();
+            return Err(reason.unwrap_or(io::Error::from(ErrorKind::NotFound)));
+        }
+        self.path.clear();
+        match write!(self.path, "{}/{file}", self.name) {
+            Ok(()) => Ok(()),
+            Err(_) => Err(io::Error::from(ErrorKind::OutOfMemory)),
+        }
+    }
+
+    /// As `find`, for a call that changes the file.
+    fn find_for_change(&mut self, file: u64) -> io::Result<()> {
+        self.find(file)?;
+        match self.access {
+            Access::Write => Ok(()),
+            Access::Read => Err(io::Error::new(
+                ErrorKind::PermissionDenied,
+                "the directory was opened for reading only",
+            )),
+        }
+    }
+
+    /// Returns where the file stands among the open ones.
+    fn place(&self, file: u64) -> Option<usize>
+        ensures { IfSome result (λ i. i < vec_len self.now.changed) }
+    {
+        self.changed.iter().position(|kept| kept.number == file)
+    }
+
+    /// Opens the file at the path for a change, and creates it if it is missing.
+    fn open_or_create<R: Files<File = File>>(&mut self, rt: &R) -> io::Result<File> {
+        match changing().open(rt, self.path.as_str()) {
+            Err(reason) if reason.kind() == ErrorKind::NotFound => {
+                self.names_changed = true;
+                changing().create(true).open(rt, self.path.as_str())
+            }
+            opened => opened,
+        }
+    }
+
+    /// Keeps the file open until it is synced. Where too many are open, the one that was opened first is synced.
+    fn keep_open(&mut self, number: u64, handle: File) -> io::Result<()> {
+        if self.changed.len() >= OPEN_FILES {
+            self.changed[0].handle.sync_all()?;
+            self.changed.remove(0);
+        }
+        match self.changed.push(OpenFile { number, handle }) {
+            Ok(()) => Ok(()),
+            Err(_) => Err(io::Error::from(ErrorKind::OutOfMemory)),
+        }
+    }
+}
+
+/// Returns how a file is opened for a change.
+fn changing() -> OpenOptions {
+    let mut how = OpenOptions::new();
+    how.read(true).write(true);
+    how
+}
+
+/// Shortens the file, which is never lengthened.
+fn shorten(handle: &File, length: u64) -> io::Result<()> {
+    if handle.metadata()?.len() > length {
+        handle.set_len(length)?;
+    }
+    Ok(())
+}
+
+/// Syncs a file that is not open. An earlier program may have changed it. A missing one has nothing to sync.
+fn sync_closed<R: Files<File = File>>(rt: &R, path: &str) -> io::Result<()> {
+    match File::open(rt, path) {
+        Ok(handle) => handle.sync_all(),
+        Err(reason) if reason.kind() == ErrorKind::NotFound => Ok(()),
+        Err(reason) => Err(reason),
+    }
+}
+
+/// Reads until the buffer is full or the file ends.
+fn read_all_at(handle: &File, at: u64, buf: &mut [u8]) -> io::Result<usize>
+    ensures { IfOk result (λ n. n ≤ length buf.new) }
+{
+    let mut done = 0;
+    for _ in 0..u64::MAX {
+        if done >= buf.len() {
+            break;
+        }
+        match handle.read_at(&mut buf[done..], at.saturating_add(done as u64)) {
+            Ok(0) => break,
+            Ok(count) => done += count,
+            Err(reason) if reason.kind() == ErrorKind::Interrupted => {}
+            Err(reason) => return Err(reason),
+        }
+    }
+    Ok(done)
+}
+
+/// Writes the whole piece.
+fn write_all_at(handle: &File, at: u64, piece: &[u8]) -> io::Result<()> {
+    let mut done = 0;
+    for _ in 0..u64::MAX {
+        if done >= piece.len() {
+            break;
+        }
+        let end = piece.len().min(done.saturating_add(PIECE_LEN));
+        match handle.write_at(&piece[done..end], at.saturating_add(done as u64)) {
+            Ok(0) => return Err(io::Error::from(ErrorKind::WriteZero)),
+            Ok(count) => done += count,
+            Err(reason) if reason.kind() == ErrorKind::Interrupted => {}
+            Err(reason) => return Err(reason),
+        }
+    }
+    Ok(())
+}
+
+/// Opens the directory and locks it. For writing it is created if it does not exist.
+fn lock_directory<R: Files<File = File>>(rt: &R, path: &str, access: Access) -> io::Result<File> {
+    if access == Access::Write {
+        create_directory(rt, path)?;
+    }
+    let directory = File::open(rt, path)?;
+    let locked = match access {
+        Access::Read => directory.try_lock_shared(),
+        Access::Write => directory.try_lock(),
+    };
+    match locked {
+        Ok(()) => Ok(directory),
+        Err(TryLockError::WouldBlock) => Err(io::Error::new(
+            ErrorKind::WouldBlock,
+            "another program uses this directory",
+        )),
+        Err(TryLockError::Error(reason)) => Err(reason),
+    }
+}
+
+/// Creates the directory if it does not exist, and then syncs the directory that it stands in.
+fn create_directory<R: Files<File = File>>(rt: &R, path: &str) -> io::Result<()> {
+    match fs::create_dir(rt, path) {
+        Ok(()) => File::open(rt, parent(path))?.sync_all(),
+        Err(reason) if reason.kind() == ErrorKind::AlreadyExists => Ok(()),
+        Err(reason) => Err(reason),
+    }
+}
+
+/// Returns the path of the directory that this one stands in.
+fn parent(path: &str) -> &str {
+    let name = path.trim_end_matches('/');
+    match name.rfind('/') {
+        Some(0) => "/",
+        Some(slash) => &name[..slash],
+        None => ".",
+    }
+}
