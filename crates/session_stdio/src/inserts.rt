@@ -66,7 +66,8 @@ fn callers_of(
     Ok(callers)
 }
 
-/// Inserts the lines in this many threads beside this one, as far as there are passes, and says whether all was inserted.
+/// Inserts the lines in this many threads beside this one, as far as there are passes, and says whether all was
+/// inserted.
 pub(crate) fn insert_all<R: AllocGlobal + Threads + Wait + Sync>(
     rt: &R,
     desk: &Desk,
