@@ -1,4 +1,4 @@
-// Functions of the pipe STATS, and the names of their values.
+// The functions of the pipe STATS, and the names of their values.
 ghost use Rattle.std.specs.Prelude.{◌≡◌, ◌++◌, ℕ, IfOk};
 ghost use Rattle.std.specs.List.{join_with_byte};
 ghost use Rattle.lq_grammar.specs.LogsQL.{counted, name_call, call_of_one, call, naming};
@@ -13,7 +13,7 @@ use lq_parse_filter::{field_named, name};
 use std::alloc::{AllocError, Global};
 use vl_row::{Items, Text};
 
-/// Returns the fields whose records COUNT counts, which are none for all records.
+/// Parses the fields that COUNT looks at. There are none where it counts all records.
 #[tactic(auto, unfolding(lq_grammar::specs::LogsQL::counted))]
 fn counted<'t>(alloc: Global, tokens: &'t [Item]) -> Result<(Items<Text>, &'t [Item]), Stop>
     ensures { (depth : ℕ) → Gives (λ x. (x.0, x.1.now)) result (at_of depth counted tokens.now) }
@@ -27,7 +27,7 @@ fn counted<'t>(alloc: Global, tokens: &'t [Item]) -> Result<(Items<Text>, &'t [I
     Ok((Items::of(Vec::new(alloc)), tokens))
 }
 
-/// Returns a function of one field, and what follows its word.
+/// Parses the word of a function of one field.
 #[tactic(auto, unfolding(lq_grammar::specs::LogsQL::name_call))]
 fn name_call(tokens: &[Item]) -> Result<(Call, &[Item]), Stop>
     ensures { (depth : ℕ) → Gives (λ x. (x.0, x.1.now)) result (at_of depth name_call tokens.now) }
@@ -45,7 +45,7 @@ fn name_call(tokens: &[Item]) -> Result<(Call, &[Item]), Stop>
     Ok((Call::UniqValues, rest))
 }
 
-/// Returns a function and its fields.
+/// Parses a function and its fields.
 #[tactic(auto, unfolding(lq_grammar::specs::LogsQL::call))]
 pub(crate) fn call<'t>(
     alloc: Global,
@@ -70,7 +70,7 @@ pub(crate) fn call<'t>(
     call_of_one(alloc, tokens)
 }
 
-/// Returns a function of one field, and the field.
+/// Parses a function of one field, and the field.
 #[tactic(auto, unfolding(lq_grammar::specs::LogsQL::call_of_one))]
 fn call_of_one<'t>(
     alloc: Global,
@@ -87,7 +87,7 @@ fn call_of_one<'t>(
     Ok(((call, Items::of(names)), rest))
 }
 
-/// Returns a name for a value, after AS or without it, where it has one of these roles.
+/// Parses the name of a value: any name after AS, or a name with one of these roles. Both may be missing.
 #[tactic(auto, unfolding(lq_grammar::specs::LogsQL::naming))]
 pub(crate) fn naming<'t>(
     alloc: Global,
@@ -107,7 +107,7 @@ pub(crate) fn naming<'t>(
     Ok((None, tokens))
 }
 
-/// Returns the name of a value that is given none: `count()`, `sum(x)` or `count_uniq(a,b)`.
+/// Returns the name of a value without a name of its own, such as `count()`, `sum(x)` or `count_uniq(a,b)`.
 pub(crate) fn call_text(alloc: Global, call: Call, names: &[Text]) -> Result<Text, AllocError>
     ensures { IfOk result (λ text. text ≡ text_of_call (call, names.now)) }
 {
@@ -118,7 +118,7 @@ pub(crate) fn call_text(alloc: Global, call: Call, names: &[Text]) -> Result<Tex
     Ok(text)
 }
 
-/// Appends names with commas between.
+/// Appends names with commas between them.
 fn push_joined(alloc: Global, names: &[Text], text: &mut Text) -> Result<(), AllocError>
     ensures { IfOk result (λ _. text.new ≡ text.old ++ join_with_byte 44 names.now) }
 {

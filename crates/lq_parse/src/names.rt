@@ -11,7 +11,7 @@ use lq_parse_filter::{name, size_of};
 use std::alloc::Global;
 use vl_row::{Items, Text};
 
-/// One name or more, with commas between.
+/// Parses one name or more, with commas between them.
 #[tactic(auto, unfolding(lq_grammar::specs::LogsQL::names), using(grammar::proofs::Turns::list_steps))]
 pub(crate) fn names<'t>(
     alloc: Global,
@@ -30,7 +30,7 @@ pub(crate) fn names<'t>(
     Ok((Items::of(names), rest))
 }
 
-/// Names in parentheses.
+/// Parses names in parentheses.
 #[tactic(auto, unfolding(lq_grammar::specs::LogsQL::name_list))]
 pub(crate) fn name_list<'t>(
     alloc: Global,
@@ -44,7 +44,7 @@ pub(crate) fn name_list<'t>(
     Ok((names, rest))
 }
 
-/// Returns the name that a field gets, after AS or without it.
+/// Parses the new name of a field, after AS or without it.
 #[tactic(auto, unfolding(lq_grammar::specs::LogsQL::new_name))]
 fn new_name<'t>(alloc: Global, tokens: &'t [Item]) -> Result<(Text, &'t [Item]), Stop>
     ensures { (depth : ℕ) → Gives (λ x. (x.0, x.1.now)) result (at depth new_name tokens.now) }
@@ -55,7 +55,7 @@ fn new_name<'t>(alloc: Global, tokens: &'t [Item]) -> Result<(Text, &'t [Item]),
     name(alloc, tokens, LIST_NAMES)
 }
 
-/// Returns a name, and the one that its field gets.
+/// Parses the name of a field, and its new name.
 #[tactic(auto, unfolding(lq_grammar::specs::LogsQL::pair))]
 fn pair<'t>(alloc: Global, tokens: &'t [Item]) -> Result<(Pair, &'t [Item]), Stop>
     ensures { (depth : ℕ) → Gives (λ x. (name_pair x.0, x.1.now)) result (at depth pair tokens.now) }
@@ -65,7 +65,7 @@ fn pair<'t>(alloc: Global, tokens: &'t [Item]) -> Result<(Pair, &'t [Item]), Sto
     Ok((Pair { from, to }, rest))
 }
 
-/// One pair of names or more, with commas between.
+/// Parses one pair of names or more, with commas between them.
 #[tactic(auto, unfolding(lq_grammar::specs::LogsQL::pairs), using(grammar::proofs::Turns::list_steps))]
 pub(crate) fn pairs<'t>(
     alloc: Global,
@@ -84,7 +84,7 @@ pub(crate) fn pairs<'t>(
     Ok((Items::of(pairs), rest))
 }
 
-/// Returns a number of records.
+/// Parses a number of records.
 #[tactic(auto, unfolding(lq_grammar::specs::LogsQL::count))]
 pub(crate) fn count(tokens: &[Item]) -> Result<(u64, &[Item]), Stop>
     ensures { (depth : ℕ) → Gives (λ x. (x.0, x.1.now)) result (at depth count tokens.now) }
@@ -96,7 +96,7 @@ pub(crate) fn count(tokens: &[Item]) -> Result<(u64, &[Item]), Stop>
     }
 }
 
-/// Returns a number of records after LIMIT, or none.
+/// Parses LIMIT with a number of records, which may be missing.
 #[tactic(auto, unfolding(lq_grammar::specs::LogsQL::limit))]
 pub(crate) fn limit(tokens: &[Item]) -> Result<(Option<u64>, &[Item]), Stop>
     ensures { (depth : ℕ) → Gives (λ x. (x.0, x.1.now)) result (at depth limit tokens.now) }

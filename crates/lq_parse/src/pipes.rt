@@ -19,7 +19,7 @@ use vl_row::Items;
 /// How many parentheses and negations may be open at one place.
 pub(crate) const MOST_OPEN: u32 = 64;
 
-/// SORT, UNIQ, STATS or TOP.
+/// Parses SORT, UNIQ, STATS or TOP.
 #[tactic(auto, unfolding(lq_grammar::specs::LogsQL::group_pipe))]
 fn group_pipe<'t>(alloc: Global, tokens: &'t [Item], depth: u32) -> Result<(Pipe, &'t [Item]), Stop>
     ensures { Gives (λ x. (stage x.0, x.1.now)) result (at_of depth group_pipe tokens.now) }
@@ -37,7 +37,7 @@ fn group_pipe<'t>(alloc: Global, tokens: &'t [Item], depth: u32) -> Result<(Pipe
     top_pipe(alloc, rest)
 }
 
-/// LIMIT, OFFSET, FILTER, or one that makes other records.
+/// Parses LIMIT, OFFSET, FILTER or a pipe that makes other records.
 #[tactic(auto, unfolding(lq_grammar::specs::LogsQL::record_pipe))]
 fn record_pipe<'t>(
     alloc: Global,
@@ -61,7 +61,7 @@ fn record_pipe<'t>(
     group_pipe(alloc, tokens, depth)
 }
 
-/// One pipe.
+/// Parses a pipe.
 #[tactic(auto, unfolding(lq_grammar::specs::LogsQL::pipe))]
 fn pipe<'t>(alloc: Global, tokens: &'t [Item], depth: u32) -> Result<(Pipe, &'t [Item]), Stop>
     ensures { Gives (λ x. (stage x.0, x.1.now)) result (at_of depth pipe tokens.now) }
@@ -85,7 +85,7 @@ fn pipe<'t>(alloc: Global, tokens: &'t [Item], depth: u32) -> Result<(Pipe, &'t 
     record_pipe(alloc, tokens, depth)
 }
 
-/// Returns the pipes that follow a filter, each after a bar.
+/// Parses the pipes after a filter, each after a bar.
 #[tactic(auto, unfolding(lq_grammar::specs::LogsQL::pipes), using(grammar::proofs::Turns::list_steps))]
 pub(crate) fn pipes<'t>(
     alloc: Global,

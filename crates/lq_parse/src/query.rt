@@ -30,7 +30,7 @@ pub fn parse(alloc: Global, s: &str) -> Result<Query, QueryFault>
     query_of(alloc, &items, s)
 }
 
-/// Returns the query that the tokens of a text spell.
+/// Parses the tokens of a text as a query.
 fn query_of(alloc: Global, tokens: &[Item], text: &str) -> Result<Query, QueryFault>
     requires { HasItems text.now tokens.now }
     ensures { result ≢ Err QueryFault.Memory → QueryOf text.now (outcome result) }
@@ -41,7 +41,7 @@ fn query_of(alloc: Global, tokens: &[Item], text: &str) -> Result<Query, QueryFa
     }
 }
 
-/// Returns the query that all these tokens spell.
+/// Parses all these tokens as a query.
 #[tactic(auto, unfolding(lq_grammar::specs::LogsQL::query))]
 fn whole(alloc: Global, tokens: &[Item]) -> Result<Query, Stop>
     ensures { Gives question result (reading tokens.now) }
@@ -54,7 +54,7 @@ fn whole(alloc: Global, tokens: &[Item]) -> Result<Query, Stop>
     }
 }
 
-/// Returns the fault of a reader of all tokens of a text, with its place.
+/// Returns the fault of a text, with its place, by where the reader of all its tokens stopped.
 fn fault_of(stop: Stop, tokens: &[Item], text: &str) -> QueryFault
     requires text { HasItems text.now tokens.now }
     requires stops { Gives question (Err stop) (reading tokens.now) }

@@ -14,7 +14,7 @@ use lq_parse_filter::name;
 use std::alloc::Global;
 use vl_row::Items;
 
-/// Returns whether DESC stands here, and what follows it or ASC.
+/// Parses DESC or ASC, which may be missing, and returns whether it is DESC.
 #[tactic(auto, unfolding(lq_grammar::specs::LogsQL::direction))]
 fn direction(tokens: &[Item]) -> (bool, &[Item])
     ensures { (depth : ℕ) → at depth direction tokens.now ≡ Ok (result.0, result.1.now) }
@@ -28,7 +28,7 @@ fn direction(tokens: &[Item]) -> (bool, &[Item])
     (false, tokens)
 }
 
-/// Returns a key.
+/// Parses a key.
 #[tactic(auto, unfolding(lq_grammar::specs::LogsQL::sort_key))]
 fn sort_key<'t>(alloc: Global, tokens: &'t [Item]) -> Result<(SortKey, &'t [Item]), Stop>
     ensures { (depth : ℕ) → Gives (λ x. (sort_by x.0, x.1.now)) result (at depth sort_key tokens.now) }
@@ -38,7 +38,7 @@ fn sort_key<'t>(alloc: Global, tokens: &'t [Item]) -> Result<(SortKey, &'t [Item
     Ok((SortKey { name, desc }, rest))
 }
 
-/// One key or more, with commas between.
+/// Parses one key or more, with commas between them.
 #[tactic(auto, unfolding(lq_grammar::specs::LogsQL::sort_keys), using(grammar::proofs::Turns::list_steps))]
 fn sort_keys<'t>(alloc: Global, tokens: &'t [Item]) -> Result<(Vec<SortKey>, &'t [Item]), Stop>
     ensures { (depth : ℕ) → Gives (λ x. (map sort_by x.0.items, x.1.now)) result (at depth sort_keys tokens.now) }
@@ -54,7 +54,7 @@ fn sort_keys<'t>(alloc: Global, tokens: &'t [Item]) -> Result<(Vec<SortKey>, &'t
     Ok((keys, rest))
 }
 
-/// Returns a number of records after OFFSET, or 0.
+/// Parses OFFSET with a number of records, which is 0 where it is missing.
 #[tactic(auto, unfolding(lq_grammar::specs::LogsQL::offset))]
 fn offset(tokens: &[Item]) -> Result<(u64, &[Item]), Stop>
     ensures { (depth : ℕ) → Gives (λ x. (x.0, x.1.now)) result (at depth offset tokens.now) }
@@ -65,7 +65,7 @@ fn offset(tokens: &[Item]) -> Result<(u64, &[Item]), Stop>
     Ok((0, tokens))
 }
 
-/// LIMIT and OFFSET in either order, each once at most.
+/// Parses LIMIT and OFFSET in either order. Both may be missing.
 #[tactic(auto, unfolding(lq_grammar::specs::LogsQL::cut))]
 fn cut(tokens: &[Item]) -> Result<((Option<u64>, u64), &[Item]), Stop>
     ensures { (depth : ℕ) → Gives (λ x. ((x.0.0, x.0.1), x.1.now)) result (at depth cut tokens.now) }
@@ -83,7 +83,7 @@ fn cut(tokens: &[Item]) -> Result<((Option<u64>, u64), &[Item]), Stop>
     Ok(((None, 0), tokens))
 }
 
-/// Returns what is reported after the keys.
+/// Parses what follows the keys of SORT.
 #[tactic(auto, unfolding(lq_grammar::specs::LogsQL::sort_end))]
 fn sort_end<'t>(tokens: &'t [Item], keys: Vec<SortKey>) -> Result<(Pipe, &'t [Item]), Stop>
     ensures { (depth : ℕ) → Gives (λ x. (stage x.0, x.1.now)) result
@@ -102,7 +102,7 @@ fn sort_end<'t>(tokens: &'t [Item], keys: Vec<SortKey>) -> Result<(Pipe, &'t [It
     ))
 }
 
-/// Returns the keys, each the other way round where `descending` is set.
+/// Returns the keys, each with its direction reversed where `descending` is set.
 #[tactic(auto, using(crate::proofs::Turned::unturned))]
 fn turned(keys: Vec<SortKey>, descending: bool) -> Items<SortKey>
     ensures { map sort_by result ≡ map (turned_round descending) (map sort_by keys.items) }
@@ -113,7 +113,7 @@ fn turned(keys: Vec<SortKey>, descending: bool) -> Items<SortKey>
     Items::of(keys)
 }
 
-/// Returns the keys, each the other way round.
+/// Returns the keys, each with its direction reversed.
 fn all_turned(mut keys: Vec<SortKey>) -> Vec<SortKey>
     ensures { map sort_by result.items ≡ map (turned_round true) (map sort_by keys.items) }
 {
@@ -124,7 +124,7 @@ fn all_turned(mut keys: Vec<SortKey>) -> Vec<SortKey>
     keys
 }
 
-/// Returns the pipe after its word, but for BY.
+/// Parses what follows SORT and BY.
 #[tactic(auto, unfolding(lq_grammar::specs::LogsQL::sort_rest))]
 fn sort_rest<'t>(alloc: Global, tokens: &'t [Item]) -> Result<(Pipe, &'t [Item]), Stop>
     ensures { (depth : ℕ) → Gives (λ x. (stage x.0, x.1.now)) result (at depth sort_rest tokens.now) }
@@ -135,7 +135,7 @@ fn sort_rest<'t>(alloc: Global, tokens: &'t [Item]) -> Result<(Pipe, &'t [Item])
     sort_end(rest, keys)
 }
 
-/// Returns the pipe after its word.
+/// Parses what follows SORT.
 #[tactic(auto, unfolding(lq_grammar::specs::LogsQL::sort_pipe))]
 pub(crate) fn sort_pipe<'t>(alloc: Global, tokens: &'t [Item]) -> Result<(Pipe, &'t [Item]), Stop>
     ensures { (depth : ℕ) → Gives (λ x. (stage x.0, x.1.now)) result (at depth sort_pipe tokens.now) }

@@ -24,7 +24,7 @@ pub(crate) struct FuncEnd {
     pub(crate) name: Option<Text>,
 }
 
-/// Returns a duration that is not zero.
+/// Parses the length of a bucket: a duration above zero.
 #[tactic(auto, unfolding(lq_grammar::specs::LogsQL::step))]
 fn step(tokens: &[Item]) -> Result<(i64, &[Item]), Stop>
     ensures { (depth : ℕ) → Gives (λ x. (x.0, x.1.now)) result (at_of depth step tokens.now) }
@@ -36,7 +36,7 @@ fn step(tokens: &[Item]) -> Result<(i64, &[Item]), Stop>
     }
 }
 
-/// Returns a step after a colon, or none.
+/// Parses a colon with the length of a bucket, which may be missing.
 #[tactic(auto, unfolding(lq_grammar::specs::LogsQL::step_end))]
 fn step_end(tokens: &[Item]) -> Result<(Option<i64>, &[Item]), Stop>
     ensures { (depth : ℕ) → Gives (λ x. (x.0, x.1.now)) result (at_of depth step_end tokens.now) }
@@ -48,7 +48,7 @@ fn step_end(tokens: &[Item]) -> Result<(Option<i64>, &[Item]), Stop>
     Ok((None, tokens))
 }
 
-/// Returns a key.
+/// Parses a key.
 #[tactic(auto, unfolding(lq_grammar::specs::LogsQL::key))]
 fn key<'t>(alloc: Global, tokens: &'t [Item]) -> Result<(StatKey, &'t [Item]), Stop>
     ensures { (depth : ℕ) → Gives (λ x. (group_by x.0, x.1.now)) result (at_of depth key tokens.now) }
@@ -61,7 +61,7 @@ fn key<'t>(alloc: Global, tokens: &'t [Item]) -> Result<(StatKey, &'t [Item]), S
     plain_key(alloc, tokens, KEY_NAMES)
 }
 
-/// Returns a key without a step, which is a name that has one of these roles.
+/// Parses a key that is only a name, of one of these roles.
 fn plain_key<'t>(
     alloc: Global,
     tokens: &'t [Item],
@@ -75,7 +75,7 @@ fn plain_key<'t>(
     Ok((StatKey { name, step: None }, rest))
 }
 
-/// One key or more, with commas between.
+/// Parses one key or more, with commas between them.
 #[tactic(auto, unfolding(lq_grammar::specs::LogsQL::keys), using(grammar::proofs::Turns::list_steps))]
 fn keys<'t>(alloc: Global, tokens: &'t [Item]) -> Result<(Items<StatKey>, &'t [Item]), Stop>
     ensures { (depth : ℕ) → Gives (λ x. (map group_by x.0, x.1.now)) result (at_of depth keys tokens.now) }
@@ -91,7 +91,7 @@ fn keys<'t>(alloc: Global, tokens: &'t [Item]) -> Result<(Items<StatKey>, &'t [I
     Ok((Items::of(keys), rest))
 }
 
-/// Keys in parentheses, after BY or without it, or none.
+/// Parses keys in parentheses, after BY or without it. They may be missing.
 #[tactic(auto, unfolding(lq_grammar::specs::LogsQL::groups_by, lq_grammar::specs::LogsQL::key_list))]
 fn groups_by<'t>(alloc: Global, tokens: &'t [Item]) -> Result<(Items<StatKey>, &'t [Item]), Stop>
     ensures { (depth : ℕ) → Gives (λ x. (map group_by x.0, x.1.now)) result (at_of depth groups_by tokens.now) }
@@ -105,7 +105,7 @@ fn groups_by<'t>(alloc: Global, tokens: &'t [Item]) -> Result<(Items<StatKey>, &
     Ok((Items::of(Vec::new(alloc)), tokens))
 }
 
-/// Keys in parentheses.
+/// Parses keys in parentheses.
 #[tactic(auto, unfolding(lq_grammar::specs::LogsQL::key_list))]
 fn key_list<'t>(alloc: Global, tokens: &'t [Item]) -> Result<(Items<StatKey>, &'t [Item]), Stop>
     ensures { (depth : ℕ) → Gives (λ x. (map group_by x.0, x.1.now)) result (at_of depth key_list tokens.now) }
@@ -116,7 +116,7 @@ fn key_list<'t>(alloc: Global, tokens: &'t [Item]) -> Result<(Items<StatKey>, &'
     Ok((keys, rest))
 }
 
-/// Returns what stands after the word IF: a filter in parentheses, or else the word is a name.
+/// Parses what follows IF: a filter in parentheses and a name. Without the filter the word itself is the name.
 #[tactic(auto, unfolding(lq_grammar::specs::LogsQL::if_end))]
 fn if_end<'t>(
     alloc: Global,
@@ -137,7 +137,7 @@ fn if_end<'t>(
     Ok((FuncEnd { only: None, name }, tokens))
 }
 
-/// Returns a condition after IF and a name, which may both be missing.
+/// Parses IF with a condition, and a name. Both may be missing.
 #[tactic(auto, unfolding(lq_grammar::specs::LogsQL::func_end))]
 fn func_end<'t>(
     alloc: Global,
@@ -153,7 +153,7 @@ fn func_end<'t>(
     Ok((FuncEnd { only: None, name }, rest))
 }
 
-/// Returns a function with its condition and the name of its value.
+/// Parses a function with its condition and the name of its value.
 #[tactic(auto, unfolding(lq_grammar::specs::LogsQL::func))]
 fn func<'t>(alloc: Global, tokens: &'t [Item], depth: u32) -> Result<(Func, &'t [Item]), Stop>
     ensures { Gives (λ x. (statistic x.0, x.1.now)) result (at_of depth func tokens.now) }
@@ -176,7 +176,7 @@ fn func<'t>(alloc: Global, tokens: &'t [Item], depth: u32) -> Result<(Func, &'t 
     ))
 }
 
-/// One function or more, with commas between.
+/// Parses one function or more, with commas between them.
 #[tactic(auto, unfolding(lq_grammar::specs::LogsQL::funcs), using(grammar::proofs::Turns::list_steps))]
 fn funcs<'t>(
     alloc: Global,
@@ -196,7 +196,7 @@ fn funcs<'t>(
     Ok((Items::of(funcs), rest))
 }
 
-/// Returns the pipe after its word.
+/// Parses what follows STATS.
 #[tactic(auto, unfolding(lq_grammar::specs::LogsQL::stats_pipe))]
 pub(crate) fn stats_pipe<'t>(
     alloc: Global,

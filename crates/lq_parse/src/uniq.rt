@@ -13,7 +13,7 @@ use lq_parse_filter::size_of;
 use std::alloc::Global;
 use vl_row::{Items, Text};
 
-/// Returns whether WITH HITS stands here.
+/// Parses WITH HITS, which may be missing, and returns whether it is there.
 #[tactic(auto, unfolding(lq_grammar::specs::LogsQL::hits))]
 fn hits(tokens: &[Item]) -> Result<(bool, &[Item]), Stop>
     ensures { (depth : ℕ) → Gives (λ x. (x.0, x.1.now)) result (at_of depth hits tokens.now) }
@@ -25,7 +25,7 @@ fn hits(tokens: &[Item]) -> Result<(bool, &[Item]), Stop>
     Ok((false, tokens))
 }
 
-/// Returns what is reported after the names of UNIQ.
+/// Parses what follows the names of UNIQ.
 #[tactic(auto, unfolding(lq_grammar::specs::LogsQL::uniq_end))]
 fn uniq_end<'t>(tokens: &'t [Item], names: Items<Text>) -> Result<(Pipe, &'t [Item]), Stop>
     ensures { (depth : ℕ) → Gives (λ x. (stage x.0, x.1.now)) result
@@ -36,7 +36,7 @@ fn uniq_end<'t>(tokens: &'t [Item], names: Items<Text>) -> Result<(Pipe, &'t [It
     Ok((Pipe::Uniq(UniqPipe { names, hits, limit }), rest))
 }
 
-/// Returns the pipe UNIQ after its word, but for BY.
+/// Parses what follows UNIQ and BY.
 #[tactic(auto, unfolding(lq_grammar::specs::LogsQL::uniq_rest))]
 fn uniq_rest<'t>(alloc: Global, tokens: &'t [Item]) -> Result<(Pipe, &'t [Item]), Stop>
     ensures { (depth : ℕ) → Gives (λ x. (stage x.0, x.1.now)) result (at_of depth uniq_rest tokens.now) }
@@ -45,7 +45,7 @@ fn uniq_rest<'t>(alloc: Global, tokens: &'t [Item]) -> Result<(Pipe, &'t [Item])
     uniq_end(rest, names)
 }
 
-/// Returns the pipe UNIQ after its word.
+/// Parses what follows UNIQ.
 #[tactic(auto, unfolding(lq_grammar::specs::LogsQL::uniq_pipe))]
 pub(crate) fn uniq_pipe<'t>(alloc: Global, tokens: &'t [Item]) -> Result<(Pipe, &'t [Item]), Stop>
     ensures { (depth : ℕ) → Gives (λ x. (stage x.0, x.1.now)) result (at_of depth uniq_pipe tokens.now) }
@@ -56,7 +56,7 @@ pub(crate) fn uniq_pipe<'t>(alloc: Global, tokens: &'t [Item]) -> Result<(Pipe, 
     uniq_rest(alloc, tokens)
 }
 
-/// Returns whether BY stands after a number.
+/// Parses BY, which may be missing, and returns whether it is there.
 #[tactic(auto, unfolding(lq_grammar::specs::LogsQL::most_end))]
 fn most_end(tokens: &[Item]) -> (bool, &[Item])
     ensures { (depth : ℕ) → at_of depth most_end tokens.now ≡ Ok (result.0, result.1.now) }
@@ -67,7 +67,7 @@ fn most_end(tokens: &[Item]) -> (bool, &[Item])
     (false, tokens)
 }
 
-/// BY without a number before it. One before another BY is taken for a number, which it is not.
+/// Parses BY where no number stands before it. A BY before another BY is read as the number, and refused.
 #[tactic(auto, unfolding(lq_grammar::specs::LogsQL::by_most))]
 fn by_most(tokens: &[Item]) -> Result<(u64, &[Item]), Stop>
     ensures { (depth : ℕ) → Gives (λ x. (x.0, x.1.now)) result (at_of depth by_most tokens.now) }
@@ -83,7 +83,7 @@ fn by_most(tokens: &[Item]) -> Result<(u64, &[Item]), Stop>
     }
 }
 
-/// Returns a number, and BY or not.
+/// Parses a number, and BY or nothing after it.
 #[tactic(auto, unfolding(lq_grammar::specs::LogsQL::word_most))]
 fn word_most(tokens: &[Item]) -> Result<(u64, &[Item]), Stop>
     ensures { (depth : ℕ) → Gives (λ x. (x.0, x.1.now)) result (at_of depth word_most tokens.now) }
@@ -96,7 +96,7 @@ fn word_most(tokens: &[Item]) -> Result<(u64, &[Item]), Stop>
     }
 }
 
-/// Returns how many tuples TOP keeps, which are 10 where it does not say.
+/// Parses how many tuples TOP keeps: 10 where the number is missing.
 #[tactic(auto, using(crate::proofs::Most::most_by, crate::proofs::Most::most_word, crate::proofs::Most::most_none))]
 fn most(tokens: &[Item]) -> Result<(u64, &[Item]), Stop>
     ensures { (depth : ℕ) → Gives (λ x. (x.0, x.1.now)) result (at_of depth most tokens.now) }
@@ -110,7 +110,7 @@ fn most(tokens: &[Item]) -> Result<(u64, &[Item]), Stop>
     Ok((10, tokens))
 }
 
-/// Returns the pipe TOP after its word.
+/// Parses what follows TOP.
 #[tactic(auto, unfolding(lq_grammar::specs::LogsQL::top_pipe))]
 pub(crate) fn top_pipe<'t>(alloc: Global, tokens: &'t [Item]) -> Result<(Pipe, &'t [Item]), Stop>
     ensures { (depth : ℕ) → Gives (λ x. (stage x.0, x.1.now)) result (at_of depth top_pipe tokens.now) }

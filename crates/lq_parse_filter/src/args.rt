@@ -10,7 +10,7 @@ use lq_grammar::{BARES, Item, Role, Stop, WORDS};
 use std::alloc::Global;
 use vl_row::Text;
 
-/// One argument.
+/// Parses an argument.
 #[tactic(auto, unfolding(lq_grammar::specs::LogsQL::arg))]
 pub(crate) fn arg<'t>(alloc: Global, tokens: &'t [Item]) -> Result<(Text, &'t [Item]), Stop>
     ensures { (depth : ℕ) → Gives (λ x. (x.0, x.1.now)) result (at_of depth arg tokens.now) }
@@ -33,7 +33,7 @@ fn at_arg(tokens: &[Item]) -> bool
     at(tokens, &[Role::Minus]) || at(tokens, WORDS)
 }
 
-/// One argument or more, with commas between.
+/// Parses one argument or more, with commas between them.
 #[tactic(auto, unfolding(lq_grammar::specs::LogsQL::args), using(grammar::proofs::Turns::list_steps))]
 pub(crate) fn args<'t>(alloc: Global, tokens: &'t [Item]) -> Result<(Vec<Text>, &'t [Item]), Stop>
     ensures { (depth : ℕ) → Gives (λ x. (x.0.items, x.1.now)) result (at_of depth args tokens.now) }
@@ -49,7 +49,7 @@ pub(crate) fn args<'t>(alloc: Global, tokens: &'t [Item]) -> Result<(Vec<Text>, 
     Ok((list, rest))
 }
 
-/// Any number of arguments.
+/// Parses any number of arguments, with commas between them.
 pub(crate) fn texts<'t>(alloc: Global, tokens: &'t [Item]) -> Result<(Vec<Text>, &'t [Item]), Stop>
     ensures { (depth : ℕ) → Gives (λ x. (x.0.items, x.1.now)) result (at_of depth texts tokens.now) }
 {

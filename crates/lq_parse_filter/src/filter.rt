@@ -1,4 +1,4 @@
-// Filters, which lead back to themselves.
+// Filters, whose rules lead back to themselves.
 ghost use Rattle.std.specs.Prelude.{◌≡◌, ◌<◌, ℕ, map, vec_len};
 ghost use Rattle.std.specs.Option.{option_copied};
 ghost use Rattle.grammar.specs.Rule.{next};
@@ -20,7 +20,7 @@ use lq_grammar::scan::{at, expect, name_past, past, place, text_past};
 use lq_grammar::{COMMON_NAMES, Item, NEGATIONS, Role, Scope, Stop, UNARY};
 use std::alloc::Global;
 
-/// Returns what stands in parentheses, where this many more may be open.
+/// Parses a filter in parentheses, where `depth` more parentheses and negations may be open.
 #[cycle(filter)]
 #[tactic(auto, using(crate::proofs::Turning::name_steps))]
 pub fn group<'t>(
@@ -42,7 +42,7 @@ pub fn group<'t>(
     Ok((filter, rest))
 }
 
-/// Returns a negation of a filter.
+/// Parses the negation of a filter.
 #[cycle(filter)]
 #[tactic(auto, using(crate::proofs::Turning::name_steps))]
 fn negation<'t>(
@@ -63,7 +63,7 @@ fn negation<'t>(
     Ok((Filter::Not(Box::new(alloc, filter)?), rest))
 }
 
-/// Returns a negation after a name and a colon.
+/// Parses a negation after a name and a colon.
 #[cycle(filter)]
 #[tactic(auto, using(crate::proofs::Turning::name_steps))]
 fn inner_negation<'t>(
@@ -84,7 +84,7 @@ fn inner_negation<'t>(
     Ok((Filter::Not(Box::new(alloc, filter)?), rest))
 }
 
-/// Returns what may stand after a name and a colon.
+/// Parses what follows a name and a colon.
 #[cycle(filter)]
 #[tactic(auto, unfolding(lq_grammar::specs::LogsQL::inner))]
 fn inner<'t>(
@@ -106,7 +106,7 @@ fn inner<'t>(
     leaf(alloc, tokens, field)
 }
 
-/// Returns a filter without conjunctions.
+/// Parses a filter without AND and OR.
 #[cycle(filter)]
 #[tactic(auto, unfolding(lq_grammar::specs::LogsQL::unary))]
 fn unary<'t>(
@@ -125,7 +125,7 @@ fn unary<'t>(
     unit(alloc, tokens, depth, scope, field)
 }
 
-/// Returns a filter that is not a negation.
+/// Parses a filter that is not a negation.
 #[cycle(filter)]
 #[tactic(auto, unfolding(lq_grammar::specs::LogsQL::unit))]
 fn unit<'t>(
@@ -147,7 +147,7 @@ fn unit<'t>(
     }
 }
 
-/// Returns a filter of rows that is not a negation and stands in no parentheses.
+/// Parses a filter of rows that is neither a negation nor in parentheses.
 #[cycle(filter)]
 #[tactic(auto, unfolding(lq_grammar::specs::LogsQL::row_unit, lq_grammar::specs::LogsQL::selector))]
 fn row_unit<'t>(
@@ -181,7 +181,7 @@ fn row_unit<'t>(
     word_unit(alloc, tokens, depth, Scope::Rows, field)
 }
 
-/// Returns what stands after the word `_stream`.
+/// Parses what follows the word `_stream`.
 #[cycle(filter)]
 #[tactic(auto, unfolding(lq_grammar::specs::LogsQL::stream_end))]
 fn stream_end<'t>(
@@ -200,7 +200,7 @@ fn stream_end<'t>(
     bare_end(alloc, tokens, word, field)
 }
 
-/// Returns what stands after `_stream` and a colon.
+/// Parses what follows `_stream` and a colon.
 #[cycle(filter)]
 #[tactic(auto, unfolding(lq_grammar::specs::LogsQL::stream_value, lq_grammar::specs::LogsQL::selector))]
 fn stream_value<'t>(
@@ -220,7 +220,7 @@ fn stream_value<'t>(
     inner(alloc, tokens, depth, Scope::Rows, Some(name_of(word)))
 }
 
-/// Returns a filter of records that is not a negation and stands in no parentheses.
+/// Parses a filter of records that is neither a negation nor in parentheses.
 #[cycle(filter)]
 #[tactic(auto, unfolding(lq_grammar::specs::LogsQL::record_unit))]
 fn record_unit<'t>(
@@ -247,7 +247,7 @@ fn record_unit<'t>(
     word_unit(alloc, tokens, depth, Scope::Records, field)
 }
 
-/// Returns a filter that begins with a name like any other, or a leaf.
+/// Parses a filter of a named field, or a leaf.
 #[cycle(filter)]
 #[tactic(auto, unfolding(lq_grammar::specs::LogsQL::word_unit))]
 fn word_unit<'t>(
@@ -266,7 +266,7 @@ fn word_unit<'t>(
     led(alloc, tokens, field)
 }
 
-/// Returns the next of those that all hold, after AND or without it.
+/// Parses the next filter of an AND, after the word or without it.
 #[cycle(filter)]
 #[tactic(auto, unfolding(lq_grammar::specs::LogsQL::next_unary))]
 fn next_unary<'t>(
@@ -285,7 +285,7 @@ fn next_unary<'t>(
     unary(alloc, tokens, depth, scope, field)
 }
 
-/// Filters that all hold.
+/// Parses one filter or more with AND between them.
 #[cycle(filter)]
 #[tactic(auto, unfolding(lq_grammar::specs::LogsQL::and), using(crate::proofs::Turning::fold_steps))]
 fn and<'t>(
@@ -309,7 +309,7 @@ fn and<'t>(
     Ok((all_hold(filters), rest))
 }
 
-/// Filters of which one holds.
+/// Parses one filter or more with OR between them.
 #[cycle(filter)]
 #[tactic(auto, unfolding(lq_grammar::specs::LogsQL::or), using(crate::proofs::Turning::fold_steps))]
 pub fn or<'t>(
@@ -333,7 +333,7 @@ pub fn or<'t>(
     Ok((any_holds(filters), rest))
 }
 
-/// Returns whether a filter stands here that goes on with those before it.
+/// Returns whether another filter of an AND begins here.
 fn at_unary(tokens: &[Item], scope: Scope) -> bool
     ensures { result ≡ next (first heads (next_unary scope)) tokens.now }
 {
@@ -350,7 +350,7 @@ fn at_row_unary(tokens: &[Item]) -> bool
     at(tokens, UNARY) || at(tokens, &[Role::CurlyOpen])
 }
 
-/// One filter for itself, or two or more that all hold.
+/// Returns one filter as it is, or the AND of two or more.
 fn all_hold(mut filters: Vec<Filter>) -> Filter
     requires { 0 < vec_len filters }
     ensures { condition result ≡ of_list all_of (map condition filters.items) }
@@ -363,7 +363,7 @@ fn all_hold(mut filters: Vec<Filter>) -> Filter
     Filter::All2(filters)
 }
 
-/// One filter for itself, or two or more of which one holds.
+/// Returns one filter as it is, or the OR of two or more.
 fn any_holds(mut filters: Vec<Filter>) -> Filter
     requires { 0 < vec_len filters }
     ensures { condition result ≡ of_list any_of (map condition filters.items) }
@@ -376,7 +376,7 @@ fn any_holds(mut filters: Vec<Filter>) -> Filter
     Filter::Any2(filters)
 }
 
-/// Returns the name that a word is, which is the message's where it is empty.
+/// Returns the name of a field. An empty name is that of the message.
 fn name_of(word: &str) -> &str
     ensures { result.now ≡ field_named word.now }
 {

@@ -13,7 +13,7 @@ use lq_grammar::{Item, Role, Stop, WORDS};
 use std::alloc::Global;
 use vl_row::Items;
 
-/// How a label is tested, and what follows.
+/// Parses how a label is tested.
 #[tactic(auto, unfolding(lq_grammar::specs::LogsQL::how))]
 fn how(tokens: &[Item]) -> Result<(How, &[Item]), Stop>
     ensures { (depth : ℕ) → Gives (λ x. (x.0, x.1.now)) result (at_of depth how tokens.now) }
@@ -32,7 +32,7 @@ fn how(tokens: &[Item]) -> Result<(How, &[Item]), Stop>
     Ok((How::IsNot, rest))
 }
 
-/// Returns a test of a label.
+/// Parses a test of a label.
 #[tactic(auto, unfolding(lq_grammar::specs::LogsQL::label))]
 fn label<'t>(alloc: Global, tokens: &'t [Item]) -> Result<(LabelTest, &'t [Item]), Stop>
     ensures { (depth : ℕ) → Gives (λ x. (test_of x.0, x.1.now)) result (at_of depth label tokens.now) }
@@ -43,7 +43,7 @@ fn label<'t>(alloc: Global, tokens: &'t [Item]) -> Result<(LabelTest, &'t [Item]
     Ok((LabelTest { name, how, text }, rest))
 }
 
-/// Tests that all hold, with commas between.
+/// Parses tests of labels, with commas between them.
 #[tactic(auto, unfolding(lq_grammar::specs::LogsQL::labels), using(grammar::proofs::Turns::list_steps))]
 fn labels<'t>(alloc: Global, tokens: &'t [Item]) -> Result<(Group, &'t [Item]), Stop>
     ensures { (depth : ℕ) → Gives (λ x. (tests_of x.0, x.1.now)) result (at_of depth labels tokens.now) }
@@ -60,7 +60,7 @@ fn labels<'t>(alloc: Global, tokens: &'t [Item]) -> Result<(Group, &'t [Item]), 
     Ok((Group { labels }, rest))
 }
 
-/// Groups, with OR between.
+/// Parses groups of tests, with OR between them.
 #[tactic(auto, unfolding(lq_grammar::specs::LogsQL::groups), using(grammar::proofs::Turns::list_steps))]
 fn groups<'t>(alloc: Global, tokens: &'t [Item]) -> Result<(Select, &'t [Item]), Stop>
     ensures { (depth : ℕ) → Gives (λ x. (groups_of x.0, x.1.now)) result (at_of depth groups tokens.now) }
@@ -77,7 +77,7 @@ fn groups<'t>(alloc: Global, tokens: &'t [Item]) -> Result<(Select, &'t [Item]),
     Ok((Select { groups }, rest))
 }
 
-/// Returns a selector.
+/// Parses a selector of streams.
 #[tactic(auto, unfolding(lq_grammar::specs::LogsQL::selector))]
 pub(crate) fn selector<'t>(alloc: Global, tokens: &'t [Item]) -> Result<(Select, &'t [Item]), Stop>
     ensures { (depth : ℕ) → Gives (λ x. (on_streams (groups_of x.0), x.1.now)) result
@@ -89,7 +89,7 @@ pub(crate) fn selector<'t>(alloc: Global, tokens: &'t [Item]) -> Result<(Select,
     Ok((select, rest))
 }
 
-/// Any number of groups.
+/// Parses any number of groups, with OR between them.
 fn optional_groups<'t>(alloc: Global, tokens: &'t [Item]) -> Result<(Select, &'t [Item]), Stop>
     ensures { (depth : ℕ) → Gives (λ x. (groups_of x.0, x.1.now)) result (at_of depth optional_groups tokens.now) }
 {

@@ -14,7 +14,7 @@ use lq_grammar::scan::{at_glued, expect, past_glued, text};
 use lq_grammar::{Item, Role, Stop, TEXTS};
 use std::alloc::Global;
 
-/// Returns a prefix, or a phrase that begins no call.
+/// Parses what follows a bare word: a star makes it a prefix, and nothing a phrase.
 #[tactic(auto, unfolding(lq_grammar::specs::LogsQL::bare_end))]
 pub(crate) fn bare_end<'t>(
     alloc: Global,
@@ -34,7 +34,7 @@ pub(crate) fn bare_end<'t>(
     Ok((make::phrased(alloc, word, field)?, tokens))
 }
 
-/// Returns a prefix, or a phrase.
+/// Parses what follows a quoted text: a star makes it a prefix, and nothing a phrase.
 #[tactic(auto, unfolding(lq_grammar::specs::LogsQL::quoted_end))]
 pub(crate) fn quoted_end<'t>(
     alloc: Global,
@@ -51,7 +51,7 @@ pub(crate) fn quoted_end<'t>(
     Ok((make::phrased(alloc, word, field)?, tokens))
 }
 
-/// Returns a list of texts after IN, or just the word.
+/// Parses a list of texts after IN, or the word itself as a leaf.
 #[tactic(auto, unfolding(lq_grammar::specs::LogsQL::in_end))]
 pub(crate) fn in_end<'t>(
     alloc: Global,
@@ -70,7 +70,7 @@ pub(crate) fn in_end<'t>(
     bare_end(alloc, tokens, word, field)
 }
 
-/// Returns a text after I, or just the word.
+/// Parses a text after I, or the word itself as a leaf.
 #[tactic(auto, unfolding(lq_grammar::specs::LogsQL::i_end))]
 pub(crate) fn i_end<'t>(
     alloc: Global,
@@ -89,7 +89,7 @@ pub(crate) fn i_end<'t>(
     bare_end(alloc, tokens, word, field)
 }
 
-/// Texts after SEQ, or just the word.
+/// Parses texts after SEQ, or the word itself as a leaf.
 #[tactic(auto, unfolding(lq_grammar::specs::LogsQL::seq_end))]
 pub(crate) fn seq_end<'t>(
     alloc: Global,
@@ -108,7 +108,7 @@ pub(crate) fn seq_end<'t>(
     bare_end(alloc, tokens, word, field)
 }
 
-/// Two texts after STRING_RANGE, or just the word.
+/// Parses two texts after STRING_RANGE, or the word itself as a leaf.
 #[tactic(auto, unfolding(lq_grammar::specs::LogsQL::string_range_end))]
 pub(crate) fn string_range_end<'t>(
     alloc: Global,
@@ -129,7 +129,7 @@ pub(crate) fn string_range_end<'t>(
     bare_end(alloc, tokens, word, field)
 }
 
-/// Returns a whole value, or how it begins.
+/// Parses `=` with a whole value, or with the text that a value begins with.
 #[tactic(auto, unfolding(lq_grammar::specs::LogsQL::exact))]
 pub(crate) fn exact<'t>(
     alloc: Global,
@@ -147,7 +147,7 @@ pub(crate) fn exact<'t>(
     Ok((make::exact(alloc, text, field)?, rest))
 }
 
-/// Returns a regular expression.
+/// Parses `~` with a regular expression.
 #[tactic(auto, unfolding(lq_grammar::specs::LogsQL::regex))]
 pub(crate) fn regex<'t>(
     alloc: Global,
@@ -162,7 +162,7 @@ pub(crate) fn regex<'t>(
     Ok((make::matching(alloc, pattern, field)?, rest))
 }
 
-/// Returns a star that is not a prefix's.
+/// Parses a star that ends no prefix.
 #[tactic(auto, unfolding(lq_grammar::specs::LogsQL::star))]
 pub(crate) fn star<'t>(
     alloc: Global,

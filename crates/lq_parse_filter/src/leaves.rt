@@ -15,7 +15,7 @@ use lq_grammar::scan::{at, text_past};
 use lq_grammar::{Item, PLAIN_WORDS, Role, Stop};
 use std::alloc::Global;
 
-/// Returns a leaf.
+/// Parses a leaf.
 #[tactic(auto, unfolding(lq_grammar::specs::LogsQL::leaf))]
 pub(crate) fn leaf<'t>(
     alloc: Global,
@@ -34,7 +34,7 @@ pub(crate) fn leaf<'t>(
     led(alloc, tokens, field)
 }
 
-/// Returns a leaf that begins with a word but for `_time` and `_stream`, or with a mark.
+/// Parses a leaf that begins with a word other than `_time` and `_stream`, or with a mark.
 #[tactic(auto, unfolding(lq_grammar::specs::LogsQL::led))]
 pub(crate) fn led<'t>(
     alloc: Global,
@@ -95,7 +95,7 @@ fn word_led<'t>(
     mark_leaf(alloc, tokens, field)
 }
 
-/// Returns a leaf that begins with a mark.
+/// Parses a leaf that begins with a mark.
 fn mark_leaf<'t>(
     alloc: Global,
     tokens: &'t [Item],

@@ -13,14 +13,14 @@ use lq_ast::Filter;
 use std::alloc::{AllocError, Global};
 use vl_row::Text;
 
-/// Returns the name of the field in force, which is the message where none is.
+/// Returns the name of the field that a filter is of: that of the message where none is named.
 fn field_in(alloc: Global, field: Option<&str>) -> Result<Text, AllocError>
     ensures { IfOk result (λ text. text ≡ field_of (option_copied field.entry)) }
 {
     Text::try_of(alloc, field.unwrap_or("_msg"))
 }
 
-/// Every row, or those with some value of the field.
+/// Returns the filter of every row, or of those with some value of the field.
 pub(crate) fn everything(alloc: Global, field: Option<&str>) -> Result<Filter, AllocError>
     ensures { IfOk result (λ filter. condition filter ≡ everything_of (option_copied field.entry)) }
 {
@@ -32,7 +32,7 @@ pub(crate) fn everything(alloc: Global, field: Option<&str>) -> Result<Filter, A
     }
 }
 
-/// Returns the phrase, or no value where it is empty.
+/// Returns the filter of a phrase. An empty phrase asks for an empty value.
 pub(crate) fn phrased(
     alloc: Global,
     phrase: &str,

@@ -10,14 +10,14 @@ use lq_grammar::{Item, Role, Stop};
 use std::alloc::{AllocError, Global};
 use vl_row::Text;
 
-/// Returns a field's name, which is the message's where it is empty.
+/// Returns the name of a field. An empty name is that of the message.
 pub fn field_named(alloc: Global, name: &str) -> Result<Text, AllocError>
     ensures { IfOk result (λ text. text ≡ name_of name.now) }
 {
     Text::try_of(alloc, if name.is_empty() { "_msg" } else { name })
 }
 
-/// Returns a name that has one of these roles.
+/// Parses a name that has one of these roles.
 pub fn name<'t>(
     alloc: Global,
     tokens: &'t [Item],

@@ -26,7 +26,7 @@ pub(crate) enum Bound {
     MinusInfinite,
 }
 
-/// Returns a number.
+/// Parses a number.
 #[tactic(auto, unfolding(lq_grammar::specs::LogsQL::num))]
 fn num<'t>(alloc: Global, tokens: &'t [Item]) -> Result<(i64, &'t [Item]), Stop>
     ensures { (depth : ℕ) → Gives (λ x. (x.0, x.1.now)) result (at depth num tokens.now) }
@@ -38,7 +38,7 @@ fn num<'t>(alloc: Global, tokens: &'t [Item]) -> Result<(i64, &'t [Item]), Stop>
     }
 }
 
-/// Returns a number of at least 0.
+/// Parses a number of at least 0.
 #[tactic(auto, unfolding(lq_grammar::specs::LogsQL::size))]
 fn size<'t>(alloc: Global, tokens: &'t [Item]) -> Result<(u64, &'t [Item]), Stop>
     ensures { (depth : ℕ) → Gives (λ x. (x.0, x.1.now)) result (at depth size tokens.now) }
@@ -50,7 +50,7 @@ fn size<'t>(alloc: Global, tokens: &'t [Item]) -> Result<(u64, &'t [Item]), Stop
     }
 }
 
-/// Returns a number of at least 0, or no end.
+/// Parses the second number of LEN_RANGE: at least 0, or `inf`.
 #[tactic(auto, unfolding(lq_grammar::specs::LogsQL::high_size))]
 fn high_size<'t>(alloc: Global, tokens: &'t [Item]) -> Result<(u64, &'t [Item]), Stop>
     ensures { (depth : ℕ) → Gives (λ x. (x.0, x.1.now)) result (at depth high_size tokens.now) }
@@ -65,7 +65,7 @@ fn high_size<'t>(alloc: Global, tokens: &'t [Item]) -> Result<(u64, &'t [Item]),
     }
 }
 
-/// Returns the number that a text says, if it is one of at least 0.
+/// Returns the number that a text spells, if it is at least 0.
 pub fn size_of(text: &str) -> Option<u64>
     ensures { from_option bad_number result ≡ size_value text.now }
 {
@@ -75,7 +75,7 @@ pub fn size_of(text: &str) -> Option<u64>
     }
 }
 
-/// Returns a number, or no end.
+/// Parses an end of RANGE: a number, `inf` or `-inf`.
 #[tactic(auto, unfolding(lq_grammar::specs::LogsQL::end))]
 fn end<'t>(alloc: Global, tokens: &'t [Item]) -> Result<(Bound, &'t [Item]), Stop>
     ensures { (depth : ℕ) → Gives (λ x. (end_of x.0, x.1.now)) result (at depth end tokens.now) }
@@ -93,7 +93,7 @@ fn end<'t>(alloc: Global, tokens: &'t [Item]) -> Result<(Bound, &'t [Item]), Sto
     }
 }
 
-/// Numbers above one, or from it on.
+/// Parses `>` or `>=` with a number.
 #[tactic(auto, unfolding(lq_grammar::specs::LogsQL::greater))]
 pub(crate) fn greater<'t>(
     alloc: Global,
@@ -112,7 +112,7 @@ pub(crate) fn greater<'t>(
     Ok((make::above(alloc, number, field)?, rest))
 }
 
-/// Numbers below one, or up to it.
+/// Parses `<` or `<=` with a number.
 #[tactic(auto, unfolding(lq_grammar::specs::LogsQL::less))]
 pub(crate) fn less<'t>(
     alloc: Global,
@@ -131,7 +131,7 @@ pub(crate) fn less<'t>(
     Ok((make::below(alloc, number, field)?, rest))
 }
 
-/// Two sizes after LEN_RANGE, or just the word.
+/// Parses two lengths after LEN_RANGE, or the word itself as a leaf.
 #[tactic(auto, unfolding(lq_grammar::specs::LogsQL::len_range_end))]
 pub(crate) fn len_range_end<'t>(
     alloc: Global,
@@ -152,7 +152,7 @@ pub(crate) fn len_range_end<'t>(
     bare_end(alloc, tokens, word, field)
 }
 
-/// Two ends after RANGE, or just the word.
+/// Parses two ends after RANGE, or the word itself as a leaf.
 #[tactic(auto, unfolding(lq_grammar::specs::LogsQL::range_end))]
 pub(crate) fn range_end<'t>(
     alloc: Global,
@@ -172,7 +172,7 @@ pub(crate) fn range_end<'t>(
     bare_end(alloc, tokens, word, field)
 }
 
-/// Two ends up to the bracket that closes them, of which the first is included or not.
+/// Parses two ends and the bracket after them. `included` says whether the first belongs to the range.
 #[tactic(auto, unfolding(lq_grammar::specs::LogsQL::ends))]
 fn ends<'t>(
     alloc: Global,
@@ -192,7 +192,7 @@ fn ends<'t>(
     ))
 }
 
-/// Returns the greatest number of a range, by its last end and the bracket after it.
+/// Parses the last end of a range and the bracket after it, and returns the greatest number of the range.
 #[tactic(auto, unfolding(lq_grammar::specs::LogsQL::last_end))]
 fn last_end<'t>(alloc: Global, tokens: &'t [Item]) -> Result<(i128, &'t [Item]), Stop>
     ensures { (depth : ℕ) → Gives (λ x. (x.0, x.1.now)) result
@@ -203,7 +203,7 @@ fn last_end<'t>(alloc: Global, tokens: &'t [Item]) -> Result<(i128, &'t [Item]),
     Ok((high_of(included, high), rest))
 }
 
-/// Returns whether the end before a closing bracket is included.
+/// Parses a closing bracket, and returns whether the end before it belongs to the range.
 #[tactic(auto, unfolding(lq_grammar::specs::LogsQL::closing))]
 pub(crate) fn closing(tokens: &[Item]) -> Result<(bool, &[Item]), Stop>
     ensures { (depth : ℕ) → Gives (λ x. (x.0, x.1.now)) result (at depth closing tokens.now) }
@@ -215,7 +215,7 @@ pub(crate) fn closing(tokens: &[Item]) -> Result<(bool, &[Item]), Stop>
     Ok((false, rest))
 }
 
-/// Returns the least number, where the end is included or not.
+/// Returns the least number of a range that begins with this end.
 fn low_of(included: bool, end: Bound) -> i128
     ensures { result ≡ lowest_of included (end_of end) }
 {
@@ -227,7 +227,7 @@ fn low_of(included: bool, end: Bound) -> i128
     }
 }
 
-/// Returns the greatest number, where the end is included or not.
+/// Returns the greatest number of a range that ends with this end.
 fn high_of(included: bool, end: Bound) -> i128
     ensures { result ≡ highest_of included (end_of end) }
 {

@@ -9,7 +9,7 @@ use lq_grammar::{BARES, Item, QUOTED, RUN_PARTS, Stop};
 use std::alloc::Global;
 use vl_row::Text;
 
-/// Returns a quoted text, or a bare one with all that is glued to it.
+/// Parses a quoted text, or a bare token with all that is glued to it.
 #[tactic(auto, unfolding(lq_grammar::specs::LogsQL::run))]
 pub(crate) fn run<'t>(alloc: Global, tokens: &'t [Item]) -> Result<(Text, &'t [Item]), Stop>
     ensures { (depth : ℕ) → Gives (λ x. (x.0, x.1.now)) result (at depth run tokens.now) }
@@ -21,7 +21,7 @@ pub(crate) fn run<'t>(alloc: Global, tokens: &'t [Item]) -> Result<(Text, &'t [I
     run_rest(alloc, bare, rest)
 }
 
-/// Returns what goes on with a run that began so.
+/// Parses all that is glued to the start of a run.
 fn run_rest<'t>(alloc: Global, bare: &str, tokens: &'t [Item]) -> Result<(Text, &'t [Item]), Stop>
     ensures { (depth : ℕ) → Gives (λ x. (x.0, x.1.now)) result
         (mapped (λ rest. bare.now ++ rest) (at depth run_rest tokens.now)) }

@@ -16,7 +16,7 @@ use lq_grammar::{Item, Role, Stop};
 use std::alloc::Global;
 use time_text::{DurationFault, Span, read_bound, read_duration};
 
-/// Returns a bound inside brackets.
+/// Parses a bound inside brackets.
 #[tactic(auto, unfolding(lq_grammar::specs::LogsQL::bound))]
 fn bound<'t>(alloc: Global, tokens: &'t [Item]) -> Result<(Span, &'t [Item]), Stop>
     ensures { (depth : ℕ) → Gives (λ x. (ends_of x.0, x.1.now)) result (at depth bound tokens.now) }
@@ -32,7 +32,7 @@ fn bound<'t>(alloc: Global, tokens: &'t [Item]) -> Result<(Span, &'t [Item]), St
     }
 }
 
-/// Returns a duration up to now, or the interval of a bound.
+/// Parses a duration up to now, or a bound with the interval that it names.
 #[tactic(auto, unfolding(lq_grammar::specs::LogsQL::lone_run))]
 fn lone_run<'t>(alloc: Global, tokens: &'t [Item]) -> Result<(Filter, &'t [Item]), Stop>
     ensures { (depth : ℕ) → Gives (λ x. (condition x.0, x.1.now)) result (at depth lone_run tokens.now) }
@@ -55,21 +55,21 @@ fn lone_run<'t>(alloc: Global, tokens: &'t [Item]) -> Result<(Filter, &'t [Item]
     }
 }
 
-/// Returns the nanoseconds that a text says as a duration.
+/// Returns the nanoseconds of the duration that a text spells.
 pub fn duration(text: &str) -> Result<i64, DurationFault>
     ensures { result ≡ duration_of text.now }
 {
     read_duration(text)
 }
 
-/// Returns what a text names as a bound, if it is in range.
+/// Returns the interval of the bound that a text spells, if it is in range.
 fn bound_named(text: &str) -> Option<Span>
     ensures { option_map ends_of result ≡ bound_of text.now }
 {
     read_bound(text).ok()
 }
 
-/// Returns the last moment of an interval, by its last bound and the bracket after it.
+/// Parses the last bound of an interval and the bracket after it, and returns the last moment.
 #[tactic(auto, unfolding(lq_grammar::specs::LogsQL::last_bound))]
 fn last_bound<'t>(alloc: Global, tokens: &'t [Item]) -> Result<(i128, &'t [Item]), Stop>
     ensures { (depth : ℕ) → Gives (λ x. (x.0, x.1.now)) result
@@ -80,7 +80,7 @@ fn last_bound<'t>(alloc: Global, tokens: &'t [Item]) -> Result<(i128, &'t [Item]
     Ok((stop_of(included, span), rest))
 }
 
-/// Two bounds, of which the first is included or not.
+/// Parses two bounds. `included` says whether the first belongs to the interval.
 #[tactic(auto, unfolding(lq_grammar::specs::LogsQL::interval))]
 fn interval<'t>(
     alloc: Global,
@@ -97,7 +97,7 @@ fn interval<'t>(
     Ok((Filter::Times { from, to }, rest))
 }
 
-/// Returns a time.
+/// Parses what follows `_time` and a colon.
 #[tactic(auto, unfolding(lq_grammar::specs::LogsQL::time))]
 pub(crate) fn time<'t>(alloc: Global, tokens: &'t [Item]) -> Result<(Filter, &'t [Item]), Stop>
     ensures { (depth : ℕ) → Gives (λ x. (condition x.0, x.1.now)) result (at depth time tokens.now) }
@@ -111,7 +111,7 @@ pub(crate) fn time<'t>(alloc: Global, tokens: &'t [Item]) -> Result<(Filter, &'t
     lone_run(alloc, tokens)
 }
 
-/// Returns the first moment from a bound on, or after it.
+/// Returns the first moment of an interval that begins with this bound.
 fn start_of(included: bool, span: Span) -> i128
     ensures { result ≡ first_of included (ends_of span) }
 {
@@ -122,7 +122,7 @@ fn start_of(included: bool, span: Span) -> i128
     }
 }
 
-/// Returns the last moment up to a bound, or before it.
+/// Returns the last moment of an interval that ends with this bound.
 fn stop_of(included: bool, span: Span) -> i128
     ensures { result ≡ last_of included (ends_of span) }
 {

@@ -1,5 +1,6 @@
 -- The disk model: what the calls on a vault did, what a read gives after them, and what a crash may leave.
-use Rattle.std.specs.Prelude.{◌≡◌, ◌⊎◌, ℕ, ◌+◌, ◌<◌, ◌≤◌, max, ◌==◌, if◌then◌else◌, MatchBool, List, [], ◌∷◌, length, take, slice_index}
+use Rattle.std.specs.Prelude.{◌≡◌, ◌⊎◌, ℕ, ◌+◌, ◌<◌, ◌≤◌, max, ◌==◌, if◌then◌else◌, MatchBool}
+use Rattle.std.specs.Prelude.{List, [], ◌∷◌, length, take, slice_index}
 
 -- What one call did to the files. `after` is what a read of the file gives once the call is over.
 pub data Event : Type 0 where
@@ -44,7 +45,9 @@ MayLeave [] file bytes = bytes ≡ []
 MayLeave (NoChange ∷ past) file bytes = MayLeave past file bytes
 MayLeave (Began f held ∷ past) file bytes = MatchBool (f == file) (bytes ≡ held) (MayLeave past file bytes)
 MayLeave (Wrote f at size after ∷ past) file bytes =
-    MatchBool (f == file) ((old : List ℕ) × MayLeave past file old × IsTorn at size old bytes) (MayLeave past file bytes)
+    MatchBool (f == file)
+    ((old : List ℕ) × MayLeave past file old × IsTorn at size old bytes)
+    (MayLeave past file bytes)
 MayLeave (Shortened f len after ∷ past) file bytes =
     MatchBool (f == file) ((old : List ℕ) × MayLeave past file old × IsCut len old bytes) (MayLeave past file bytes)
 MayLeave (Synced f ∷ past) file bytes = MatchBool (f == file) (bytes ≡ content past file) (MayLeave past file bytes)

@@ -26,7 +26,8 @@ pub record ChangesFile (file : ℕ) (P : List ℕ → Type 0) (old past : Past) 
 -- Since `old` only these files changed, and each image that a crash may leave has P.
 pub record ChangesFiles (Touched : ℕ → Type 0) (P : Image → Type 0) (old past : Past) : Type 0 where
   pub image : EachImage P past
-  pub others : (other : ℕ) → (Touched other → ⊥) → (bytes : List ℕ) → MayLeave past other bytes → MayLeave old other bytes
+  pub others : (other : ℕ) → (Touched other → ⊥)
+      → (bytes : List ℕ) → MayLeave past other bytes → MayLeave old other bytes
   pub others_read : (other : ℕ) → (Touched other → ⊥) → content past other ≡ content old other
 
 -- Since `old` no file changed.

@@ -1,5 +1,5 @@
 //! The record of the calls on a vault in memory.
-ghost use Rattle.std.specs.Prelude.{◌≡◌, ◌∷◌, ◌≤◌, IfOk, OnErr, OnOk, false, length, take};
+ghost use Rattle.std.specs.Prelude.{◌≡◌, ◌+◌, ◌∷◌, ◌≤◌, IfOk, OnErr, OnOk, false, length, take, vec_len};
 ghost use Rattle.vl_vault.specs.Calls.{overwritten};
 ghost use Rattle.vl_vault.specs.Disk.{IsCut, IsTorn, content, content_after};
 ghost use Rattle.vl_vault.specs.Record.{event_of, past_of};
@@ -65,6 +65,8 @@ impl Call {
 pub fn note(calls: &mut Vec<Call>, call: Call) -> Result<(), AllocError>
     ensures ok { OnOk result (past_of calls.new.items ≡ event_of call ∷ past_of calls.old.items) }
     ensures err { OnErr result (past_of calls.new.items ≡ past_of calls.old.items) }
+    ensures ok_count { OnOk result (vec_len calls.new ≡ vec_len calls.old + 1) }
+    ensures err_count { OnErr result (vec_len calls.new ≡ vec_len calls.old) }
 {
     calls.push(call)?;
     Ok(())

@@ -1,6 +1,7 @@
 //! The files of a directory, with the handles that are open. This is the edge where the program meets the file system:
 //! no clause says what these functions do there.
-ghost use Rattle.std.specs.Prelude.{◌<◌, ◌≤◌, IfOk, IfSome, length, vec_len};
+ghost use Rattle.std.specs.Prelude.{◌≡◌, ◌<◌, ◌≤◌, [], IfOk, IfSome, IsSome, OnOk, false, length, true, vec_len};
+ghost use Rattle.vl_vault.specs.Directory.{IsFound, IsOpen, place_of};
 
 use std::alloc::{AllocError, Global};
 use std::fs::{File, Files, OpenOptions, TryLockError};
@@ -56,7 +57,11 @@ impl FileTable {
         alloc: Global,
         directory: &str,
         access: Access,
-    ) -> Result<FileTable, AllocError> {
+    ) -> Result<FileTable, AllocError>
+        ensures access { IfOk result (λ table. table.access ≡ access) }
+        ensures none_open { IfOk result (λ table. table.changed.items ≡ []) }
+        ensures names { IfOk result (λ table. table.names_changed ≡ true) }
+    {
         let name = String::from_str(alloc, directory)?;
         let mut path = String::from_str(alloc, directory)?;
         path.reserve(DIGITS + 1)?;
@@ -83,7 +88,9 @@ impl FileTable {
     }
 
     /// Returns the length of the file.
-    pub fn length<R: Files<File = File>>(&mut self, rt: &R, file: u64) -> io::Result<u64> {
+    pub fn length<R: Files<File = File>>(&mut self, rt: &R, file: u64) -> io::Result<u64>
+        ensures { OnOk result (IsFound self.old self.new) }
+    {
         self.find(file)?;
         if let Some(i) = self.place(file) {
             return Ok(self.changed[i].handle.metadata()?.len());
@@ -103,7 +110,8 @@ impl FileTable {
         at: u64,
         buf: &mut [u8],
     ) -> io::Result<usize>
-        ensures { IfOk result (λ n. n ≤ length buf.new) }
+        ensures bound { IfOk result (λ n. n ≤ length buf.new) }
+        ensures same { OnOk result (IsFound self.old self.new) }
     {
         self.find(file)?;
         if let Some(i) = self.place(file) {
@@ -123,7 +131,10 @@ impl FileTable {
         file: u64,
         at: u64,
         piece: &[u8],
-    ) -> io::Result<()> {
+    ) -> io::Result<()>
+        ensures writes { OnOk result (self.old.access ≡ Access.Write) }
+        ensures open { OnOk result (IsOpen self.new file) }
+    {
         self.find_for_change(file)?;
         if self.place(file).is_none() {
             let handle = self.open_or_create(rt)?;
@@ -136,7 +147,9 @@ impl FileTable {
     }
 
     /// Shortens the file. A shorter or a missing one stays as it is.
-    pub fn cut<R: Files<File = File>>(&mut self, rt: &R, file: u64, length: u64) -> io::Result<()> {
+    pub fn cut<R: Files<File = File>>(&mut self, rt: &R, file: u64, length: u64) -> io::Result<()>
+        ensures { OnOk result (self.old.access ≡ Access.Write) }
+    {
         self.find_for_change(file)?;
         if self.place(file).is_none() {
             match changing().open(rt, self.path.as_str()) {
@@ -152,7 +165,10 @@ impl FileTable {
     }
 
     /// Removes the file.
-    pub fn remove<R: Files<File = File>>(&mut self, rt: &R, file: u64) -> io::Result<()> {
+    pub fn remove<R: Files<File = File>>(&mut self, rt: &R, file: u64) -> io::Result<()>
+        ensures writes { OnOk result (self.old.access ≡ Access.Write) }
+        ensures names { OnOk result (self.new.names_changed ≡ true) }
+    {
         self.find_for_change(file)?;
         if let Some(i) = self.place(file) {
             self.changed.swap_remove(i);
@@ -165,7 +181,9 @@ impl FileTable {
     }
 
     /// Syncs the file, and the directory where a file was created or removed since it was last synced.
-    pub fn sync<R: Files<File = File>>(&mut self, rt: &R, file: u64) -> io::Result<()> {
+    pub fn sync<R: Files<File = File>>(&mut self, rt: &R, file: u64) -> io::Result<()>
+        ensures { OnOk result (self.new.names_changed ≡ false) }
+    {
         self.find(file)?;
         match self.place(file) {
             Some(i) => {
@@ -178,7 +196,9 @@ impl FileTable {
     }
 
     /// Syncs the directory where a file was created or removed since it was last synced.
-    fn sync_names(&mut self) -> io::Result<()> {
+    fn sync_names(&mut self) -> io::Result<()>
+        ensures { OnOk result (IsSome self.old.directory → self.new.names_changed ≡ false) }
+    {
         if let Some(directory) = &self.directory {
             if self.names_changed {
                 directory.sync_all()?;
@@ -189,7 +209,9 @@ impl FileTable {
     }
 
     /// Sets the path to that of the file. It fails where the directory cannot be used.
-    fn find(&mut self, file: u64) -> io::Result<()> {
+    fn find(&mut self, file: u64) -> io::Result<()>
+        ensures { OnOk result (IsFound self.old self.new) }
+    {
         if self.directory.is_none() {
             let reason = self.refused.take();
             return Err(reason.unwrap_or(io::Error::from(ErrorKind::NotFound)));
@@ -202,7 +224,10 @@ impl FileTable {
     }
 
     /// As `find`, for a call that changes the file.
-    fn find_for_change(&mut self, file: u64) -> io::Result<()> {
+    fn find_for_change(&mut self, file: u64) -> io::Result<()>
+        ensures found { OnOk result (IsFound self.old self.new) }
+        ensures writes { OnOk result (self.old.access ≡ Access.Write) }
+    {
         self.find(file)?;
         match self.access {
             Access::Write => Ok(()),
@@ -215,7 +240,8 @@ impl FileTable {
 
     /// Returns where the file stands among the open ones.
     fn place(&self, file: u64) -> Option<usize>
-        ensures { IfSome result (λ i. i < vec_len self.now.changed) }
+        ensures found { result ≡ place_of self.now file }
+        ensures inside { IfSome result (λ i. i < vec_len self.now.changed) }
     {
         self.changed.iter().position(|kept| kept.number == file)
     }

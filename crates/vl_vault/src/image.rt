@@ -1,6 +1,7 @@
 //! What a crash may leave, by choice.
 ghost use Rattle.std.specs.Prelude.{◌≡◌, ◌∷◌, ◌++◌, ◌+◌, ◌-◌, ◌<◌, ◌≤◌, List, ℕ, IfOk, OnOk, length, vec_len};
 ghost use Rattle.vl_vault.specs.Disk.{IsCrashImage, IsTorn, MayLeave, Past, content};
+ghost use Rattle.vl_vault.specs.Moments.{IsDurable};
 ghost use Rattle.vl_vault.specs.Record.{event_of, past_of};
 ghost use Rattle.vl_vault.specs.Replay.{BeginsFile, touches};
 
@@ -11,7 +12,8 @@ use std::alloc::{AllocError, Global};
 /// with.
 #[tactic(auto, using(crate::proofs::Covering::covers_more, crate::proofs::Covering::covers_skip))]
 pub fn crash_contents(alloc: Global, calls: &[Call], choice: u64) -> Result<Vec<Call>, AllocError>
-    ensures { IfOk result (λ begun. IsCrashImage (past_of calls.now) (content (past_of begun.items))) }
+    ensures contents { IfOk result (λ begun. IsCrashImage (past_of calls.now) (content (past_of begun.items))) }
+    ensures durable { IfOk result (λ begun. (file : ℕ) → IsDurable (past_of begun.items) file) }
 {
     let outcomes = outcomes(alloc, calls, choice)?;
     let mut begun = Vec::new(alloc);

@@ -1,9 +1,27 @@
 //! A vault in memory, which keeps a record of its calls and fails at chosen ones.
-ghost use Rattle.std.specs.Prelude.{◌≡◌, ◌↔◌, ◌≤◌, [], Contains, IfOk, IsTrue, drop, length, take, ⊤};
+ghost use Rattle.std.specs.Prelude.{
+  ◌≡◌,
+  ◌↔◌,
+  ◌≤◌,
+  ℕ,
+  [],
+  Contains,
+  IfOk,
+  IsErr,
+  IsTrue,
+  OnOk,
+  drop,
+  false,
+  length,
+  take,
+  ⊤,
+};
 ghost use Rattle.vl_io.specs.Faults.{HasCause, Rose};
-ghost use Rattle.vl_vault.specs.Calls.{DidCut, DidRead, DidSync, DidWrite};
+ghost use Rattle.vl_vault.specs.Calls.{Adds, DidCut, DidRead, DidSync, DidWrite};
 ghost use Rattle.vl_vault.specs.Disk.{IsCrashImage, content};
-ghost use Rattle.vl_vault.specs.Memory.{moment};
+ghost use Rattle.vl_vault.specs.Memory.{CountsCall, moment};
+ghost use Rattle.vl_vault.specs.Moments.{IsDurable};
+ghost use Rattle.vl_vault.specs.Record.{event_of};
 
 use crate::call::{Call, after_cut, after_write, content, note};
 use crate::image::crash_contents;
@@ -75,6 +93,7 @@ impl MemoryVault {
         ensures calls { IfOk result (λ image. image.calls ≡ 0) }
         ensures failing { IfOk result (λ image. image.failing ≡ []) }
         ensures faults { IfOk result (λ image. image.faults ≡ 0) }
+        ensures durable { IfOk result (λ image. (file : ℕ) → IsDurable image.past file) }
     {
         let end = self.initial + call as usize;
         let entries = crash_contents(self.alloc, &self.entries[..end], choice)?;
@@ -92,6 +111,24 @@ impl MemoryVault {
         ensures { IsTrue result ↔ Contains self.now.failing self.now.calls }
     {
         self.failing.contains(&self.calls())
+    }
+
+    /// Adds the call to the record. Fails if the call is to fail, or if there is no memory for it.
+    fn make(&mut self, call: Call, fails: bool) -> Result<(), Failed>
+        requires { IsTrue fails ↔ Contains self.old.failing self.old.calls }
+        ensures told { Adds result self.old.past (event_of call) self.new.past }
+        ensures done { OnOk result (fails ≡ false) }
+        ensures cause { HasCause self.old.faults self.new.faults result }
+        ensures fails { Contains self.old.failing self.old.calls → IsErr result }
+        ensures counts { CountsCall self.old self.new result }
+    {
+        if note(&mut self.entries, call).is_err() {
+            return Err(count_fault(&mut self.faults));
+        }
+        if fails {
+            return Err(count_fault(&mut self.faults));
+        }
+        Ok(())
     }
 }
 
@@ -125,25 +162,44 @@ impl Vault for MemoryVault {
 
     ghost faults = { λ v. v.faults };
 
-    fn length(&mut self, file: u64) -> Result<u64, Failed> {
+    fn length(&mut self, file: u64) -> Result<u64, Failed>
+        ensures length { ⊤ → IfOk result (λ n. n ≡ length (content self.old.past file)) }
+        ensures told { ⊤ → DidRead self.old.past self.new.past result }
+        ensures cause { HasCause self.old.faults self.new.faults result }
+
+        ensures fails { Contains self.old.failing self.old.calls → IsErr result }
+        ensures counts { CountsCall self.old self.new result }
+    {
         let fails = self.fails_next();
         let length = content(&self.entries, file).len() as u64;
-        if note(&mut self.entries, Call::Unchanged).is_err() || fails {
-            return Err(count_fault(&mut self.faults));
-        }
+        self.make(Call::Unchanged, fails)?;
         Ok(length)
     }
 
-    fn read(&mut self, file: u64, at: u64, buf: &mut [u8]) -> Result<usize, Failed> {
+    fn read(&mut self, file: u64, at: u64, buf: &mut [u8]) -> Result<usize, Failed>
+        ensures bound { IfOk result (λ n. n ≤ length buf.new) }
+        ensures bytes { ⊤ → IfOk result (λ n.
+            take n buf.new ≡ take (length buf.old) (drop at (content self.old.past file))) }
+        ensures told { ⊤ → DidRead self.old.past self.new.past result }
+        ensures cause { HasCause self.old.faults self.new.faults result }
+
+        ensures fails { Contains self.old.failing self.old.calls → IsErr result }
+        ensures counts { CountsCall self.old self.new result }
+    {
         let fails = self.fails_next();
         let count = copy_from(content(&self.entries, file), at, buf);
-        if note(&mut self.entries, Call::Unchanged).is_err() || fails {
-            return Err(count_fault(&mut self.faults));
-        }
+        self.make(Call::Unchanged, fails)?;
         Ok(count)
     }
 
-    fn write_at(&mut self, file: u64, at: u64, piece: &[u8]) -> Result<(), Failed> {
+    fn write_at(&mut self, file: u64, at: u64, piece: &[u8]) -> Result<(), Failed>
+        requires { ⊤ → at ≤ length (content self.old.past file) }
+        ensures told { ⊤ → DidWrite self.old.past self.new.past file at piece.now result }
+        ensures cause { HasCause self.old.faults self.new.faults result }
+
+        ensures fails { Contains self.old.failing self.old.calls → IsErr result }
+        ensures counts { CountsCall self.old self.new result }
+    {
         let fails = self.fails_next();
         let old = content(&self.entries, file);
         let Ok(after) = after_write(self.alloc, old, at as usize, piece, fails) else {
@@ -158,13 +214,17 @@ impl Vault for MemoryVault {
             piece,
             after,
         };
-        if note(&mut self.entries, call).is_err() || fails {
-            return Err(count_fault(&mut self.faults));
-        }
+        self.make(call, fails)?;
         Ok(())
     }
 
-    fn cut(&mut self, file: u64, length: u64) -> Result<(), Failed> {
+    fn cut(&mut self, file: u64, length: u64) -> Result<(), Failed>
+        ensures told { ⊤ → DidCut self.old.past self.new.past file length result }
+        ensures cause { HasCause self.old.faults self.new.faults result }
+
+        ensures fails { Contains self.old.failing self.old.calls → IsErr result }
+        ensures counts { CountsCall self.old self.new result }
+    {
         let fails = self.fails_next();
         let old = content(&self.entries, file);
         let Ok(after) = after_cut(self.alloc, old, length, fails) else {
@@ -175,26 +235,31 @@ impl Vault for MemoryVault {
             length,
             after,
         };
-        if note(&mut self.entries, call).is_err() || fails {
-            return Err(count_fault(&mut self.faults));
-        }
+        self.make(call, fails)?;
         Ok(())
     }
 
-    fn sync(&mut self, file: u64) -> Result<(), Failed> {
+    fn sync(&mut self, file: u64) -> Result<(), Failed>
+        ensures told { ⊤ → DidSync self.old.past self.new.past file result }
+        ensures cause { HasCause self.old.faults self.new.faults result }
+
+        ensures fails { Contains self.old.failing self.old.calls → IsErr result }
+        ensures counts { CountsCall self.old self.new result }
+    {
         let fails = self.fails_next();
-        let call = if fails {
-            Call::Unchanged
-        } else {
-            Call::Sync { file }
-        };
-        if note(&mut self.entries, call).is_err() || fails {
-            return Err(count_fault(&mut self.faults));
+        if fails {
+            return self.make(Call::Unchanged, fails);
         }
-        Ok(())
+        self.make(Call::Sync { file }, fails)
     }
 
-    fn remove(&mut self, file: u64) -> Result<(), Failed> {
+    fn remove(&mut self, file: u64) -> Result<(), Failed>
+        ensures told { ⊤ → DidCut self.old.past self.new.past file 0 result }
+        ensures cause { HasCause self.old.faults self.new.faults result }
+
+        ensures fails { Contains self.old.failing self.old.calls → IsErr result }
+        ensures counts { CountsCall self.old self.new result }
+    {
         self.cut(file, 0)
     }
 

@@ -18,5 +18,9 @@ returns c =
     let short : length c.deref-2.result.now ≡ length c.in_ok-front.front.items = ap length c.deref-2.ensures.value in
     if_ok c.overwrite.result (λ v is. subst (IsTorn c.args.at (length c.args.piece.now) c.args.left.now)
     (sym (is ∙ ap (λ b. overwritten b c.args.at c.deref-2.result.now) same))
-    (torn_over c.args.left.now e.0 c.deref-2.result.now c.args.at (length c.args.piece.now) e.2 (omega (arith, short, c.in_ok-front.ensures))))
+    (torn_over c.args.left.now e.0 c.deref-2.result.now c.args.at (length c.args.piece.now) e.2 (omega (
+      arith,
+      short,
+      c.in_ok-front.ensures,
+    ))))
     c.overwrite.ensures
