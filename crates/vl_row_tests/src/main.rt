@@ -8,6 +8,8 @@
 mod recs_tests;
 #[cfg(test)]
 mod row_tests;
+#[cfg(test)]
+mod setter_tests;
 
 use std::cmp::Ordering;
 use std::io;
