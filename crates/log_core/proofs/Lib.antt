@@ -1,4 +1,4 @@
-pub mod Standing
+pub mod Chunks
 pub mod EntryLaws
-pub mod History
-pub mod Order
+pub mod Fronts
+pub mod Standing

@@ -1,36 +1,113 @@
--- What a commit leaves stands for a history.
-use Rattle.std.proofs.Common.{◌≡◌, ◌<◌, ◌+◌, suc, ℕ, List, [], ◌∷◌, length, None, arith, sym, subst}
+-- What a commit and a swap leave stands for a history.
+use Rattle.std.proofs.Common.{◌≡◌, ◌<◌, ◌≤◌, ◌+◌, suc, ℕ, List, [], ◌∷◌, length, take, None, arith, sym, ap, subst, ◌∙◌}
+use Rattle.std.proofs.Common.{All, Option, refl}
+use Rattle.std.specs.Prelude.{OnErr, OnOk, Result, Ok, Err}
+use Rattle.std.specs.List.{flat_map}
 use Rattle.std.specs.List.Sorted.{IsPermutation}
-use Rattle.log_model.specs.Core.{Contents, Goes, Stands, after, commit, count_of, held_limit, with_part}
-use Rattle.log_model.specs.History.{AreBatch, AreRowsOf, Entry, History, Numbered, entry_rows, numbered_in, with_batch}
-use Rattle.log_model.proofs.Numbering.{batch_with_number}
+use Rattle.std.proofs.lemmas.List.{take-map}
+use Rattle.std.proofs.lemmas.List.Elements.{All-head, All-tail}
+use Rattle.log_model.specs.Batches.{AreOf, batch_rows, swapped}
+use Rattle.log_model.specs.Core.{Contents, Goes, Stands, after, commit, count_of, held_limit, nothing, with_part}
+use Rattle.log_model.specs.History.{AreBatch, AreRowsOf, Entry, History, Numbered, entry_rows, numbered, numbered_in}
+use Rattle.log_model.specs.History.{with_batch}
+use Rattle.log_model.proofs.Joining.{numbered_batches, stands_swapped}
+use Rattle.log_model.proofs.Numbering.{batch_is_one, batch_with_number}
 use Rattle.log_model.proofs.Standing.{stands_after}
+use Rattle.std.proofs.lemmas.List.Sorted.{IsPermutation-refl}
+use Rattle.log_core.specs.Commits.{AreFront, GoesBy, HaveNumber, StandsWith}
+use Rattle.log_core.specs.Faults.{IsRefused}
+use Rattle.log_core.specs.declared.fault.CommitFault.{CommitFault}
+use Rattle.log_core.specs.declared.fault.CommitFault.TheVariants.{Memory}
 
--- a part that gets the next number is a commit of its batch
-pub goes_on : {P : Type 0} (rows : P → List Numbered) (part renumbered : P) (count : ℕ) (old new : Contents P)
-    → count ≡ count_of old → length old.unsettled < held_limit
-    → rows renumbered ≡ with_batch (count + 1) (rows part) → new ≡ with_part old renumbered
-    → (entry : Entry) → AreRowsOf (rows part) (entry_rows entry)
-    → Goes rows old (commit entry) new
-goes_on rows part renumbered count old new counted room same held entry are =
-    let renamed : IsPermutation (with_batch (count + 1) (rows part)) (numbered_in (count + 1) (entry_rows entry)) =
-    batch_with_number (count + 1) (rows part) (entry_rows entry) are in
-    let is : count + 1 ≡ suc (count_of old) = omega (arith, counted) in (
-      renumbered,
+-- Nothing stands for the empty history.
+pub stands_nothing : {P : Type 0} (rows : P → List Numbered) (held : Contents P) → held ≡ nothing → Stands rows held []
+stands_nothing rows held is = subst (λ h. Stands rows h []) (sym is) empty
+  where
+    empty : Stands rows nothing []
+    empty = record { counted = omega arith; few = omega arith; days = IsPermutation-refl []; unsettled = tt }
+
+-- Under its number the part holds a batch.
+pub have_number : (rows : List Numbered) (number : ℕ) → AreBatch rows → HaveNumber (with_batch number rows) number
+have_number rows number (batch, some, are) = (batch, some, batch_with_number number rows batch are)
+
+-- A part that gets the next number is a commit of its batch.
+pub goes_by : {P : Type 0} (rows : P → List Numbered) (part kept : P) (number : ℕ) (old new : Contents P)
+    → number ≡ count_of old + 1 → length old.unsettled < held_limit → rows kept ≡ with_batch number (rows part)
+    → new ≡ with_part old kept → GoesBy rows old part new
+goes_by rows part kept number old new next room same held entry are =
+    let renamed : IsPermutation (with_batch number (rows part)) (numbered_in number (entry_rows entry)) =
+    batch_with_number number (rows part) (entry_rows entry) are in
+    let is : number ≡ suc (count_of old) = omega (arith, next) in (
+      kept,
       room,
-      subst (λ n. IsPermutation (rows renumbered) (numbered_in n (entry_rows entry))) is
-          (subst (λ list. IsPermutation list (numbered_in (count + 1) (entry_rows entry))) (sym same) renamed),
+      subst (λ n. IsPermutation (rows kept) (numbered_in n (entry_rows entry))) is
+          (subst (λ list. IsPermutation list (numbered_in number (entry_rows entry))) (sym same) renamed),
       held,
     )
 
--- after a commit there is a history still
-pub stands_for_one : {P : Type 0} (rows : P → List Numbered) (part : P) (old new : Contents P)
-    → AreBatch (rows part)
-    → ((entry : Entry) → AreRowsOf (rows part) (entry_rows entry) → Goes rows old (commit entry) new)
+-- So what stood for a history stands for one more entry.
+pub stands_with : {P : Type 0} (rows : P → List Numbered) (part : P) (old new : Contents P) → GoesBy rows old part new
+    → StandsWith rows old part new
+stands_with rows part old new goes history entry are stands =
+    stands_after rows old new history (commit entry) (goes entry are) stands
+
+-- After a part more there is a history still.
+pub stands_one_more : {P : Type 0} (rows : P → List Numbered) (part : P) (old new : Contents P)
+    → length old.unsettled < held_limit → HaveNumber (rows part) (count_of old + 1) → new ≡ with_part old part
     → (history : History) × Stands rows old history → (history : History) × Stands rows new history
-stands_for_one rows part old new ([], some, are) goes standing = absurd (omega (arith, some))
-stands_for_one rows part old new (row ∷ others, some, are) goes standing =
-    let entry : Entry = record { first = row; others = others; maker = None } in (
-      after standing.0 (commit entry),
-      stands_after rows old new standing.0 (commit entry) (goes entry are) standing.1,
+stands_one_more rows part old new room ([], some, are) is standing = absurd (omega (arith, some))
+stands_one_more rows part old new room (row ∷ others, some, are) is standing =
+    let entry : Entry = record { first = row; others = others; maker = None } in
+    let next : count_of old + 1 ≡ suc (count_of old) = omega arith in
+    let goes : Goes rows old (commit entry) new =
+    (part, room, subst (λ n. IsPermutation (rows part) (numbered_in n (row ∷ others))) next are, is) in
+    (after standing.0 (commit entry), stands_after rows old new standing.0 (commit entry) goes standing.1)
+
+-- Whether it was appended or not, there is a history.
+pub stands_appended : {P A E : Type 0} (rows : P → List Numbered) (part : P) (old new : Contents P) (r : Result A E)
+    → length old.unsettled < held_limit → HaveNumber (rows part) (count_of old + 1)
+    → OnOk r (new ≡ with_part old part) → OnErr r (new ≡ old) → (history : History) × Stands rows old history
+    → (history : History) × Stands rows new history
+stands_appended rows part old new (Ok x) room batch ok err standing =
+    stands_one_more rows part old new room batch ok standing
+stands_appended rows part old new (Err e) room batch ok err standing =
+    (standing.0, subst (λ held. Stands rows held standing.0) (sym err) standing.1)
+
+-- A front of which there are day parts is no longer than what is counted.
+pub front_within : {P : Type 0} (rows : P → List Numbered) (held : Contents P) (front : ℕ) (days : List P)
+    → AreFront rows held front days → front ≤ count_of held
+front_within rows held front days are = let counted = are.1.counted in omega (arith, are.2)
+
+-- After a swap it stands for the same history.
+pub stands_after_swap : {P : Type 0} (rows : P → List Numbered) (held new : Contents P) (front : ℕ) (days : List P)
+    → held.settled ≤ front → AreFront rows held front days → new ≡ swapped held front days
+    → (history : History) × Stands rows new history
+stands_after_swap rows held new front days up (history, stands, within, are) is =
+    let same = numbered_batches (take front history) ∙ ap batch_rows (sym (take-map entry_rows front history)) in (
+      history,
+      subst (λ h. Stands rows h history) (sym is)
+          (stands_swapped rows held front days history up within (subst (IsPermutation (flat_map rows days)) (sym same)
+          are) stands),
     )
+
+-- ---- refusals
+
+-- Rows that are of one batch have its number.
+pub same_number : (rows : List Numbered) (number : ℕ) → All (λ (row : Numbered). row.batch ≡ number) rows
+    → rows ≡ with_batch number rows
+same_number [] number one = refl
+same_number (row ∷ rows) number one =
+    let Is : Numbered → Type 0 = λ row. row.batch ≡ number in
+    let here : row.batch ≡ number = All-head Is row rows one in
+    let renamed : Numbered = record { batch = number; place = row.place; row = row.row } in
+    let first : row ≡ renamed = ap (λ (n : ℕ). record { batch = n; place = row.place; row = row.row }) here in
+    ap (λ (r : Numbered). r ∷ rows) first
+    ∙ ap (λ (rest : List Numbered). renamed ∷ rest) (same_number rows number (All-tail Is row rows one))
+
+-- A part that comes back as it was is refused for memory.
+pub refused_as_it_was : {P : Type 0} (rows : P → List Numbered) (prevents : Option CommitFault) (part back : P)
+    → AreBatch (rows part) → prevents ≡ None → back ≡ part → IsRefused rows prevents part Memory back
+refused_as_it_was {P} rows prevents part back batch none same =
+    let one = batch_is_one (rows part) batch in
+    subst (λ fault. IsRefused rows fault part Memory back) (sym none)
+    (refl, (one.0, ap rows same ∙ same_number (rows part) one.0 one.1))

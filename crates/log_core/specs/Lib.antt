@@ -1,4 +1,5 @@
+pub mod Commits
 pub mod Entries
 pub mod Faults
-pub mod History
+pub mod Offers
 pub mod Shared

@@ -4,10 +4,12 @@
 
 mod entries;
 mod fault;
+mod offer;
 mod shelf;
 mod snapshot;
+mod state;
 
 pub use entries::EntryRows;
-pub use fault::CommitFault;
+pub use fault::{CommitFault, SwapFault};
 pub use shelf::{Shelf, stands_after_all};
-pub use snapshot::{Snapshot, history_law};
+pub use snapshot::Snapshot;

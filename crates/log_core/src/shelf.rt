@@ -1,14 +1,18 @@
-ghost use Rattle.std.specs.Prelude.{◌≡◌, ◌+◌, ◌++◌, ◌^◌, ◌<◌, length, IfNone, None, OnErr, OnOk, IfErr, IfOk, []};
-ghost use Rattle.std.specs.Prelude.{◌∷◌, ℕ, map, vec_capacity, vec_len};
+ghost use Rattle.std.specs.Prelude.{◌≡◌, ◌+◌, ◌^◌, ◌<◌, ◌≤◌, length, None, Some, OnErr, OnOk, IfErr, IfOk, []};
+ghost use Rattle.std.specs.Prelude.{MatchResult};
 ghost use Rattle.std.specs.Arc.{arc_value};
-ghost use Rattle.log_model.specs.Core.{Goes, Stands, StandsAfterAll, after, commit, count_of, held_limit, look};
-ghost use Rattle.log_model.specs.Core.{nothing, with_part};
-ghost use Rattle.log_model.specs.History.{AreBatch, AreRowsOf, Entry, History, entry_rows, with_batch};
-ghost use Rattle.log_core.specs.Shared.{contents_of, parts_in};
-ghost use Rattle.log_core.specs.Faults.{IsPartRefused, commit_fault};
+ghost use Rattle.log_model.specs.Batches.{swapped};
+ghost use Rattle.log_model.specs.Core.{Goes, Stands, StandsAfterAll, count_of, held_limit, look, nothing, with_part};
+ghost use Rattle.log_model.specs.History.{AreBatch, History, with_batch};
+ghost use Rattle.log_core.specs.Commits.{AreFront, GoesBy, HaveNumber, HoldsNext, StandsWith};
+ghost use Rattle.log_core.specs.Faults.{IsPartRefused, IsRefused, IsSwapRefused, commit_fault};
+ghost use Rattle.log_core.specs.Offers.{IsSameOffer, offered};
+ghost use Rattle.log_core.specs.Shared.{shared_parts};
 
-use crate::fault::CommitFault;
+use crate::fault::{CommitFault, SwapFault};
+use crate::offer::Offer;
 use crate::snapshot::Snapshot;
+use crate::state::{State, append};
 use std::alloc::{AllocError, Global};
 use std::marker::Model;
 use std::sync::Arc;
@@ -20,25 +24,26 @@ const HELD_LIMIT: usize = 4_096;
 /// The last number of a batch.
 const LAST_BATCH: u64 = i64::MAX as u64;
 
-/// The state that all callers share: the accepted batches, each held as a part.
+/// The state that all callers share: the accepted batches, the first of them as day parts, and each other one as a part
+/// of its own.
 ///
 /// It always stands for a history of these batches. [`stands_after_all`] says so of every list of commits and looks.
 #[derive(Drop)]
 pub struct Shelf<P: Held> {
-    parts: Arc<Vec<Arc<P>>>,
+    state: Arc<State<P>>,
 }
 
 impl<P: Held> Model for Shelf<P> {
+    ghost use Rattle.std.specs.Arc.{arc_value};
     ghost use Rattle.log_model.specs.Core.{Contents, Stands};
     ghost use Rattle.log_model.specs.History.{History};
-    ghost use Rattle.log_core.specs.Shared.{contents_of, parts_in};
 
     ghost Value = { Contents P };
 
-    ghost view = { λ s. contents_of (parts_in s.parts) };
+    ghost view = { λ s. arc_value s.state };
 
     // There is a history for which it stands.
-    ghost invariant = { λ s. (history : History) × Stands P.numbered (contents_of (parts_in s.parts)) history };
+    ghost invariant = { λ s. (history : History) × Stands P.numbered (arc_value s.state) history };
 }
 
 impl<P: Held> Shelf<P> {
@@ -47,43 +52,67 @@ impl<P: Held> Shelf<P> {
         ensures nothing { IfOk result (λ shelf. shelf ≡ nothing) }
         ensures stands { IfOk result (λ shelf. Stands P.numbered shelf []) }
     {
-        let parts = Arc::new(alloc, Vec::new(alloc))?;
-        Ok(Shelf { parts })
+        let state = Arc::new(alloc, State::empty(alloc)?)?;
+        Ok(Shelf { state })
     }
 
-    /// Appends the batch that the part holds, under whatever number, as the next one, and answers its number. The first
-    /// fault that applies is answered, and the part handed back with it. Where memory ran out its rows may have another
-    /// batch number.
+    /// Appends the batch that the part holds, under whatever number, as the next one, and returns its number. A refusal
+    /// returns the part with the first fault that applies.
     pub fn commit(&mut self, alloc: Global, part: P) -> Result<u64, (CommitFault, Option<P>)>
         requires { AreBatch (P.numbered part) }
         ensures number { IfOk result (λ number. number ≡ count_of self.old + 1) }
-        ensures goes { OnOk result ((entry : Entry) → AreRowsOf (P.numbered part) (entry_rows entry)
-            → Goes P.numbered self.old (commit entry) self.new) }
+        ensures held { OnOk result (HoldsNext P.numbered self.old part self.new) }
 
         // So the history gains exactly this batch, whoever made it.
-        ensures stands { OnOk result ((history : History) (entry : Entry)
-            → AreRowsOf (P.numbered part) (entry_rows entry)
-            → Stands P.numbered self.old history → Stands P.numbered self.new (after history (commit entry))) }
-
-        // The part is held after the others, under its number.
-        ensures held { OnOk result ((kept : P) × (self.new ≡ with_part self.old kept)
-            × (P.numbered kept ≡ with_batch (count_of self.old + 1) (P.numbered part))) }
-
-        // What was held before stood for some history, of which nothing was settled.
-        ensures stood { (history : History) × Stands P.numbered self.old history }
-        ensures unsettled { self.old ≡ contents_of self.old.unsettled }
+        ensures goes { OnOk result (GoesBy P.numbered self.old part self.new) }
+        ensures stands { OnOk result (StandsWith P.numbered self.old part self.new) }
 
         // A batch is refused exactly where something prevents it, or memory ran out.
         ensures accepted { OnOk result (commit_fault self.old ≡ None) }
         ensures refused { IfErr result (IsPartRefused P.numbered (commit_fault self.old) part) }
         ensures err { OnErr result (self.new ≡ self.old) }
     {
-        if let Some(fault) = self.fault() {
-            return Err((fault, Some(part)));
+        let number = match self.next_number() {
+            Ok(number) => number,
+            Err(fault) => return Err((fault, Some(part))),
+        };
+        let mut part = part;
+        part.set_batch(number);
+        match self.append(alloc, Offer::Plain(part)) {
+            Ok(()) => Ok(number),
+            Err(Offer::Plain(part)) => Err((CommitFault::Memory, Some(part))),
+            Err(Offer::Boxed(_)) => unreachable!(),
         }
-        match self.push(alloc, part) {
-            Ok(number) => Ok(number),
-            Err(part) => Err((CommitFault::Memory, Some(part))),
+    }
+
+    /// Does what [`commit`](Shelf::commit) does, for a part whose shared box was made before. No one else may have the
+    /// box: a part that someone shares is refused, as for memory.
+    pub fn commit_shared(
+        &mut self,
+        alloc: Global,
+        part: Arc<P>,
+    ) -> Result<u64, (CommitFault, Arc<P>)>
+        requires { AreBatch (P.numbered (arc_value part)) }
+        ensures number { IfOk result (λ number. number ≡ count_of self.old + 1) }
+        ensures held { OnOk result (HoldsNext P.numbered self.old (arc_value part) self.new) }
+        ensures goes { OnOk result (GoesBy P.numbered self.old (arc_value part) self.new) }
+        ensures stands { OnOk result (StandsWith P.numbered self.old (arc_value part) self.new) }
+        ensures accepted { OnOk result (commit_fault self.old ≡ None) }
+        ensures refused { IfErr result (λ refusal.
+            IsRefused P.numbered (commit_fault self.old) (arc_value part) refusal.0 (arc_value refusal.1)) }
+        ensures err { OnErr result (self.new ≡ self.old) }
+    {
+        let number = match self.next_number() {
+            Ok(number) => number,
+            Err(fault) => return Err((fault, part)),
+        };
+        match with_number(part, number) {
+            Ok(part) => match self.append(alloc, Offer::Boxed(part)) {
+                Ok(()) => Ok(number),
+                Err(Offer::Boxed(part)) => Err((CommitFault::Memory, part)),
+                Err(Offer::Plain(_)) => unreachable!(),
+            },
+            Err(part) => Err((CommitFault::Memory, part)),
         }
     }
 
@@ -92,129 +121,111 @@ impl<P: Held> Shelf<P> {
         ensures held { IfOk result (λ snapshot. snapshot ≡ self.now) }
         ensures stays { Goes P.numbered self.now look self.now }
     {
-        let parts = Arc::try_clone(&self.parts)?;
-        Ok(Snapshot { parts })
+        let state = Arc::try_clone(&self.state)?;
+        Ok(Snapshot { state })
+    }
+
+    /// Has the first `front` batches as these day parts from now on. The later batches stay as they are.
+    ///
+    /// It lets go of the day parts and the parts in whose place the new ones come. Have a look at them, and keep that
+    /// until the turn is over, so that they are not freed within it.
+    pub fn swap(&mut self, alloc: Global, front: u64, days: Vec<Arc<P>>) -> Result<(), SwapFault>
+        requires { AreFront P.numbered self.old front (shared_parts days.items) }
+        ensures ok { OnOk result (self.new ≡ swapped self.old front (shared_parts days.items)) }
+        ensures up { OnOk result (self.old.settled ≤ front) }
+        ensures behind { IfErr result (IsSwapRefused self.old.settled front) }
+        ensures err { OnErr result (self.new ≡ self.old) }
+    {
+        let settled = self.state.settled();
+        if settled > front {
+            return Err(SwapFault::Behind { settled, front });
+        }
+        match swapped_state(alloc, &self.state, front, days) {
+            Ok(state) => {
+                self.state = state;
+                Ok(())
+            }
+            Err(AllocError) => Err(SwapFault::Memory),
+        }
     }
 
     /// Returns how many batches there are.
     pub fn count(&self) -> u64
         ensures value { result ≡ count_of self.now }
         ensures small { result < 2 ^ 63 }
-        // It stands for some history, of which nothing is settled.
+        // It stands for some history.
         ensures stands { (history : History) × Stands P.numbered self.now history }
-        ensures unsettled { self.now ≡ contents_of self.now.unsettled }
     {
-        self.parts.len() as u64
+        self.state.count()
     }
 
     /// Returns how many of them, from the first on, are held as day parts.
     pub fn settled(&self) -> u64
         ensures value { result ≡ self.now.settled }
-        ensures none { result ≡ 0 }
     {
-        // What a shelf holds is known where one of its fields is named.
-        let _ = &self.parts;
-        0
+        self.state.settled()
     }
 
-    /// Returns what prevents one more batch.
-    fn fault(&self) -> Option<CommitFault>
-        ensures value { result ≡ commit_fault self.now }
-        ensures room { IfNone result (length self.now.unsettled < held_limit) }
-        ensures stands { (history : History) × Stands P.numbered self.now history }
-        ensures unsettled { self.now ≡ contents_of self.now.unsettled }
+    /// Returns the number of the next batch, or what prevents it.
+    fn next_number(&self) -> Result<u64, CommitFault>
+        ensures value { MatchResult result
+            (λ number. (number ≡ count_of self.now + 1) × (commit_fault self.now ≡ None))
+            (λ fault. commit_fault self.now ≡ Some fault) }
+        ensures room { OnOk result (length self.now.unsettled < held_limit) }
+        ensures small { IfOk result (λ number. number < 2 ^ 63) }
     {
-        if self.parts.len() == HELD_LIMIT {
-            return Some(CommitFault::Full {
+        if self.state.waiting() == HELD_LIMIT {
+            return Err(CommitFault::Full {
                 held: HELD_LIMIT as u64,
             });
         }
-        if self.count() == LAST_BATCH {
-            return Some(CommitFault::Spent);
+        let count = self.state.count();
+        if count == LAST_BATCH {
+            return Err(CommitFault::Spent);
         }
-        None
+        Ok(count + 1)
     }
 
-    /// Appends a batch, under the next number, which it answers. Where memory runs out the part comes back under that
-    /// number.
-    #[tactic(auto, using(log_model::proofs::Numbering::batch_is_one))]
-    fn push(&mut self, alloc: Global, mut part: P) -> Result<u64, P>
-        requires batch { AreBatch (P.numbered part) }
+    /// Appends a part, which has the next number.
+    fn append(&mut self, alloc: Global, part: Offer<P>) -> Result<(), Offer<P>>
         requires room { length self.old.unsettled < held_limit }
-        ensures number { IfOk result (λ number. number ≡ count_of self.old + 1) }
-        ensures goes { OnOk result ((entry : Entry) → AreRowsOf (P.numbered part) (entry_rows entry)
-            → Goes P.numbered self.old (commit entry) self.new) }
-        ensures held { OnOk result ((kept : P) × (self.new ≡ with_part self.old kept)
-            × (P.numbered kept ≡ with_batch (count_of self.old + 1) (P.numbered part))) }
+        requires small { count_of self.old + 1 < 2 ^ 63 }
+        requires batch { HaveNumber (P.numbered (offered part)) (count_of self.old + 1) }
+        ensures ok { OnOk result (self.new ≡ with_part self.old (offered part)) }
         ensures err { OnErr result (self.new ≡ self.old) }
-        ensures returned { IfErr result (λ back. (number : ℕ)
-            × (P.numbered back ≡ with_batch number (P.numbered part))) }
+        ensures returned { IfErr result (IsSameOffer part) }
     {
-        let number = self.count() + 1;
-        part.set_batch(number);
-        push_part(alloc, &mut self.parts, part)?;
-        Ok(number)
+        append(alloc, &mut self.state, part)
     }
 }
 
-/// Appends a part to the list. All memory is taken before, and where it runs out the part comes back.
-fn push_part<P: Drop>(alloc: Global, parts: &mut Arc<Vec<Arc<P>>>, part: P) -> Result<(), P>
-    ensures ok { OnOk result (parts_in parts.new ≡ parts_in parts.old ++ part ∷ []) }
-    ensures err { OnErr result (parts_in parts.new ≡ parts_in parts.old) }
-    ensures returned { IfErr result (λ back. back ≡ part) }
+/// Gives the rows of the part this number, or returns it where someone else has its box.
+fn with_number<P: Held>(part: Arc<P>, number: u64) -> Result<Arc<P>, Arc<P>>
+    requires { AreBatch (P.numbered (arc_value part)) }
+    ensures ok { IfOk result (λ p. P.numbered (arc_value p) ≡ with_batch number (P.numbered (arc_value part))) }
+    ensures err { IfErr result (λ p. arc_value p ≡ arc_value part) }
 {
-    match own_list(alloc, parts) {
-        Ok(()) => {}
-        Err(AllocError) => return Err(part),
+    let mut part = part;
+    match Arc::get_mut(&mut part) {
+        Some(own) => own.set_batch(number),
+        None => return Err(part),
     }
-    // No one else has the list now.
-    let Some(list) = Arc::get_mut(parts) else {
-        return Err(part);
-    };
-    match list.reserve(1) {
-        Ok(()) => {}
-        Err(AllocError) => return Err(part),
-    }
-    match Arc::new(alloc, part) {
-        Ok(part) => {
-            push_within(list, part);
-            Ok(())
-        }
-        Err(refusal) => Err(refusal.value),
-    }
+    Ok(part)
 }
 
-/// Copies a list that a snapshot still has, which copies one pointer a part.
-fn own_list<P: Drop>(alloc: Global, parts: &mut Arc<Vec<Arc<P>>>) -> Result<(), AllocError>
-    ensures { parts_in parts.new ≡ parts_in parts.old }
+/// Returns what a swap leaves.
+fn swapped_state<P: Drop>(
+    alloc: Global,
+    state: &State<P>,
+    front: u64,
+    days: Vec<Arc<P>>,
+) -> Result<Arc<State<P>>, AllocError>
+    requires up { state.now.settled ≤ front }
+    requires within { front ≤ count_of state.now }
+    ensures { IfOk result (λ new. arc_value new ≡ swapped state.now front (shared_parts days.items)) }
 {
-    if Arc::strong_count(parts) > 1 {
-        let list = copied(alloc, parts.as_slice())?;
-        *parts = Arc::new(alloc, list)?;
-    }
-    Ok(())
-}
-
-/// Appends a part to the list, which has room for it.
-fn push_within<P: Drop>(list: &mut Vec<Arc<P>>, part: Arc<P>)
-    requires room { vec_len list.old < vec_capacity list.old }
-    ensures { list.new.items ≡ list.old.items ++ part ∷ [] }
-{
-    match list.push(part) {
-        Ok(()) => {}
-        Err(_) => unreachable!(),
-    }
-}
-
-/// Returns the same parts, with room for one more.
-fn copied<P: Drop>(alloc: Global, parts: &[Arc<P>]) -> Result<Vec<Arc<P>>, AllocError>
-    ensures { IfOk result (λ copies. map arc_value copies.items ≡ map arc_value parts.now) }
-{
-    let mut copies = Vec::with_capacity(alloc, parts.len().saturating_add(1))?;
-    for part in parts {
-        copies.push(Arc::try_clone(part)?)?;
-    }
-    Ok(copies)
+    let state = state.after_swap(alloc, front, days)?;
+    Ok(Arc::new(alloc, state)?)
 }
 
 /// Over every list of steps, of any callers, the shelf stands for the history of the batches that were committed. The

@@ -1,6 +1,6 @@
 -- How the history that a caller has seen grows.
-use Rattle.std.proofs.Common.{◌≡◌, ℕ, ◌+◌, ◌<◌, true, false, List, [], ◌∷◌, ◌++◌, length, refl, ap, subst}
-use Rattle.std.proofs.Common.{◌∙◌, arith}
+use Rattle.std.proofs.Common.{◌≡◌, ℕ, ◌+◌, ◌<◌, true, false, List, [], ◌∷◌, ◌++◌, length, refl, sym, ap, subst}
+use Rattle.std.proofs.Common.{◌∙◌, arith, append_assoc, length-append}
 use Rattle.std.specs.List.{AllByRecursion, filter}
 use Rattle.std.specs.Prelude.{All, Some}
 use Rattle.std.proofs.lemmas.Bool.Decides.{nat_tests}
@@ -10,13 +10,15 @@ use Rattle.log_model.specs.History.{History}
 use Rattle.log_model.specs.Row.{Batch}
 use Rattle.turn_lock.specs.declared.view.Entry.{Entry}
 use Rattle.turn_lock.specs.Totals.{times}
-use Rattle.turn_lock.specs.Entries.{AreStrangers, IsStranger, is_among, made, maker_of}
-use Rattle.turn_lock.specs.Passes.{Finds, LockId, IsPassOf, PassState, after_turn, committed}
+use Rattle.turn_lock.specs.Entries.{AreStrangers, Continues, IsStranger, is_among, made, maker_of, places}
+use Rattle.turn_lock.specs.Passes.{Finds, LockId, IsPassOf, PassState, after_turn, committed, mine}
+use Rattle.turn_lock.specs.Views.{end_of}
 use Rattle.turn_lock.proofs.Laws.{each_stranger}
+use Rattle.turn_lock.proofs.Places.{places_made, places_stay}
 use Rattle.log_core.specs.Entries.{entry_of, seen_history}
 use Rattle.log_core.specs.declared.entries.EntryRows.{EntryRows}
-use Rattle.log_desk.specs.Calls.{Inserts}
-use Rattle.log_desk.specs.Seen.{Caller, Follows, Gains, IsStrange, caller_of, is_own, seen_of}
+use Rattle.log_desk.specs.Calls.{Inserted, Looked, TookTurn}
+use Rattle.log_desk.specs.Seen.{Caller, Follows, Gains, IsStrange, TakesTurn, caller_of, is_own, seen_of, turn_of}
 
 -- It has as many entries as the pass has seen.
 pub length-seen : (seen : List (Entry EntryRows)) → length (seen_history seen) ≡ length seen
@@ -70,44 +72,62 @@ strange p es strangers = each_strange p es (each_stranger p.lock.passes p.number
 
 -- ---- a turn
 
-turns_found : (p q : PassState EntryRows) → Finds p q → q.turns ≡ p.turns
-turns_found p q finds = let left = ap (λ s. s.turns) finds.same in omega arith
-
--- It leaves the caller who it was.
-pub caller_left : (p q r : PassState EntryRows) → Finds p q → r ≡ after_turn q → caller_of r ≡ caller_of p
-caller_left p q r finds left = ap caller_of left ∙ ap caller_of finds.same
-
-pub caller_left_committed : (entry : EntryRows) (p q r : PassState EntryRows) → Finds p q
-    → r ≡ after_turn (committed entry q) → caller_of r ≡ caller_of p
-caller_left_committed entry p q r finds left = ap caller_of left ∙ ap caller_of finds.same
-
--- Without a commit the caller follows the history.
-pub follows_left : (p q r : PassState EntryRows) → Finds p q → r ≡ after_turn q
-    → Follows (caller_of p) (seen_of p) (seen_of r)
-follows_left p q r finds left =
-    let knows = finds.knows in
-    let turns : r.turns ≡ q.turns + 1 = ap (λ s. s.turns) left in
-    let mark : r.mark ≡ q.mark = ap (λ s. s.mark) left in
-    let rises = finds.rises in
-    record {
-      others = seen_history knows.rest;
-      longer = ap (λ s. seen_history s.seen) left ∙ ap seen_history knows.begins
-          ∙ map-append entry_of p.seen knows.rest;
-      strange = strange p knows.rest knows.strangers;
-      settled = omega arith;
-      stays = λ may. mark ∙ finds.settles may;
-      turns = omega (arith, turns_found p q finds);
+-- Without a commit a turn leaves a pass that has looked.
+pub looked_left : (l : LockId) (p q r : PassState EntryRows) → IsPassOf l p → Finds p q → r ≡ after_turn q
+    → Looked l p r
+looked_left l p q r is finds left =
+    subst (Looked l p) (sym left) record {
+      took = record {
+        caller = ap caller_of finds.same;
+        turn = ap (λ (s : PassState EntryRows). s.turns ++ end_of q.seen q.mark ∷ []) finds.same;
+        mark = record { rises = finds.rises; stays = finds.settles };
+      };
+      adds = subst (λ n. Continues n p.numbers p.seen q.seen) (ap (λ (lock : LockId). lock.passes) is.lock) finds.knows;
     }
 
--- With a commit it gains the batch.
-pub gains_left : (l : LockId) (entry : EntryRows) (batch : Batch) (p q r : PassState EntryRows) → IsPassOf l p
-    → Finds p q → r ≡ after_turn (committed entry q) → Inserts batch p r
-    → Gains (caller_of p) (seen_of p) (seen_of r) batch
-gains_left l entry batch p q r is finds left inserts =
+-- With one it leaves a pass that took its turn.
+pub took_committed : (entry : EntryRows) (p q r : PassState EntryRows) → Finds p q
+    → r ≡ after_turn (committed entry q) → TookTurn p r
+took_committed entry p q r finds left =
+    subst (TookTurn p) (sym left) record {
+      caller = ap caller_of finds.same;
+      turn = ap (λ (s : PassState EntryRows). s.turns ++ end_of (committed entry q).seen q.mark ∷ []) finds.same;
+      mark = record { rises = finds.rises; stays = finds.settles };
+    }
+
+-- ---- what a call of the desk does to what its caller has seen
+
+pub takes_turn : (p r : PassState EntryRows) → TookTurn p r → TakesTurn (seen_of p) (seen_of r)
+takes_turn p r took =
+    took.turn ∙ ap (λ (n : ℕ). p.turns ++ record { count = n; mark = r.mark } ∷ []) (sym (length-seen r.seen))
+
+same_passes : (l : LockId) (p : PassState EntryRows) → IsPassOf l p → l.passes ≡ p.lock.passes
+same_passes l p is = sym (ap (λ (lock : LockId). lock.passes) is.lock)
+
+-- A caller that looks follows the history.
+pub follows : (l : LockId) (p r : PassState EntryRows) → IsPassOf l p → Looked l p r
+    → Follows (caller_of p) (seen_of p) (seen_of r)
+follows l p r is looked =
+    let adds = looked.adds in
+    let took = looked.took in
+    record {
+      others = seen_history adds.rest;
+      longer = ap seen_history adds.begins ∙ map-append entry_of p.seen adds.rest;
+      strange = strange p adds.rest
+          (subst (λ n. AreStrangers n p.numbers adds.rest) (same_passes l p is) adds.strangers);
+      settled = took.mark.rises;
+      stays = took.mark.stays;
+      more_turns = turn_of (seen_of r) ∷ [];
+      turns = takes_turn p r took;
+    }
+
+-- A caller that inserts a batch gains it.
+pub gains : (l : LockId) (batch : Batch) (number : ℕ) (p r : PassState EntryRows) → IsPassOf l p
+    → Inserted batch number p r → Gains (caller_of p) (seen_of p) (seen_of r) batch
+gains l batch number p r is inserted =
+    let inserts = inserted.inserts in
+    let took = inserted.took in
     let own : Entry EntryRows = made (maker_of p.numbers) inserts.rows in
-    let turns : r.turns ≡ q.turns + 1 = ap (λ s. s.turns) left in
-    let mark : r.mark ≡ q.mark = ap (λ s. s.mark) left in
-    let rises = finds.rises in
     record {
       others = seen_history inserts.others;
       entry = entry_of own;
@@ -116,7 +136,32 @@ gains_left l entry batch p q r is finds left inserts =
       strange = strange p inserts.others inserts.strangers;
       own = among p.numbers is.some_number;
       rows = inserts.is_batch;
-      settled = omega arith;
-      stays = λ may. mark ∙ finds.settles may;
-      turns = omega (arith, turns_found p q finds);
+      settled = took.mark.rises;
+      stays = took.mark.stays;
+      turn = takes_turn p r took;
     }
+
+-- ---- the places of its own entries
+
+-- A look adds none.
+pub mine_looked : (l : LockId) (p r : PassState EntryRows) → Looked l p r → mine r ≡ mine p
+mine_looked l p r looked =
+    ap (λ (c : Caller). places 1 c.numbers r.seen) looked.took.caller
+    ∙ places_stay l.passes 1 p.numbers p.seen r.seen looked.adds
+
+-- An insert adds one, the last.
+pub mine_inserted : (l : LockId) (batch : Batch) (number : ℕ) (p r : PassState EntryRows) → IsPassOf l p
+    → Inserted batch number p r → mine r ≡ mine p ++ number ∷ []
+mine_inserted l batch number p r is inserted =
+    let inserts = inserted.inserts in
+    let before : List (Entry EntryRows) = p.seen ++ inserts.others in
+    let seen : r.seen ≡ before ++ made (maker_of p.numbers) inserts.rows ∷ [] =
+    inserts.seen ∙ sym (append_assoc p.seen inserts.others (made (maker_of p.numbers) inserts.rows ∷ [])) in
+    let number_is : length before + 1 ≡ number =
+    omega (arith, ap length seen, inserted.counted, length-append before (made (maker_of p.numbers) inserts.rows ∷ [])) in
+    let knows : Continues p.lock.passes p.numbers p.seen before =
+    record { rest = inserts.others; begins = refl; strangers = inserts.strangers } in
+    ap (λ (c : Caller). places 1 c.numbers r.seen) inserted.took.caller ∙ ap (places 1 p.numbers) seen
+    ∙ places_made p.numbers before inserts.rows is.some_number
+    ∙ ap (λ m. m ++ (length before + 1) ∷ []) (places_stay p.lock.passes 1 p.numbers p.seen before knows)
+    ∙ ap (λ n. mine p ++ n ∷ []) number_is

@@ -1,9 +1,10 @@
 -- Who a caller of the desk is, what it has seen of the history, and how that grows.
-use Rattle.std.specs.Prelude.{◌≡◌, ℕ, ◌<◌, ◌≤◌, Bool, true, List, [], ◌∷◌, ◌++◌, Some}
+use Rattle.std.specs.Prelude.{◌≡◌, ℕ, ◌<◌, ◌≤◌, Bool, true, List, [], ◌∷◌, ◌++◌, length, Some}
 use Rattle.std.specs.List.{AllByRecursion}
 use Rattle.log_model.specs.History.{Entry, History, entry_maker, entry_rows}
 use Rattle.log_model.specs.Row.{Batch}
 use Rattle.turn_lock.specs.Entries.{is_among}
+use Rattle.turn_lock.specs.declared.view.TurnEnd.{TurnEnd}
 use Rattle.turn_lock.specs.Passes.{LockId, PassState}
 use Rattle.turn_lock.specs.Totals.{times}
 use Rattle.log_core.specs.Entries.{seen_history}
@@ -29,14 +30,22 @@ caller_of p = record {
   may_settle = p.may_settle;
 }
 
--- a front of the history, how many of its batches were settled, and how many turns the caller took
+-- a front of the history, how many of its batches were settled, and the turns that the caller left, oldest first
 pub record Seen : Type 0 where
   pub history : History
   pub settled : ℕ
-  pub turns : ℕ
+  pub turns : List TurnEnd
 
 abbrev pub seen_of : PassState EntryRows → Seen
 seen_of p = record { history = seen_history p.seen; settled = p.mark; turns = p.turns }
+
+-- a turn that ended when this was seen
+abbrev pub turn_of : Seen → TurnEnd
+turn_of seen = record { count = length seen.history; mark = seen.settled }
+
+-- The caller left one turn more, in which it saw all that it has seen now.
+abbrev pub TakesTurn : Seen → Seen → Type 0
+TakesTurn old new = new.turns ≡ old.turns ++ turn_of new ∷ []
 
 -- The caller made the entry.
 abbrev pub is_own : Caller → Entry → Bool
@@ -56,7 +65,8 @@ pub record Follows (caller : Caller) (old new : Seen) : Type 0 where
   pub strange : AllByRecursion (IsStrange caller) others
   pub settled : old.settled ≤ new.settled
   pub stays : 0 < caller.may_settle → new.settled ≡ old.settled
-  pub turns : old.turns ≤ new.turns
+  pub more_turns : List TurnEnd
+  pub turns : new.turns ≡ old.turns ++ more_turns
 
 -- After such entries there is one more, the last: this batch, which the caller made.
 pub record Gains (caller : Caller) (old new : Seen) (batch : Batch) : Type 0 where
@@ -68,4 +78,4 @@ pub record Gains (caller : Caller) (old new : Seen) (batch : Batch) : Type 0 whe
   pub rows : entry_rows entry ≡ batch
   pub settled : old.settled ≤ new.settled
   pub stays : 0 < caller.may_settle → new.settled ≡ old.settled
-  pub turns : old.turns < new.turns
+  pub turn : TakesTurn old new

@@ -1,7 +1,7 @@
 -- What one turn does to a pass.
 use Rattle.std.specs.Prelude.{◌≡◌, ℕ, ◌+◌, ◌<◌, ◌≤◌, List, ◌∷◌, ◌++◌, length, All, ◌⊎◌}
 use Rattle.turn_lock.specs.declared.view.Entry.{Entry}
-use Rattle.turn_lock.specs.Passes.{PassState}
+use Rattle.turn_lock.specs.Passes.{LeftTurn, PassState}
 use Rattle.turn_lock.specs.Entries.{IsStranger}
 
 -- What is seen begins with what was seen before. Each further entry is this one, or another caller's.
@@ -12,7 +12,7 @@ pub record GoesOn (own : Entry ℕ) (old new : PassState ℕ) : Type 0 where
 
 -- One turn more was left. The numbers, the draws and whether the pass may settle are as before.
 pub record TakesOneTurn (old new : PassState ℕ) : Type 0 where
-  pub turns : new.turns ≡ old.turns + 1
+  pub turns : LeftTurn old new
   pub numbers : new.numbers ≡ old.numbers
   pub seen_drawn : new.seen_drawn ≡ old.seen_drawn
   pub draws : new.draws ≡ old.draws

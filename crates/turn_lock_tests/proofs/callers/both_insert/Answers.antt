@@ -17,8 +17,8 @@ returns-in-Ok-Ok-clause-first g c =
     × ((before : List (Entry ℕ)) × (new.seen ≡ before ++ made n 10 ∷ []))))
     c.in-Ok-Ok.is-0 i.last in
     let own = times_last (mine new) (mine old) c.in-Ok-Ok.first grew in
-    let kept = c.join.ensures.mine.first c.in-Ok-Ok.first in (
+    let kept = c.join.ensures.joins.mine.first c.in-Ok-Ok.first in (
       stands_on 10 c.in-Ok-Ok.first c.args.lock.now.passes n new.numbers last.1.0 new.seen c.join.new.pass.seen last.0
-          last.1.1 c.join.ensures.first,
+          last.1.1 c.join.ensures.joins.knows_first,
       omega arith,
     )

@@ -1,17 +1,10 @@
 use Rattle.std.proofs.Common.{subst}
 use Rattle.turn_lock.specs.Passes.{Finds}
-use Rattle.turn_lock.proofs.Laws.{mine-left}
-use Rattle.log_desk.proofs.SeenLaws.{follows_left}
+use Rattle.log_desk.proofs.SeenLaws.{looked_left}
 use Rattle.log_desk.proofs.desk.Desk.status.Goals as goal
 
-pub returns-clause-follows : goal.returns-clause-follows
-returns-clause-follows g c =
+pub returns-clause-looked : goal.returns-clause-looked
+returns-clause-looked g c =
     let inside = c.enter-turn.result.pass.now in
-    follows_left c.args.pass.now inside c.leave.new.self.0
-    (subst (λ pass. Finds pass inside) c.pass.view_is c.enter-turn.ensures.finds) c.leave.ensures
-
-pub returns-clause-mine : goal.returns-clause-mine
-returns-clause-mine g c =
-    let inside = c.enter-turn.result.pass.now in
-    mine-left c.args.pass.now inside c.leave.new.self.0
+    looked_left c.args.self.now c.args.pass.now inside c.leave.new.self.0 c.requires
     (subst (λ pass. Finds pass inside) c.pass.view_is c.enter-turn.ensures.finds) c.leave.ensures

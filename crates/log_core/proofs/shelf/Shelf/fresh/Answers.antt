@@ -1,0 +1,7 @@
+use Rattle.std.proofs.Common.{[], ◌∙◌}
+use Rattle.log_core.proofs.Standing.{stands_nothing}
+use Rattle.log_core.proofs.shelf.Shelf.fresh.Goals as goal
+
+pub invariant_of-result : goal.invariant_of-result
+invariant_of-result g c =
+    ([], stands_nothing g.P.Held.numbered _ (c.in_ok-state.ensures.ok ∙ c.in_ok-empty.ensures))
