@@ -1,3 +1,4 @@
+pub mod Choosing
 pub mod Conditions
 pub mod Folding
 pub mod Order

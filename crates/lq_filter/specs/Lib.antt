@@ -1,3 +1,4 @@
+pub mod Computed
 pub mod Inner
 pub mod Labels
 pub mod Reads

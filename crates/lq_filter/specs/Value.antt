@@ -25,7 +25,7 @@ value_holds (Phrase text) value = occurs value text
 value_holds (Prefix text) value = if is_empty text then not (is_empty value) else occurs_as_prefix value text
 value_holds (Exact text) value = bytes_eq value text
 value_holds (ExactPrefix text) value = starts_with nat_eq value text
-value_holds (OneOf texts) value = list_any (bytes_eq value) texts.items
+value_holds (OneOf texts) value = list_any (bytes_eq value) texts
 value_holds (Pattern text) value = is_found text value
 value_holds (Folded text) value =
     if is_empty text then is_empty value else occurs (case_folded value) (case_folded text)
@@ -42,7 +42,7 @@ condition_on name (Phrase text) = is.phrase name text
 condition_on name (Prefix text) = is.prefix name text
 condition_on name (Exact text) = is.exact name text
 condition_on name (ExactPrefix text) = is.exact_prefix name text
-condition_on name (OneOf texts) = is.one_of name texts.items
+condition_on name (OneOf texts) = is.one_of name texts
 condition_on name (Pattern text) = is.pattern name text
 condition_on name (Folded text) = is.folded name text
 condition_on name (Sequence texts) = is.sequence name texts.items

@@ -3,53 +3,48 @@ ghost use Rattle.std.specs.Prelude.{◌≡◌, ◌+◌, [], ◌∷◌, IfOk, IfE
 ghost use Rattle.lq_ast.specs.Condition as is;
 ghost use Rattle.lq_ast.specs.Patterns.{IsReadable};
 ghost use Rattle.lq_filter.specs.Refusal.{IsRefusal};
-ghost use Rattle.lq_filter.specs.Value.{condition_of_field, condition_on};
+ghost use Rattle.lq_filter.specs.Value.{condition_of_field};
 
+use crate::choices::Choices;
 use crate::fault::PrepareFault;
 use crate::pattern::Pattern;
+use crate::room::Room;
 use crate::value::{FieldTest, Folded, ValueTest};
 use std::alloc::{AllocError, Global};
 use vl_row::Text;
 use word_tokens::Finder;
 
-fn on(alloc: Global, field: &Text, test: ValueTest) -> Result<FieldTest, AllocError>
-    ensures { IfOk result (λ made. condition_of_field made ≡ condition_on field.now test) }
-{
-    let name = field.try_copy(alloc)?;
-    Ok(FieldTest { name, test })
-}
-
 pub(crate) fn filled(alloc: Global, field: &Text) -> Result<FieldTest, AllocError>
     ensures { IfOk result (λ made. condition_of_field made ≡ is.some_value field.now) }
 {
-    on(alloc, field, ValueTest::Filled)
+    FieldTest::new(alloc, field, ValueTest::Filled)
 }
 
 pub(crate) fn missing(alloc: Global, field: &Text) -> Result<FieldTest, AllocError>
     ensures { IfOk result (λ made. condition_of_field made ≡ is.no_value field.now) }
 {
-    on(alloc, field, ValueTest::Missing)
+    FieldTest::new(alloc, field, ValueTest::Missing)
 }
 
 pub(crate) fn phrase(alloc: Global, field: &Text, text: &Text) -> Result<FieldTest, AllocError>
     ensures { IfOk result (λ made. condition_of_field made ≡ is.phrase field.now text.now) }
 {
     let phrase = Finder::new(text.as_str()).into_owned(alloc)?;
-    on(alloc, field, ValueTest::Phrase(phrase))
+    FieldTest::new(alloc, field, ValueTest::Phrase(phrase))
 }
 
 pub(crate) fn prefix(alloc: Global, field: &Text, text: &Text) -> Result<FieldTest, AllocError>
     ensures { IfOk result (λ made. condition_of_field made ≡ is.prefix field.now text.now) }
 {
     let phrase = Finder::new(text.as_str()).into_owned(alloc)?;
-    on(alloc, field, ValueTest::Prefix(phrase))
+    FieldTest::new(alloc, field, ValueTest::Prefix(phrase))
 }
 
 pub(crate) fn exact(alloc: Global, field: &Text, text: &Text) -> Result<FieldTest, AllocError>
     ensures { IfOk result (λ made. condition_of_field made ≡ is.exact field.now text.now) }
 {
     let text = text.try_copy(alloc)?;
-    on(alloc, field, ValueTest::Exact(text))
+    FieldTest::new(alloc, field, ValueTest::Exact(text))
 }
 
 pub(crate) fn exact_prefix(
@@ -60,29 +55,19 @@ pub(crate) fn exact_prefix(
     ensures { IfOk result (λ made. condition_of_field made ≡ is.exact_prefix field.now text.now) }
 {
     let text = text.try_copy(alloc)?;
-    on(alloc, field, ValueTest::ExactPrefix(text))
+    FieldTest::new(alloc, field, ValueTest::ExactPrefix(text))
 }
 
 pub(crate) fn one_of(alloc: Global, field: &Text, texts: &[Text]) -> Result<FieldTest, AllocError>
     ensures { IfOk result (λ made. condition_of_field made ≡ is.one_of field.now texts.now) }
 {
-    let texts = copies(alloc, texts)?;
-    on(alloc, field, ValueTest::OneOf(texts))
-}
-
-fn copies(alloc: Global, texts: &[Text]) -> Result<Vec<Text>, AllocError>
-    ensures { IfOk result (λ all. all.items ≡ texts.now) }
-{
-    let mut all = Vec::with_capacity(alloc, texts.len())?;
-    for text in texts {
-        all.push(text.try_copy(alloc)?)?;
-    }
-    Ok(all)
+    let choices = Choices::new(alloc, texts)?;
+    FieldTest::new(alloc, field, ValueTest::OneOf(choices))
 }
 
 /// Reads the pattern, whose number is `nth`, and raises that by one.
 pub(crate) fn pattern(
-    alloc: Global,
+    room: &mut Room,
     field: &Text,
     text: &Text,
     nth: &mut u32,
@@ -93,23 +78,23 @@ pub(crate) fn pattern(
     ensures refused { IfErr result (IsRefusal nth.old ((text.now, text.now) ∷ [])) }
 {
     let number = *nth;
-    let pattern = Pattern::new(alloc, text.as_str(), number)?;
+    let pattern = Pattern::new(room, text.as_str(), number)?;
     *nth = number.checked_add(1).ok_or(PrepareFault::Memory)?;
-    Ok(on(alloc, field, ValueTest::Pattern(pattern))?)
+    Ok(FieldTest::new(room.alloc, field, ValueTest::Pattern(pattern))?)
 }
 
 pub(crate) fn folded(alloc: Global, field: &Text, text: &Text) -> Result<FieldTest, AllocError>
     ensures { IfOk result (λ made. condition_of_field made ≡ is.folded field.now text.now) }
 {
     let folded = Folded::new(alloc, text.as_str())?;
-    on(alloc, field, ValueTest::Folded(folded))
+    FieldTest::new(alloc, field, ValueTest::Folded(folded))
 }
 
 pub(crate) fn sequence(alloc: Global, field: &Text, texts: &[Text]) -> Result<FieldTest, AllocError>
     ensures { IfOk result (λ made. condition_of_field made ≡ is.sequence field.now texts.now) }
 {
     let phrases = phrases(alloc, texts)?;
-    on(alloc, field, ValueTest::Sequence(phrases))
+    FieldTest::new(alloc, field, ValueTest::Sequence(phrases))
 }
 
 fn phrases(alloc: Global, texts: &[Text]) -> Result<Vec<Finder<'static>>, AllocError>
@@ -130,7 +115,7 @@ pub(crate) fn length(
 ) -> Result<FieldTest, AllocError>
     ensures { IfOk result (λ made. condition_of_field made ≡ is.length_in field.now low high) }
 {
-    on(alloc, field, ValueTest::Length { low, high })
+    FieldTest::new(alloc, field, ValueTest::Length { low, high })
 }
 
 pub(crate) fn between(
@@ -143,7 +128,7 @@ pub(crate) fn between(
 {
     let low = low.try_copy(alloc)?;
     let high = high.try_copy(alloc)?;
-    on(alloc, field, ValueTest::Between { low, high })
+    FieldTest::new(alloc, field, ValueTest::Between { low, high })
 }
 
 pub(crate) fn number(
@@ -154,5 +139,5 @@ pub(crate) fn number(
 ) -> Result<FieldTest, AllocError>
     ensures { IfOk result (λ made. condition_of_field made ≡ is.number_in field.now low high) }
 {
-    on(alloc, field, ValueTest::Number { low, high })
+    FieldTest::new(alloc, field, ValueTest::Number { low, high })
 }

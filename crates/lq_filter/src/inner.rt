@@ -9,6 +9,7 @@ ghost use Rattle.lq_filter.specs.Refusal.{IsRefusal};
 
 use crate::asking::Asking;
 use crate::fault::PrepareFault;
+use crate::room::Room;
 use crate::subject::Subject;
 use crate::tree::Tree;
 use lq_ast::Filter;
@@ -47,8 +48,9 @@ pub fn prepare_inner_numbered(
     ensures readable { IfOk result (λ _. AllByRecursion CanBeRead (patterns_of (condition f.now))) }
     ensures refused { IfErr result (IsRefusal nth.old (patterns_of (condition f.now))) }
 {
+    let mut room = Room::new(alloc);
     let mut next = *nth;
-    let filter = Tree::new(alloc, f, &mut next)?;
+    let filter = Tree::new(&mut room, f, &mut next)?;
     *nth = next;
     Ok(Inner { filter })
 }

@@ -10,8 +10,9 @@ ghost use Rattle.lq_filter.specs.Refusal.{IsRefusal};
 use crate::asking::Asking;
 use crate::fault::PrepareFault;
 use crate::pattern::Pattern;
+use crate::room::Room;
 use lq_ast::{Group, How, LabelTest, Select};
-use std::alloc::{AllocError, Global};
+use std::alloc::AllocError;
 use std::marker::Model;
 use vl_row::{Stream, Text};
 
@@ -62,7 +63,7 @@ impl Model for WholePattern {
 impl Selector {
     /// Prepares a selector, whose first pattern has the number `nth`, and raises it by the number of patterns.
     pub(crate) fn new(
-        alloc: Global,
+        room: &mut Room,
         select: &Select,
         nth: &mut u32,
     ) -> Result<Selector, PrepareFault>
@@ -74,9 +75,9 @@ impl Selector {
         ensures refused { IfErr result
             (IsRefusal nth.old (flat_map (flat_map patterns_of_test) (groups_of select.now))) }
     {
-        let mut groups = Vec::new(alloc);
+        let mut groups = Vec::new(room.alloc);
         for group in select.groups.as_slice() {
-            let prepared = PreparedGroup::new(alloc, group, nth)?;
+            let prepared = PreparedGroup::new(room, group, nth)?;
             groups.push(prepared)?;
         }
         Ok(Selector { groups })
@@ -120,16 +121,16 @@ impl Selector {
 }
 
 impl PreparedGroup {
-    fn new(alloc: Global, group: &Group, nth: &mut u32) -> Result<PreparedGroup, PrepareFault>
+    fn new(room: &mut Room, group: &Group, nth: &mut u32) -> Result<PreparedGroup, PrepareFault>
         ensures same { IfOk result (λ prepared. prepared_tests prepared ≡ tests_of group.now) }
         ensures counted { IsOk result → nth.new ≡ nth.old + length (flat_map patterns_of_test (tests_of group.now)) }
         ensures readable { IfOk result
             (λ _. AllByRecursion CanBeRead (flat_map patterns_of_test (tests_of group.now))) }
         ensures refused { IfErr result (IsRefusal nth.old (flat_map patterns_of_test (tests_of group.now))) }
     {
-        let mut tests = Vec::new(alloc);
+        let mut tests = Vec::new(room.alloc);
         for test in group.labels.as_slice() {
-            let prepared = PreparedTest::new(alloc, test, nth)?;
+            let prepared = PreparedTest::new(room, test, nth)?;
             tests.push(prepared)?;
         }
         Ok(PreparedGroup { tests })
@@ -164,14 +165,14 @@ impl PreparedGroup {
 }
 
 impl PreparedTest {
-    fn new(alloc: Global, test: &LabelTest, nth: &mut u32) -> Result<PreparedTest, PrepareFault>
+    fn new(room: &mut Room, test: &LabelTest, nth: &mut u32) -> Result<PreparedTest, PrepareFault>
         ensures same { IfOk result (λ prepared. prepared_test prepared ≡ test_of test.now) }
         ensures counted { IsOk result → nth.new ≡ nth.old + length (patterns_of_test (test_of test.now)) }
         ensures readable { IfOk result (λ _. AllByRecursion CanBeRead (patterns_of_test (test_of test.now))) }
         ensures refused { IfErr result (IsRefusal nth.old (patterns_of_test (test_of test.now))) }
     {
-        let name = test.name.try_copy(alloc)?;
-        let asked = Asked::new(alloc, test.how, &test.text, nth)?;
+        let name = test.name.try_copy(room.alloc)?;
+        let asked = Asked::new(room, test.how, &test.text, nth)?;
         Ok(PreparedTest { name, asked })
     }
 
@@ -197,7 +198,7 @@ impl PreparedTest {
 impl Asked {
     ghost use Rattle.std.specs.Prelude.{[]};
 
-    fn new(alloc: Global, how: How, text: &Text, nth: &mut u32) -> Result<Asked, PrepareFault>
+    fn new(room: &mut Room, how: How, text: &Text, nth: &mut u32) -> Result<Asked, PrepareFault>
         ensures how { IfOk result (λ asked. how_of asked ≡ how) }
         ensures text { IfOk result (λ asked. text_of asked ≡ text.now) }
         ensures counted { IsOk result → nth.new ≡ nth.old + length (patterns_of_test ([], how, text.now)) }
@@ -205,10 +206,10 @@ impl Asked {
         ensures refused { IfErr result (IsRefusal nth.old (patterns_of_test ([], how, text.now))) }
     {
         match how {
-            How::Is => Ok(Asked::Is(text.try_copy(alloc)?)),
-            How::IsNot => Ok(Asked::IsNot(text.try_copy(alloc)?)),
-            How::Matches => Ok(Asked::Matches(WholePattern::new(alloc, text, nth)?)),
-            How::MatchesNot => Ok(Asked::MatchesNot(WholePattern::new(alloc, text, nth)?)),
+            How::Is => Ok(Asked::Is(text.try_copy(room.alloc)?)),
+            How::IsNot => Ok(Asked::IsNot(text.try_copy(room.alloc)?)),
+            How::Matches => Ok(Asked::Matches(WholePattern::new(room, text, nth)?)),
+            How::MatchesNot => Ok(Asked::MatchesNot(WholePattern::new(room, text, nth)?)),
         }
     }
 
@@ -230,15 +231,15 @@ impl WholePattern {
     ghost use Rattle.std.specs.Prelude.{[], ◌∷◌};
     ghost use Rattle.lq_ast.specs.Patterns.{is_found, whole};
 
-    fn new(alloc: Global, text: &Text, nth: &mut u32) -> Result<WholePattern, PrepareFault>
+    fn new(room: &mut Room, text: &Text, nth: &mut u32) -> Result<WholePattern, PrepareFault>
         ensures same { IfOk result (λ pattern. pattern ≡ text.now) }
         ensures counted { IsOk result → nth.new ≡ nth.old + 1 }
         ensures readable { IfOk result (λ _. CanBeRead (text.now, whole text.now)) }
         ensures refused { IfErr result (IsRefusal nth.old ((text.now, whole text.now) ∷ [])) }
     {
         let number = *nth;
-        let pattern = Pattern::of_whole(alloc, text.as_str(), number)?;
-        let text = text.try_copy(alloc)?;
+        let pattern = Pattern::of_whole(room, text.as_str(), number)?;
+        let text = text.try_copy(room.alloc)?;
         *nth = number.checked_add(1).ok_or(PrepareFault::Memory)?;
         Ok(WholePattern { text, pattern })
     }

@@ -2,6 +2,8 @@
 #![tactic(auto)]
 
 mod asking;
+mod choices;
+mod computed;
 mod fault;
 mod forms;
 mod inner;
@@ -9,6 +11,7 @@ mod labels;
 mod pattern;
 mod pipes;
 mod prepared;
+mod room;
 mod subject;
 mod tree;
 mod value;

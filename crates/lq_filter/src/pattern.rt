@@ -5,6 +5,7 @@ ghost use Rattle.lq_filter.specs.Reads.{FindsAs};
 ghost use Rattle.lq_filter.specs.Refusal.{IsRefusal};
 
 use crate::fault::PrepareFault;
+use crate::room::Room;
 use regex::{Error, Matcher, Regex};
 use std::alloc::{AllocError, Global};
 use std::marker::Model;
@@ -30,13 +31,13 @@ impl Model for Pattern {
 
 impl Pattern {
     /// Reads the text, which belongs to the pattern with number `nth`.
-    pub(crate) fn new(alloc: Global, text: &str, nth: u32) -> Result<Pattern, PrepareFault>
+    pub(crate) fn new(room: &mut Room, text: &str, nth: u32) -> Result<Pattern, PrepareFault>
         ensures ok { IfOk result (λ pattern. pattern ≡ text.now) }
         ensures readable { IfOk result (λ _. IsReadable text.now) }
         ensures refused { (tried : Tried) → (CanBeRead tried → IsReadable text.now)
             → IfErr result (IsRefusal nth (tried ∷ [])) }
     {
-        match Regex::new(alloc, text) {
+        match room.build(text) {
             Ok(regex) => Ok(Pattern { regex, nth }),
             Err(Error::Syntax(_)) => Err(PrepareFault::RegexRefused { nth }),
             Err(_) => Err(PrepareFault::Memory),
@@ -44,16 +45,17 @@ impl Pattern {
     }
 
     /// Reads the pattern that matches where the text's matches a whole value. It must be readable by itself too, which
-    /// `a)(b` is not.
-    pub(crate) fn of_whole(alloc: Global, text: &str, nth: u32) -> Result<Pattern, PrepareFault>
+    /// `a)(b` is not; what that took is free again.
+    pub(crate) fn of_whole(room: &mut Room, text: &str, nth: u32) -> Result<Pattern, PrepareFault>
         ensures ok { IfOk result (λ pattern. pattern ≡ whole text.now) }
         ensures readable { IfOk result (λ _. CanBeRead (text.now, whole text.now)) }
         ensures refused { IfErr result (IsRefusal nth ((text.now, whole text.now) ∷ [])) }
     {
-        let alone = Pattern::new(alloc, text, nth)?;
+        let mut aside = *room;
+        let alone = Pattern::new(&mut aside, text, nth)?;
         drop(alone);
-        let whole = whole_text(alloc, text)?;
-        Pattern::new(alloc, whole.as_str(), nth)
+        let whole = whole_text(room.alloc, text)?;
+        Pattern::new(room, whole.as_str(), nth)
     }
 
     /// Returns the text that it was read from.

@@ -12,6 +12,7 @@ use crate::asking::Asking;
 use crate::fault::PrepareFault;
 use crate::labels::Selector;
 use crate::pipes::read_pipes;
+use crate::room::Room;
 use crate::subject::Subject;
 use crate::tree::Tree;
 use lq_ast::{Query, Select};
@@ -32,9 +33,10 @@ pub fn prepare(alloc: Global, q: &Query) -> Result<Prepared, PrepareFault>
     ensures readable { IfOk result (λ _. AllByRecursion CanBeRead (all_patterns (question q.now))) }
     ensures refused { IfErr result (IsRefusal 0 (all_patterns (question q.now))) }
 {
+    let mut room = Room::new(alloc);
     let mut nth = 0;
-    let filter = Tree::new(alloc, &q.filter, &mut nth)?;
-    read_pipes(alloc, q.pipes.as_slice(), &mut nth)?;
+    let filter = Tree::new(&mut room, &q.filter, &mut nth)?;
+    read_pipes(&mut room, q.pipes.as_slice(), &mut nth)?;
     Ok(Prepared { filter })
 }
 
@@ -82,8 +84,9 @@ fn selects_anew(alloc: Global, group: &Select, s: &Stream) -> Result<bool, Alloc
 fn selector_of(alloc: Global, group: &Select) -> Result<Selector, AllocError>
     ensures { IfOk result (λ selector. prepared_groups selector ≡ groups_of group.now) }
 {
+    let mut room = Room::new(alloc);
     let mut nth = 0;
-    match Selector::new(alloc, group, &mut nth) {
+    match Selector::new(&mut room, group, &mut nth) {
         Ok(selector) => Ok(selector),
         Err(_) => Err(AllocError),
     }

@@ -16,10 +16,11 @@ use crate::asking::Asking;
 use crate::fault::PrepareFault;
 use crate::forms;
 use crate::labels::Selector;
+use crate::room::Room;
 use crate::subject::Subject;
 use crate::value::FieldTest;
 use lq_ast::{Filter, Select};
-use std::alloc::{AllocError, Global};
+use std::alloc::AllocError;
 use vl_row::{Stream, Text};
 
 /// A filter for which everything that does not depend on a row is done.
@@ -38,12 +39,13 @@ pub(crate) enum Tree {
 impl Tree {
     /// Prepares a filter, whose first pattern has the number `nth`, and raises it by the number of patterns.
     #[cycle(preparing)]
-    pub(crate) fn new(alloc: Global, filter: &Filter, nth: &mut u32) -> Result<Tree, PrepareFault>
+    pub(crate) fn new(room: &mut Room, filter: &Filter, nth: &mut u32) -> Result<Tree, PrepareFault>
         ensures same { IfOk result (λ tree. condition_of_tree tree ≡ condition filter.now) }
         ensures counted { IsOk result → nth.new ≡ nth.old + length (patterns_of (condition filter.now)) }
         ensures readable { IfOk result (λ _. AllByRecursion CanBeRead (patterns_of (condition filter.now))) }
         ensures refused { IfErr result (IsRefusal nth.old (patterns_of (condition filter.now))) }
     {
+        let alloc = room.alloc;
         match filter {
             Filter::All => Ok(Tree::Always),
             Filter::Any { field } => plain(forms::filled(alloc, field)),
@@ -53,7 +55,7 @@ impl Tree {
             Filter::Exact { field, text } => plain(forms::exact(alloc, field, text)),
             Filter::ExactPrefix { field, text } => plain(forms::exact_prefix(alloc, field, text)),
             Filter::OneOf { field, texts } => plain(forms::one_of(alloc, field, texts.as_slice())),
-            Filter::Regex { field, pattern } => of_pattern(alloc, field, pattern, nth),
+            Filter::Regex { field, pattern } => of_pattern(room, field, pattern, nth),
             Filter::Fold { field, text } => plain(forms::folded(alloc, field, text)),
             Filter::Seq { field, texts } => plain(forms::sequence(alloc, field, texts.as_slice())),
             Filter::Length { field, low, high } => plain(forms::length(alloc, field, *low, *high)),
@@ -64,27 +66,27 @@ impl Tree {
                 from: *from,
                 to: *to,
             }),
-            Filter::Select(select) => of_selector(alloc, select, nth),
-            Filter::Not(filter) => negated(alloc, filter, nth),
-            Filter::All2(filters) => all_of(alloc, filters.as_slice(), nth),
-            Filter::Any2(filters) => any_of(alloc, filters.as_slice(), nth),
+            Filter::Select(select) => of_selector(room, select, nth),
+            Filter::Not(filter) => negated(room, filter, nth),
+            Filter::All2(filters) => all_of(room, filters.as_slice(), nth),
+            Filter::Any2(filters) => any_of(room, filters.as_slice(), nth),
         }
     }
 }
 
 #[cycle(preparing)]
-fn negated(alloc: Global, filter: &Filter, nth: &mut u32) -> Result<Tree, PrepareFault>
+fn negated(room: &mut Room, filter: &Filter, nth: &mut u32) -> Result<Tree, PrepareFault>
     ensures same { IfOk result (λ tree. condition_of_tree tree ≡ is.negated (condition filter.now)) }
     ensures counted { IsOk result → nth.new ≡ nth.old + length (patterns_of (condition filter.now)) }
     ensures readable { IfOk result (λ _. AllByRecursion CanBeRead (patterns_of (condition filter.now))) }
     ensures refused { IfErr result (IsRefusal nth.old (patterns_of (condition filter.now))) }
 {
-    let tree = Tree::new(alloc, filter, nth)?;
-    Ok(Tree::Not(Box::new(alloc, tree)?))
+    let tree = Tree::new(room, filter, nth)?;
+    Ok(Tree::Not(Box::new(room.alloc, tree)?))
 }
 
 #[cycle(preparing)]
-fn all_of(alloc: Global, filters: &[Filter], nth: &mut u32) -> Result<Tree, PrepareFault>
+fn all_of(room: &mut Room, filters: &[Filter], nth: &mut u32) -> Result<Tree, PrepareFault>
     ensures same { IfOk result (λ tree. condition_of_tree tree ≡ is.all_of (conditions (map condition filters.now))) }
     ensures counted { IsOk result →
         nth.new ≡ nth.old + length (patterns_among (conditions (map condition filters.now))) }
@@ -92,12 +94,12 @@ fn all_of(alloc: Global, filters: &[Filter], nth: &mut u32) -> Result<Tree, Prep
         (λ _. AllByRecursion CanBeRead (patterns_among (conditions (map condition filters.now)))) }
     ensures refused { IfErr result (IsRefusal nth.old (patterns_among (conditions (map condition filters.now)))) }
 {
-    let trees = trees(alloc, filters, nth)?;
+    let trees = trees(room, filters, nth)?;
     Ok(Tree::All(trees))
 }
 
 #[cycle(preparing)]
-fn any_of(alloc: Global, filters: &[Filter], nth: &mut u32) -> Result<Tree, PrepareFault>
+fn any_of(room: &mut Room, filters: &[Filter], nth: &mut u32) -> Result<Tree, PrepareFault>
     ensures same { IfOk result (λ tree. condition_of_tree tree ≡ is.any_of (conditions (map condition filters.now))) }
     ensures counted { IsOk result →
         nth.new ≡ nth.old + length (patterns_among (conditions (map condition filters.now))) }
@@ -105,12 +107,12 @@ fn any_of(alloc: Global, filters: &[Filter], nth: &mut u32) -> Result<Tree, Prep
         (λ _. AllByRecursion CanBeRead (patterns_among (conditions (map condition filters.now)))) }
     ensures refused { IfErr result (IsRefusal nth.old (patterns_among (conditions (map condition filters.now)))) }
 {
-    let trees = trees(alloc, filters, nth)?;
+    let trees = trees(room, filters, nth)?;
     Ok(Tree::Any(trees))
 }
 
 #[cycle(preparing)]
-fn trees(alloc: Global, filters: &[Filter], nth: &mut u32) -> Result<Vec<Tree>, PrepareFault>
+fn trees(room: &mut Room, filters: &[Filter], nth: &mut u32) -> Result<Vec<Tree>, PrepareFault>
     ensures same { IfOk result (λ trees. map condition_of_tree trees.items ≡ map condition filters.now) }
     ensures counted { IsOk result →
         nth.new ≡ nth.old + length (patterns_among (conditions (map condition filters.now))) }
@@ -118,9 +120,9 @@ fn trees(alloc: Global, filters: &[Filter], nth: &mut u32) -> Result<Vec<Tree>, 
         (λ _. AllByRecursion CanBeRead (patterns_among (conditions (map condition filters.now)))) }
     ensures refused { IfErr result (IsRefusal nth.old (patterns_among (conditions (map condition filters.now)))) }
 {
-    let mut trees = Vec::new(alloc);
+    let mut trees = Vec::new(room.alloc);
     for filter in filters {
-        let tree = Tree::new(alloc, filter, nth)?;
+        let tree = Tree::new(room, filter, nth)?;
         trees.push(tree)?;
     }
     Ok(trees)
@@ -139,7 +141,7 @@ fn plain(made: Result<FieldTest, AllocError>) -> Result<Tree, PrepareFault>
 }
 
 fn of_pattern(
-    alloc: Global,
+    room: &mut Room,
     field: &Text,
     pattern: &Text,
     nth: &mut u32,
@@ -149,17 +151,17 @@ fn of_pattern(
     ensures readable { IfOk result (λ _. IsReadable pattern.now) }
     ensures refused { IfErr result (IsRefusal nth.old ((pattern.now, pattern.now) ∷ [])) }
 {
-    let field = forms::pattern(alloc, field, pattern, nth)?;
+    let field = forms::pattern(room, field, pattern, nth)?;
     Ok(Tree::Field(field))
 }
 
-fn of_selector(alloc: Global, select: &Select, nth: &mut u32) -> Result<Tree, PrepareFault>
+fn of_selector(room: &mut Room, select: &Select, nth: &mut u32) -> Result<Tree, PrepareFault>
     ensures same { IfOk result (λ tree. condition_of_tree tree ≡ is.selected (groups_of select.now)) }
     ensures counted { IsOk result → nth.new ≡ nth.old + length (patterns_of (is.selected (groups_of select.now))) }
     ensures readable { IfOk result (λ _. AllByRecursion CanBeRead (patterns_of (is.selected (groups_of select.now)))) }
     ensures refused { IfErr result (IsRefusal nth.old (patterns_of (is.selected (groups_of select.now)))) }
 {
-    let selector = Selector::new(alloc, select, nth)?;
+    let selector = Selector::new(room, select, nth)?;
     Ok(Tree::Selected(selector))
 }
 

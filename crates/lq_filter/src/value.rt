@@ -1,24 +1,24 @@
-ghost use Rattle.std.specs.Prelude.{◌≡◌, ◌&&◌, ◌≤◌, ◌∷◌, ℕ, List, false, not, nat_le, length, chars, bytes_eq};
+ghost use Rattle.std.specs.Prelude.{◌≡◌, ◌&&◌, ◌≤◌, ◌∷◌, ℕ, List, false, not, nat_le, length, chars};
 ghost use Rattle.std.specs.Prelude.{IfOk, IfSome, IsTrue, MatchOption, if◌then◌else◌, string_bytes};
-ghost use Rattle.std.specs.List.{list_any};
 ghost use Rattle.std.specs.Option.{option_map_or};
 ghost use Rattle.std.specs.Ordering.{is_lt};
-ghost use Rattle.log_model.specs.Field.{bytes_cmp, is_empty, is_reserved};
+ghost use Rattle.log_model.specs.Field.{bytes_cmp, is_empty};
 ghost use Rattle.log_model.specs.Order.{number_of};
 ghost use Rattle.log_model.specs.Row.{value_of};
 ghost use Rattle.log_model.specs.Words.{occurs};
 ghost use Rattle.lq_ast.specs.Holds.{is_within};
 ghost use Rattle.lq_ast.specs.Phrases.{case_folded, in_order};
 ghost use Rattle.word_tokens.specs.Prefix.{occurs_as_prefix};
+ghost use Rattle.lq_filter.specs.Computed.{is_source};
 
 use crate::asking::Asking;
+use crate::choices::Choices;
+use crate::computed::Computed;
 use crate::pattern::Pattern;
 use crate::subject::Subject;
 use caseless::Caseless;
 use std::alloc::{AllocError, Global};
 use std::marker::Model;
-use stream_label::{label_text, stream_id};
-use time_text::write_moment;
 use vl_row::{Row, Text, number};
 use word_tokens::Finder;
 
@@ -31,7 +31,7 @@ pub(crate) enum ValueTest {
     Prefix(Finder<'static>),
     Exact(Text),
     ExactPrefix(Text),
-    OneOf(Vec<Text>),
+    OneOf(Choices),
     Pattern(Pattern),
     Folded(Folded),
     Sequence(Vec<Finder<'static>>),
@@ -55,7 +55,7 @@ impl ValueTest {
             ValueTest::ExactPrefix(text) => Ok(
                 value.as_bytes().starts_with(text.as_str().as_bytes()),
             ),
-            ValueTest::OneOf(texts) => Ok(is_one_of(texts.as_slice(), value)),
+            ValueTest::OneOf(choices) => Ok(choices.has(value)),
             ValueTest::Pattern(pattern) => asking.is_found(pattern, value),
             ValueTest::Folded(folded) => folded.is_in(asking.alloc, value),
             ValueTest::Sequence(phrases) => Ok(are_in_order(phrases.as_slice(), value)),
@@ -70,12 +70,27 @@ impl ValueTest {
 #[derive(Drop)]
 pub(crate) struct FieldTest {
     pub(crate) name: Text,
+    pub(crate) computed: Option<Computed>,
     pub(crate) test: ValueTest,
+    ghost source: { IsTrue (is_source computed name) },
 }
 
 impl FieldTest {
     ghost use Rattle.lq_filter.specs.Subject.{subject_of};
-    ghost use Rattle.lq_filter.specs.Value.{value_holds};
+    ghost use Rattle.lq_filter.specs.Value.{condition_of_field, condition_on, value_holds};
+
+    /// Returns the test of the value of this field.
+    pub(crate) fn new(alloc: Global, field: &Text, test: ValueTest) -> Result<FieldTest, AllocError>
+        ensures { IfOk result (λ made. condition_of_field made ≡ condition_on field.now test) }
+    {
+        let name = field.try_copy(alloc)?;
+        let computed = Computed::of(name.as_str());
+        Ok(FieldTest {
+            name,
+            computed,
+            test,
+        })
+    }
 
     /// Returns whether the value of the field is as asked.
     pub(crate) fn holds<'p>(
@@ -92,40 +107,18 @@ impl FieldTest {
         }
     }
 
+    #[tactic(auto, using(crate::proofs::Values::computed_value, crate::proofs::Values::stored_value))]
     fn holds_of_row<'p>(&'p self, asking: &mut Asking<'p>, row: &Row) -> Result<bool, AllocError>
         ensures { IfOk result (λ found. found ≡ value_holds self.now.test (value_of row.now self.now.name)) }
     {
-        let name = self.name.as_str();
-        if !is_computed(name) {
-            return self.test.holds(asking, row.value(name));
+        match self.computed {
+            Some(computed) => {
+                let text = computed.text(asking.alloc, row)?;
+                self.test.holds(asking, text.as_str())
+            }
+            None => self.test.holds(asking, row.value(self.name.as_str())),
         }
-        let text = computed(asking.alloc, name, row)?;
-        self.test.holds(asking, text.as_str())
     }
-}
-
-// Returns whether the field is not a stored one: the moment, or the text or the id of the stream.
-fn is_computed(name: &str) -> bool
-    ensures { result ≡ is_reserved name.now }
-{
-    name == "_time" || name == "_stream" || name == "_stream_id"
-}
-
-fn computed(alloc: Global, name: &str, row: &Row) -> Result<Text, AllocError>
-    requires { IsTrue (is_reserved name.now) }
-    ensures { IfOk result (λ text. text ≡ value_of row.now name.now) }
-{
-    let mut text = Text::new();
-    if name == "_time" {
-        write_moment(alloc, row.time(), &mut text)?;
-        return Ok(text);
-    }
-    if name == "_stream" {
-        label_text(alloc, row.stream(), &mut text)?;
-        return Ok(text);
-    }
-    stream_id(alloc, row.stream(), &mut text)?;
-    Ok(text)
 }
 
 fn has_prefix(prefix: &Finder<'static>, value: &str) -> bool
@@ -137,12 +130,6 @@ fn has_prefix(prefix: &Finder<'static>, value: &str) -> bool
     } else {
         prefix.has_prefix(value)
     }
-}
-
-fn is_one_of(texts: &[Text], value: &str) -> bool
-    ensures { result ≡ list_any (bytes_eq value.now) texts.now }
-{
-    texts.iter().any(|text| value == text.as_str())
 }
 
 /// A phrase that is looked for whatever the case of its letters.

@@ -1,7 +1,7 @@
 -- Words are entered one after another, and texts are compared by the ranks of their words.
 use Rattle.std.proofs.Common.{◌≡◌, ℕ, zero, suc, ◌<◌, cond, List, [], ◌∷◌, ◌++◌, map}
 use Rattle.std.proofs.Common.{length}
-use Rattle.std.proofs.Common.{get_or, bytes_eq, Bor, Option, Some, None, IfSome, refl, sym, ap, subst, ◌∙◌, inl, inr}
+use Rattle.std.proofs.Common.{get_or, bytes_eq, Bor, Option, Some, None, IfSome, unwrap_or, refl, sym, ap, subst, ◌∙◌, inl, inr}
 use Rattle.std.proofs.Common.{arith}
 use Rattle.std.proofs.Common.{length-append}
 use Rattle.std.proofs.lemmas.Bool.{cases_lt}
@@ -12,7 +12,7 @@ use Rattle.std.specs.List.{slice_index}
 use Rattle.std.specs.Ordering.{nat_cmp, on}
 use Rattle.log_model.specs.Order.{value_cmp}
 use Rattle.lq_ast.proofs.Sorted.{split_bool}
-use Rattle.lq_order.specs.Dictionary.{AreAtWords, IsDictionary, IsAtWord}
+use Rattle.lq_order.specs.Dictionary.{AreAtWords, IsDictionary, IsAtWord, get_by_str}
 use Rattle.lq_order.specs.Mirror.{Mirrors}
 
 pub get_front : {A : Type 0} (xs ys : List A) (k : ℕ) (d : A) → k < length xs → get_or (xs ++ ys) k d ≡ get_or xs k d
@@ -63,11 +63,25 @@ pub entered_known : (words : List (List ℕ)) (text : List ℕ) (place : ℕ) �
     → IsAtWord words words text place
 entered_known words text place h = record { inside = h.0; is = h.1; grows = omega arith; stay = λ k l. refl }
 
-pub entered_found : (found : Option ℕ) (words : List (List ℕ)) (text : List ℕ) (place : ℕ) → Some place ≡ found
-    → IfSome found (λ (p : ℕ). (p < length words) × (get_or words p [] ≡ text)) → IsAtWord words words text place
-entered_found found words text place is known =
-    entered_known words text place
-    (subst (λ o. IfSome o (λ (p : ℕ). (p < length words) × (get_or words p [] ≡ text))) (sym is) known)
+-- a text that has a number stands at it
+pub stands_at : (found : Option ℕ) (words : List (List ℕ)) (text : List ℕ) (place next : ℕ)
+    → place ≡ unwrap_or found next → (place ≡ next → ⊥)
+    → IfSome found (λ (p : ℕ). (p < length words) × (get_or words p [] ≡ text))
+    → (place < length words) × (get_or words place [] ≡ text)
+stands_at None words text place next is other known = absurd (other is)
+stands_at (Some p) words text place next is other known =
+    subst (λ (k : ℕ). (k < length words) × (get_or words k [] ≡ text)) (sym is) known
+
+-- such a text changes nothing
+pub known_stays : {S : Type 0} (old new : HashMap (Bor (List ℕ)) ℕ S) (words : List (List ℕ)) (text : List ℕ) (place : ℕ)
+    → ((q : List ℕ) → get_by_str new q ≡ cond (bytes_eq text q) (Some place) (get_by_str old q))
+    → (place < length words) × (get_or words place [] ≡ text)
+    → AreAtWords old words → AreAtWords new words
+known_stays old new words text place written at known q =
+    let Stands = λ (p : ℕ). (p < length words) × (get_or words p [] ≡ q) in
+    subst (λ o. IfSome o Stands) (sym (written q))
+    (split_bool (bytes_eq text q) (λ t. IfSome (cond t (Some place) (get_by_str old q)) Stands)
+    (λ e. (at.0, at.1 ∙ (bytes_eq-Decides text q).0 e)) (λ e. known q))
 
 -- ---- a dictionary
 

@@ -1,12 +1,16 @@
 -- Texts as places in a list of words.
-use Rattle.std.specs.Prelude.{◌≡◌, ℕ, ◌<◌, ◌≤◌, List, [], length, slice_index_or, bytes_eq, IfSome}
+use Rattle.std.specs.Prelude.{◌≡◌, ℕ, ◌<◌, ◌≤◌, List, [], length, slice_index_or, bytes_eq, IfSome, Option}
 use Rattle.std.specs.Borrow.{Bor}
 use Rattle.std.specs.HashMap.{HashMap, get_by}
+
+-- the number that a text has
+abbrev pub get_by_str : {S : Type 0} → HashMap (Bor (List ℕ)) ℕ S → List ℕ → Option ℕ
+get_by_str numbers text = get_by (λ key. bytes_eq text key.now) numbers
 
 -- Each text that a map has stands at its place among the words.
 abbrev pub AreAtWords : {S : Type 0} → HashMap (Bor (List ℕ)) ℕ S → List (List ℕ) → Type 0
 AreAtWords places words =
-    (text : List ℕ) → IfSome (get_by (λ key. bytes_eq text key.now) places)
+    (text : List ℕ) → IfSome (get_by_str places text)
     (λ place. (place < length words) × (slice_index_or words place [] ≡ text))
 
 -- The words stay where they are, and a text stands at this place.

@@ -7,6 +7,7 @@ ghost use Rattle.lq_ast.specs.Sorting.{field_cmp, record_cmp};
 
 use crate::values::Values;
 use lq_ast::SortKey;
+use lq_tuple::HashSeed;
 use std::alloc::{AllocError, Global};
 use std::cmp::Ordering;
 use vl_row::FieldList;
@@ -19,22 +20,18 @@ pub(crate) struct Column<'a> {
 }
 
 impl<'a> Column<'a> {
-    /// Returns the column of a key in these records, by ranks where these are wanted.
+    /// Returns the column of a key in these records: by ranks where there is a seed for their table, and else by keys.
     fn of(
         alloc: Global,
         key: &SortKey,
         records: &'a [FieldList],
-        ranked: bool,
+        ranked: Option<HashSeed>,
     ) -> Result<Column<'a>, AllocError>
         ensures { IfOk result (λ column.
             Mirrors (column_cmp column) (field_cmp (sort_by key.now)) records.entry.now) }
     {
         let name = key.name.as_str();
-        let values = if ranked {
-            Values::ranked(alloc, name, records)?
-        } else {
-            Values::keyed(alloc, name, records)?
-        };
+        let values = Values::of(alloc, name, records, ranked)?;
         let desc = key.desc;
         Ok(Column { values, desc })
     }
@@ -48,12 +45,13 @@ impl<'a> Column<'a> {
     }
 }
 
-/// Returns the columns of these keys in these records, by ranks where these are wanted.
+/// Returns the columns of these keys in these records: by ranks where there is a seed for their table, and else by
+/// keys.
 pub(crate) fn columns<'a>(
     alloc: Global,
     keys: &[SortKey],
     records: &'a [FieldList],
-    ranked: bool,
+    ranked: Option<HashSeed>,
 ) -> Result<Vec<Column<'a>>, AllocError>
     ensures { IfOk result (λ columns.
         Mirrors (columns_cmp columns.items) (record_cmp (map sort_by keys.now)) records.entry.now) }

@@ -15,7 +15,7 @@ mod top;
 mod uniq;
 mod values;
 
-pub use sort::{sort_recs, sorted_places};
+pub use sort::{sort_recs, sort_recs_seeded, sorted_places, sorted_places_seeded};
 pub use tally::Tally;
-pub use top::top_recs;
-pub use uniq::uniq_recs;
+pub use top::{top_recs, top_recs_seeded};
+pub use uniq::{uniq_recs, uniq_recs_seeded};

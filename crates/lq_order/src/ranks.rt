@@ -8,6 +8,7 @@ ghost use Rattle.lq_order.specs.Mirror.{Mirrors};
 ghost use Rattle.lq_order.specs.Ranks.{keyed_of, next_rank};
 
 use crate::dictionary::Dictionary;
+use lq_tuple::HashSeed;
 use std::alloc::{AllocError, Global};
 use vl_row::ValueKey;
 
@@ -18,12 +19,13 @@ struct Keyed<'a> {
     at: usize,
 }
 
-/// Returns a number for each text, so that the numbers are in the order of the texts.
-pub(crate) fn ranks(alloc: Global, texts: &[&str]) -> Result<Vec<usize>, AllocError>
+/// Returns a number for each text, so that the numbers are in the order of the texts, which are found in a table of
+/// this seed.
+pub(crate) fn ranks(alloc: Global, seed: HashSeed, texts: &[&str]) -> Result<Vec<usize>, AllocError>
     ensures { IfOk result (λ ranks.
         Mirrors (on (slice_index ranks.items) nat_cmp) value_cmp (map (λ text. text.now) texts.now)) }
 {
-    let dictionary = Dictionary::of(alloc, texts)?;
+    let dictionary = Dictionary::of(alloc, seed, texts)?;
     let word_ranks = word_ranks(alloc, dictionary.words.as_slice())?;
     looked_up(alloc, word_ranks.as_slice(), dictionary.ids.as_slice())
 }

@@ -10,6 +10,7 @@ use crate::column::{Column, columns, compare};
 use crate::first::{all_places, first_places};
 use crate::kept::kept;
 use lq_ast::{SortKey, SortPipe};
+use lq_tuple::HashSeed;
 use std::alloc::{AllocError, Global};
 use std::mem;
 use vl_row::{FieldList, Recs};
@@ -19,16 +20,30 @@ use vl_row::{FieldList, Recs};
 const SMALL_PART: u64 = 32;
 
 /// Returns the records in the order of the pipe's keys, by value order, and those that are equal in it as they came.
-/// Then `offset` of them are left out, and `limit` of the others are kept.
+/// Then `offset` of them are left out, and `limit` of the others are kept. The seed of the table of values is the fixed
+/// one.
 pub fn sort_recs(alloc: Global, p: &SortPipe, r: Recs) -> Result<Recs, AllocError>
     ensures { IfOk result (λ records. records ≡ sorted (sorting p.now) r) }
 {
+    sort_recs_seeded(alloc, HashSeed::fixed(), p, r)
+}
+
+/// Returns the same, with this seed of the table of values.
+pub fn sort_recs_seeded(
+    alloc: Global,
+    seed: HashSeed,
+    p: &SortPipe,
+    r: Recs,
+) -> Result<Recs, AllocError>
+    ensures { IfOk result (λ records. records ≡ sorted (sorting p.now) r) }
+{
     let records = r.into_vec();
-    let places = sorted_places(alloc, p, records.as_slice())?;
+    let places = sorted_places_seeded(alloc, seed, p, records.as_slice())?;
     moved(alloc, records, places.as_slice())
 }
 
-/// Returns where the records stand that the pipe keeps, counted from 0, in the pipe's order.
+/// Returns where the records stand that the pipe keeps, counted from 0, in the pipe's order. The seed of the table of
+/// values is the fixed one.
 pub fn sorted_places(
     alloc: Global,
     p: &SortPipe,
@@ -37,13 +52,27 @@ pub fn sorted_places(
     ensures sorted { IfOk result (λ places. places.items ≡ sorted_places (sorting p.now) records.now) }
     ensures apart { IfOk result (λ places. ArePlaces (length records.now) places.items) }
 {
-    let places = enough_in_order(alloc, p, records)?;
+    sorted_places_seeded(alloc, HashSeed::fixed(), p, records)
+}
+
+/// Returns the same, with this seed of the table of values.
+pub fn sorted_places_seeded(
+    alloc: Global,
+    seed: HashSeed,
+    p: &SortPipe,
+    records: &[FieldList],
+) -> Result<Vec<usize>, AllocError>
+    ensures sorted { IfOk result (λ places. places.items ≡ sorted_places (sorting p.now) records.now) }
+    ensures apart { IfOk result (λ places. ArePlaces (length records.now) places.items) }
+{
+    let places = enough_in_order(alloc, seed, p, records)?;
     kept(places.as_slice(), p.offset, p.limit).to_vec(alloc)
 }
 
 /// Places in the pipe's order, of which it keeps the same as of those of all records.
 fn enough_in_order(
     alloc: Global,
+    seed: HashSeed,
     p: &SortPipe,
     records: &[FieldList],
 ) -> Result<Vec<usize>, AllocError>
@@ -52,7 +81,7 @@ fn enough_in_order(
 {
     match wanted(p.offset, p.limit, records.len()) {
         Some(most) => first_in_order(alloc, p.keys.as_slice(), records, most),
-        None => all_in_order(alloc, p.keys.as_slice(), records),
+        None => all_in_order(alloc, seed, p.keys.as_slice(), records),
     }
 }
 
@@ -72,12 +101,13 @@ fn wanted(offset: u64, limit: Option<u64>, count: usize) -> Option<usize>
 /// Returns where the records stand in the order of the keys.
 fn all_in_order(
     alloc: Global,
+    seed: HashSeed,
     keys: &[SortKey],
     records: &[FieldList],
 ) -> Result<Vec<usize>, AllocError>
     ensures { IfOk result (λ places. places.items ≡ places_in_order (map sort_by keys.now) records.now) }
 {
-    let columns = columns(alloc, keys, records, true)?;
+    let columns = columns(alloc, keys, records, Some(seed))?;
     let places = all_places(alloc, records.len())?;
     in_order(columns.as_slice(), places)
 }
@@ -93,7 +123,7 @@ fn first_in_order(
     requires within { most ≤ length records.now }
     ensures { IfOk result (λ places. places.items ≡ take most (places_in_order (map sort_by keys.now) records.now)) }
 {
-    let columns = columns(alloc, keys, records, false)?;
+    let columns = columns(alloc, keys, records, None)?;
     let places = first_places(alloc, columns.as_slice(), records.len(), most)?;
     in_order(columns.as_slice(), places)
 }

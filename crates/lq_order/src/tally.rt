@@ -3,7 +3,7 @@ ghost use Rattle.std.specs.Prelude.{◌<◌, ◌+◌, ◌^◌, ◌++◌, [], Lis
 ghost use Rattle.lq_ast.specs.Records.{Record};
 ghost use Rattle.lq_order.specs.Tally.{TalliesRecord, Tallies};
 
-use lq_tuple::{Places, filled_text};
+use lq_tuple::{HashSeed, Places, filled_text};
 use std::alloc::{AllocError, Global};
 use vl_row::{FieldList, Recs, Text};
 
@@ -19,29 +19,42 @@ pub struct Tally<'p> {
 }
 
 impl<'p> Tally<'p> {
-    /// Returns the tally of no records, for these fields. This allocates nothing.
+    /// Returns the tally of no records, for these fields. This allocates nothing. The seed of its table is the fixed
+    /// one.
     pub fn new(alloc: Global, names: &'p [Text]) -> Tally<'p>
+        ensures { Tallies result names.entry.now [] }
+    {
+        Tally::seeded(alloc, HashSeed::fixed(), names)
+    }
+
+    /// Returns the same, with this seed of its table.
+    pub fn seeded(alloc: Global, seed: HashSeed, names: &'p [Text]) -> Tally<'p>
         ensures { Tallies result names.entry.now [] }
     {
         Tally {
             names,
-            places: Places::new(alloc),
+            places: Places::seeded(alloc, seed),
             scratch: String::new(alloc),
             hits: Vec::new(alloc),
         }
     }
 
     /// Returns the tally of these records, for these fields. The records go before anything is made of it.
-    pub(crate) fn of(alloc: Global, names: &'p [Text], r: Recs) -> Result<Tally<'p>, AllocError>
+    pub(crate) fn of(
+        alloc: Global,
+        seed: HashSeed,
+        names: &'p [Text],
+        r: Recs,
+    ) -> Result<Tally<'p>, AllocError>
         ensures { IfOk result (λ tally. Tallies tally names.entry.now r) }
     {
         let records = r.into_vec();
-        let mut tally = Tally::new(alloc, names);
+        let mut tally = Tally::seeded(alloc, seed, names);
         tally.add_all(alloc, records.as_slice())?;
         Ok(tally)
     }
 
-    /// Takes more records. After out of memory the tally may only be dropped.
+    /// Takes more records. After an allocation fails the tally may only be dropped.
     pub fn add_all(&mut self, alloc: Global, records: &[FieldList]) -> Result<(), AllocError>
         ensures { OnOk result ((names : List (List ℕ)) (before : List Record)
             → length before + length records.now < 2 ^ 64 → Tallies self.old names before

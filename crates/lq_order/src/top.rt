@@ -10,16 +10,28 @@ use crate::kept::kept;
 use crate::records::records_of;
 use crate::tally::Tally;
 use lq_ast::TopPipe;
-use lq_tuple::in_tuple_order;
+use lq_tuple::{HashSeed, in_tuple_order};
 use std::alloc::{AllocError, Global};
 use vl_row::Recs;
 
 /// Returns the `n` tuples of the values of the pipe's fields that most records have, each with their number: from the
-/// most records down, and those with as many in tuple order.
+/// most records down, and those with as many in tuple order. The seed of the table of tuples is the fixed one.
 pub fn top_recs(alloc: Global, p: &TopPipe, r: Recs) -> Result<Recs, AllocError>
     ensures { IfOk result (λ records. records ≡ sorting.top (ranking p.now) r) }
 {
-    Tally::of(alloc, p.names.as_slice(), r)?.top(alloc, p)
+    top_recs_seeded(alloc, HashSeed::fixed(), p, r)
+}
+
+/// Returns the same, with this seed of the table of tuples.
+pub fn top_recs_seeded(
+    alloc: Global,
+    seed: HashSeed,
+    p: &TopPipe,
+    r: Recs,
+) -> Result<Recs, AllocError>
+    ensures { IfOk result (λ records. records ≡ sorting.top (ranking p.now) r) }
+{
+    Tally::of(alloc, seed, p.names.as_slice(), r)?.top(alloc, p)
 }
 
 impl<'p> Tally<'p> {

@@ -9,16 +9,29 @@ use crate::kept::kept;
 use crate::records::records_of;
 use crate::tally::Tally;
 use lq_ast::UniqPipe;
-use lq_tuple::in_tuple_order;
+use lq_tuple::{HashSeed, in_tuple_order};
 use std::alloc::{AllocError, Global};
 use vl_row::Recs;
 
 /// One record for each tuple of the values of the pipe's fields, in tuple order, without a tuple that is wholly empty.
-/// With `hits` it says how many records have the tuple. No more than `limit` are kept.
+/// With `hits` it says how many records have the tuple. No more than `limit` are kept. The seed of the table of tuples
+/// is the fixed one.
 pub fn uniq_recs(alloc: Global, p: &UniqPipe, r: Recs) -> Result<Recs, AllocError>
     ensures { IfOk result (λ records. records ≡ sorting.uniq (distinct p.now) r) }
 {
-    Tally::of(alloc, p.names.as_slice(), r)?.uniq(alloc, p)
+    uniq_recs_seeded(alloc, HashSeed::fixed(), p, r)
+}
+
+/// Returns the same, with this seed of the table of tuples.
+pub fn uniq_recs_seeded(
+    alloc: Global,
+    seed: HashSeed,
+    p: &UniqPipe,
+    r: Recs,
+) -> Result<Recs, AllocError>
+    ensures { IfOk result (λ records. records ≡ sorting.uniq (distinct p.now) r) }
+{
+    Tally::of(alloc, seed, p.names.as_slice(), r)?.uniq(alloc, p)
 }
 
 impl<'p> Tally<'p> {

@@ -6,6 +6,7 @@ ghost use Rattle.lq_order.specs.Column.{values_cmp};
 ghost use Rattle.lq_order.specs.Mirror.{Mirrors};
 
 use crate::ranks::ranks;
+use lq_tuple::HashSeed;
 use std::alloc::{AllocError, Global};
 use std::cmp::Ordering;
 use vl_row::{FieldList, ValueKey};
@@ -20,9 +21,26 @@ pub(crate) enum Values<'a> {
 }
 
 impl<'a> Values<'a> {
-    /// Returns the ranks of a field's values in these records.
-    pub(crate) fn ranked(
+    /// Returns a field's values in these records: by ranks where there is a seed for their table, and else by keys.
+    pub(crate) fn of(
         alloc: Global,
+        name: &str,
+        records: &'a [FieldList],
+        ranked: Option<HashSeed>,
+    ) -> Result<Values<'a>, AllocError>
+        ensures { IfOk result (λ values.
+            Mirrors (values_cmp values) value_cmp (map (λ r. field_value r name.now) records.entry.now)) }
+    {
+        match ranked {
+            Some(seed) => Values::ranked(alloc, seed, name, records),
+            None => Values::keyed(alloc, name, records),
+        }
+    }
+
+    /// Returns the ranks of a field's values in these records, which are found in a table of this seed.
+    fn ranked(
+        alloc: Global,
+        seed: HashSeed,
         name: &str,
         records: &'a [FieldList],
     ) -> Result<Values<'a>, AllocError>
@@ -30,15 +48,11 @@ impl<'a> Values<'a> {
             Mirrors (values_cmp values) value_cmp (map (λ r. field_value r name.now) records.entry.now)) }
     {
         let texts = texts(alloc, name, records)?;
-        Ok(Values::Ranks(ranks(alloc, texts.as_slice())?))
+        Ok(Values::Ranks(ranks(alloc, seed, texts.as_slice())?))
     }
 
     /// Returns the keys of a field's values in these records.
-    pub(crate) fn keyed(
-        alloc: Global,
-        name: &str,
-        records: &'a [FieldList],
-    ) -> Result<Values<'a>, AllocError>
+    fn keyed(alloc: Global, name: &str, records: &'a [FieldList]) -> Result<Values<'a>, AllocError>
         ensures { IfOk result (λ values.
             Mirrors (values_cmp values) value_cmp (map (λ r. field_value r name.now) records.entry.now)) }
     {

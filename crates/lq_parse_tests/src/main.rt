@@ -10,6 +10,7 @@ mod shown_tests;
 #[cfg(test)]
 mod tests;
 
+use lq_ast::Query;
 use lq_parse::parse;
 use pipes_tests::push_pipes;
 use shown_tests::{DEPTH, push_filter, with_controls};
@@ -25,14 +26,17 @@ fn main(rt: HostRuntime) -> io::Result<()> {
     Ok(())
 }
 
-fn answer(alloc: Global, query: &str) -> Result<String, AllocError> {
-    match parse(alloc, query) {
-        Ok(query) => {
-            let mut answer = String::new(alloc);
-            push_filter(&query.filter, DEPTH, &mut answer)?;
-            push_pipes(query.pipes.as_slice(), &mut answer)?;
-            Ok(answer)
-        }
+fn answer(alloc: Global, text: &str) -> Result<String, AllocError> {
+    match parse(alloc, text) {
+        Ok(query) => shown(alloc, &query),
         Err(fault) => format!(in alloc; "{fault}"),
     }
+}
+
+/// Returns a query as text.
+fn shown(alloc: Global, query: &Query) -> Result<String, AllocError> {
+    let mut text = String::new(alloc);
+    push_filter(&query.filter, DEPTH, &mut text)?;
+    push_pipes(query.pipes.as_slice(), &mut text)?;
+    Ok(text)
 }

@@ -1,65 +1,48 @@
 // Pipes as texts.
-use crate::shown_tests::{DEPTH, push_filter, push_text};
-use lq_ast::{Call, Func, Pair, Pipe, SortPipe, StatKey, StatsPipe, UniqPipe};
+use crate::shown_tests::{DEPTH, push_filter, push_number, push_text, push_texts};
+use lq_ast::{Call, Func, Pair, Pipe, SortPipe, StatsPipe, UniqPipe};
 use std::alloc::AllocError;
-use vl_row::Text;
 
 /// Appends pipes, each after a bar.
 pub(crate) fn push_pipes(pipes: &[Pipe], out: &mut String) -> Result<(), AllocError> {
     for pipe in pipes {
-        out.push_str(" | ")?;
+        out.push_str(word_of(pipe))?;
         push_pipe(pipe, out)?;
     }
     Ok(())
 }
 
+fn word_of(pipe: &Pipe) -> &'static str {
+    match pipe {
+        Pipe::Fields(_) => " | fields",
+        Pipe::Delete(_) => " | delete",
+        Pipe::Rename(_) => " | rename",
+        Pipe::Copy(_) => " | copy",
+        Pipe::Limit(_) => " | limit",
+        Pipe::Offset(_) => " | offset",
+        Pipe::Sort(_) => " | sort",
+        Pipe::Uniq(_) => " | uniq",
+        Pipe::Stats(_) => " | stats",
+        Pipe::Keep(_) => " | keep ",
+        Pipe::Top(_) => " | top",
+    }
+}
+
+/// Appends what follows the word of a pipe.
 fn push_pipe(pipe: &Pipe, out: &mut String) -> Result<(), AllocError> {
     match pipe {
-        Pipe::Limit(most) => write!(out, "limit {most}"),
-        Pipe::Offset(left_out) => write!(out, "offset {left_out}"),
+        Pipe::Fields(names) | Pipe::Delete(names) => push_texts(names.as_slice(), out),
+        Pipe::Rename(pairs) | Pipe::Copy(pairs) => push_pairs(pairs.as_slice(), out),
+        Pipe::Limit(count) | Pipe::Offset(count) => push_number(i128::from(*count), out),
         Pipe::Sort(sort) => push_sort(sort, out),
         Pipe::Uniq(uniq) => push_uniq(uniq, out),
         Pipe::Stats(stats) => push_stats(stats, out),
-        Pipe::Keep(filter) => {
-            out.push_str("keep ")?;
-            push_filter(filter, DEPTH, out)
-        }
+        Pipe::Keep(filter) => push_filter(filter, DEPTH, out),
         Pipe::Top(top) => {
-            let n = top.n;
-            write!(out, "top {n}")?;
-            push_names(top.names.as_slice(), out)
+            push_number(i128::from(top.n), out)?;
+            push_texts(top.names.as_slice(), out)
         }
-        _ => push_names_pipe(pipe, out),
     }
-}
-
-fn push_names_pipe(pipe: &Pipe, out: &mut String) -> Result<(), AllocError> {
-    match pipe {
-        Pipe::Fields(names) => {
-            out.push_str("fields")?;
-            push_names(names.as_slice(), out)
-        }
-        Pipe::Delete(names) => {
-            out.push_str("delete")?;
-            push_names(names.as_slice(), out)
-        }
-        Pipe::Rename(pairs) => {
-            out.push_str("rename")?;
-            push_pairs(pairs.as_slice(), out)
-        }
-        Pipe::Copy(pairs) => {
-            out.push_str("copy")?;
-            push_pairs(pairs.as_slice(), out)
-        }
-        _ => out.push_str(".."),
-    }
-}
-
-fn push_names(names: &[Text], out: &mut String) -> Result<(), AllocError> {
-    for name in names {
-        push_text(name, out)?;
-    }
-    Ok(())
 }
 
 fn push_pairs(pairs: &[Pair], out: &mut String) -> Result<(), AllocError> {
@@ -72,38 +55,36 @@ fn push_pairs(pairs: &[Pair], out: &mut String) -> Result<(), AllocError> {
 }
 
 fn push_limit(limit: Option<u64>, out: &mut String) -> Result<(), AllocError> {
-    match limit {
-        Some(limit) => write!(out, " limit {limit}"),
-        None => Ok(()),
-    }
+    let Some(limit) = limit else {
+        return Ok(());
+    };
+    out.push_str(" limit")?;
+    push_number(i128::from(limit), out)
 }
 
 fn push_sort(sort: &SortPipe, out: &mut String) -> Result<(), AllocError> {
-    out.push_str("sort")?;
     for key in sort.keys.as_slice() {
         push_text(&key.name, out)?;
-        if key.desc {
-            out.push_str(" desc")?;
-        }
+        out.push_str(if key.desc { " desc" } else { "" })?;
     }
-    let offset = sort.offset;
-    write!(out, " offset {offset}")?;
+    out.push_str(" offset")?;
+    push_number(i128::from(sort.offset), out)?;
     push_limit(sort.limit, out)
 }
 
 fn push_uniq(uniq: &UniqPipe, out: &mut String) -> Result<(), AllocError> {
-    out.push_str("uniq")?;
-    push_names(uniq.names.as_slice(), out)?;
-    if uniq.hits {
-        out.push_str(" hits")?;
-    }
+    push_texts(uniq.names.as_slice(), out)?;
+    out.push_str(if uniq.hits { " hits" } else { "" })?;
     push_limit(uniq.limit, out)
 }
 
 fn push_stats(stats: &StatsPipe, out: &mut String) -> Result<(), AllocError> {
-    out.push_str("stats")?;
     for key in stats.keys.as_slice() {
-        push_key(key, out)?;
+        push_text(&key.name, out)?;
+        if let Some(step) = key.step {
+            out.push_str(" by")?;
+            push_number(i128::from(step), out)?;
+        }
     }
     for func in stats.funcs.as_slice() {
         push_func(func, out)?;
@@ -111,17 +92,9 @@ fn push_stats(stats: &StatsPipe, out: &mut String) -> Result<(), AllocError> {
     Ok(())
 }
 
-fn push_key(key: &StatKey, out: &mut String) -> Result<(), AllocError> {
-    push_text(&key.name, out)?;
-    match key.step {
-        Some(step) => write!(out, " by {step}"),
-        None => Ok(()),
-    }
-}
-
 fn push_func(func: &Func, out: &mut String) -> Result<(), AllocError> {
     out.push_str(call_text(func.call))?;
-    push_names(func.names.as_slice(), out)?;
+    push_texts(func.names.as_slice(), out)?;
     if let Some(only) = &func.only {
         out.push_str(" if ")?;
         push_filter(only, DEPTH, out)?;

@@ -13,20 +13,18 @@ pub(crate) fn push_filter(filter: &Filter, depth: u32, out: &mut String) -> Resu
         return out.push_str("..");
     }
     match filter {
-        Filter::Not(inner) => push_not(inner, depth - 1, out),
-        Filter::All2(filters) => push_joined("all", filters.as_slice(), depth - 1, out),
-        Filter::Any2(filters) => push_joined("any", filters.as_slice(), depth - 1, out),
+        Filter::Not(inner) => {
+            out.push_str("not(")?;
+            push_filter(inner, depth - 1, out)?;
+            out.push_str(")")
+        }
+        Filter::All2(filters) => push_joined("all(", filters.as_slice(), depth - 1, out),
+        Filter::Any2(filters) => push_joined("any(", filters.as_slice(), depth - 1, out),
         _ => push_leaf(filter, out),
     }
 }
 
-#[cycle(shown)]
-fn push_not(inner: &Filter, depth: u32, out: &mut String) -> Result<(), AllocError> {
-    out.push_str("not(")?;
-    push_filter(inner, depth, out)?;
-    out.push_str(")")
-}
-
+/// Appends filters after a word, with commas between them.
 #[cycle(shown)]
 fn push_joined(
     word: &str,
@@ -34,7 +32,7 @@ fn push_joined(
     depth: u32,
     out: &mut String,
 ) -> Result<(), AllocError> {
-    write!(out, "{word}(")?;
+    out.push_str(word)?;
     for (place, filter) in filters.iter().enumerate() {
         if place > 0 {
             out.push_str(", ")?;
@@ -45,65 +43,84 @@ fn push_joined(
 }
 
 fn push_leaf(filter: &Filter, out: &mut String) -> Result<(), AllocError> {
+    out.push_str(word_of(filter))?;
+    let texts = texts_of(filter);
+    for text in &texts {
+        if let Some(text) = *text {
+            push_text(text, out)?;
+        }
+    }
     match filter {
-        Filter::Any { field } => push_one("some", field, out),
-        Filter::Empty { field } => push_one("empty", field, out),
-        Filter::OneOf { field, texts } => push_texts("in", field, texts.as_slice(), out),
-        Filter::Seq { field, texts } => push_texts("seq", field, texts.as_slice(), out),
+        Filter::OneOf { texts, .. } | Filter::Seq { texts, .. } => {
+            push_texts(texts.as_slice(), out)
+        }
         Filter::Select(select) => push_select(select, out),
-        _ => push_text_leaf(filter, out),
+        _ => push_ends(filter, out),
     }
 }
 
-fn push_text_leaf(filter: &Filter, out: &mut String) -> Result<(), AllocError> {
+fn word_of(filter: &Filter) -> &'static str {
     match filter {
-        Filter::Phrase { field, text } => push_two("phrase", field, text, out),
-        Filter::Prefix { field, text } => push_two("prefix", field, text, out),
-        Filter::Exact { field, text } => push_two("exact", field, text, out),
-        Filter::ExactPrefix { field, text } => push_two("exact_prefix", field, text, out),
-        Filter::Regex { field, pattern } => push_two("regex", field, pattern, out),
-        Filter::Fold { field, text } => push_two("fold", field, text, out),
-        _ => push_range_leaf(filter, out),
+        Filter::Any { .. } => "some",
+        Filter::Empty { .. } => "empty",
+        Filter::OneOf { .. } => "in",
+        Filter::Seq { .. } => "seq",
+        Filter::Select(_) => "streams",
+        Filter::Phrase { .. } => "phrase",
+        Filter::Prefix { .. } => "prefix",
+        Filter::Exact { .. } => "exact",
+        Filter::ExactPrefix { .. } => "exact_prefix",
+        Filter::Regex { .. } => "regex",
+        Filter::Fold { .. } => "fold",
+        Filter::Between { .. } => "between",
+        Filter::Length { .. } => "length",
+        Filter::Range { .. } => "range",
+        Filter::Last { .. } => "last",
+        Filter::Times { .. } => "times",
+        _ => "everything",
     }
 }
 
-fn push_range_leaf(filter: &Filter, out: &mut String) -> Result<(), AllocError> {
+/// Returns the field of a leaf and its texts, but for those of a list.
+fn texts_of(filter: &Filter) -> [Option<&Text>; 3] {
     match filter {
-        Filter::Between { field, low, high } => {
-            push_two("between", field, low, out)?;
-            push_text(high, out)
-        }
-        Filter::Length { field, low, high } => {
-            push_one("length", field, out)?;
-            write!(out, " {low} {high}")
-        }
-        Filter::Range { field, low, high } => {
-            push_one("range", field, out)?;
-            write!(out, " {low} {high}")
-        }
-        Filter::Last { span } => write!(out, "last {span}"),
-        Filter::Times { from, to } => write!(out, "times {from} {to}"),
-        _ => out.push_str("everything"),
+        Filter::Phrase { field, text }
+        | Filter::Prefix { field, text }
+        | Filter::Exact { field, text }
+        | Filter::ExactPrefix { field, text }
+        | Filter::Fold { field, text } => [Some(field), Some(text), None],
+        Filter::Regex { field, pattern } => [Some(field), Some(pattern), None],
+        Filter::Between { field, low, high } => [Some(field), Some(low), Some(high)],
+        Filter::Any { field }
+        | Filter::Empty { field }
+        | Filter::OneOf { field, .. }
+        | Filter::Seq { field, .. }
+        | Filter::Length { field, .. }
+        | Filter::Range { field, .. } => [Some(field), None, None],
+        _ => [None, None, None],
     }
 }
 
-fn push_one(word: &str, text: &Text, out: &mut String) -> Result<(), AllocError> {
-    out.push_str(word)?;
-    push_text(text, out)
+/// Appends the numbers between whose ends a value or a moment lies.
+fn push_ends(filter: &Filter, out: &mut String) -> Result<(), AllocError> {
+    let (low, high) = match filter {
+        Filter::Length { low, high, .. } => (i128::from(*low), i128::from(*high)),
+        Filter::Range { low, high, .. } => (*low, *high),
+        Filter::Times { from, to } => (*from, *to),
+        Filter::Last { span } => return push_number(i128::from(*span), out),
+        _ => return Ok(()),
+    };
+    push_number(low, out)?;
+    push_number(high, out)
 }
 
-fn push_two(word: &str, field: &Text, text: &Text, out: &mut String) -> Result<(), AllocError> {
-    push_one(word, field, out)?;
-    push_text(text, out)
+/// Appends a number after a blank.
+pub(crate) fn push_number(number: i128, out: &mut String) -> Result<(), AllocError> {
+    write!(out, " {number}")
 }
 
-fn push_texts(
-    word: &str,
-    field: &Text,
-    texts: &[Text],
-    out: &mut String,
-) -> Result<(), AllocError> {
-    push_one(word, field, out)?;
+/// Appends texts, each as `push_text` does.
+pub(crate) fn push_texts(texts: &[Text], out: &mut String) -> Result<(), AllocError> {
     for text in texts {
         push_text(text, out)?;
     }
@@ -114,19 +131,19 @@ fn push_texts(
 pub(crate) fn push_text(text: &Text, out: &mut String) -> Result<(), AllocError> {
     out.push_str(" <")?;
     for c in text.as_str().chars() {
-        match c {
-            '\n' => out.push('␊')?,
-            '\r' => out.push('␍')?,
-            '\t' => out.push('␉')?,
-            '\0' => out.push('␀')?,
-            _ => out.push(c)?,
-        }
+        let shown = match c {
+            '\n' => '␊',
+            '\r' => '␍',
+            '\t' => '␉',
+            '\0' => '␀',
+            _ => c,
+        };
+        out.push(shown)?;
     }
     out.push_str(">")
 }
 
 fn push_select(select: &Select, out: &mut String) -> Result<(), AllocError> {
-    out.push_str("streams")?;
     for group in select.groups.as_slice() {
         push_group(group, out)?;
     }
@@ -137,29 +154,27 @@ fn push_group(group: &Group, out: &mut String) -> Result<(), AllocError> {
     out.push_str(" {")?;
     for label in group.labels.as_slice() {
         push_text(&label.name, out)?;
-        out.push_str(how_text(label.how))?;
+        let how = match label.how {
+            How::Is => " =",
+            How::IsNot => " !=",
+            How::Matches => " =~",
+            How::MatchesNot => " !~",
+        };
+        out.push_str(how)?;
         push_text(&label.text, out)?;
     }
     out.push_str(" }")
-}
-
-fn how_text(how: How) -> &'static str {
-    match how {
-        How::Is => " =",
-        How::IsNot => " !=",
-        How::Matches => " =~",
-        How::MatchesNot => " !~",
-    }
 }
 
 /// Returns the text with control characters in the places of their pictures.
 pub fn with_controls(alloc: Global, text: &str) -> Result<String, AllocError> {
     let mut out = String::new(alloc);
     for c in text.chars() {
-        match c {
-            '␀'..='␟' => out.push((c as u32 - '␀' as u32) as u8 as char)?,
-            _ => out.push(c)?,
-        }
+        let meant = match c {
+            '␀'..='␟' => (c as u32 - '␀' as u32) as u8 as char,
+            _ => c,
+        };
+        out.push(meant)?;
     }
     Ok(out)
 }

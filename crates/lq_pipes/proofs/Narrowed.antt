@@ -18,7 +18,8 @@ use Rattle.lq_ast.specs.Records.{without_fields}
 use Rattle.lq_ast.specs.Stage.{NamePair}
 use Rattle.lq_ast.proofs.Sorted.{split_bool}
 use Rattle.vl_row.specs.Place.{AllAbove, IsInOrder}
-use Rattle.vl_row.proofs.Sorted.{above_from, gap, less_from_greater}
+use Rattle.vl_row.proofs.NameOrder.{less_from_greater}
+use Rattle.vl_row.proofs.Sorted.{above_from, gap}
 
 -- ---- names
 

@@ -27,13 +27,14 @@ use Rattle.lq_stats.specs.Groups.{AreStates, IsStateOf}
 use Rattle.lq_stats.specs.Key.{grouped_by}
 use Rattle.lq_stats.specs.Measure.{AreMeasured, are_filled, measure_call, sum_of}
 use Rattle.lq_tuple.specs.Once.{HasEachOnce, count}
-use Rattle.lq_stats.specs.Partial.{StandsFor, opening}
+use Rattle.lq_stats.specs.Plan.{IsGathered, IsPlanOf, opening}
 use Rattle.lq_stats.specs.State.{AreTaken, state_call}
 use Rattle.lq_stats.specs.declared.function.Function.{Function}
 use Rattle.lq_stats.specs.declared.groups.States.{States}
 use Rattle.lq_stats.specs.declared.measure.Measure.{Measure}
 use Rattle.lq_stats.specs.declared.measure.Measure.TheVariants.{Sum, Min, Max, UniqValues}
-use Rattle.lq_stats.specs.declared.partial.Partial.{Partial}
+use Rattle.lq_stats.specs.declared.gathered.Gathered.{Gathered}
+use Rattle.lq_stats.specs.declared.plan.Plan.{Plan}
 use Rattle.lq_stats.specs.declared.state.State.{State}
 use Rattle.lq_stats.specs.declared.state.State.TheVariants.{Count, CountEmpty, CountUniq, OfValues}
 
@@ -138,15 +139,15 @@ opened [] records =
 opened (key ∷ keys) records = refl
 
 -- the records of the groups in tuple order
-pub finished : (partial : Partial) (g : Grouping) (records : List Record) (h : StandsFor partial g records)
+pub finished : (gathered : Gathered) (g : Grouping) (records : List Record) (h : IsGathered gathered g records)
     (groups : List (Group (Bor States)))
-    → map group_pair groups ≡ zip h.groups.tuples partial.groups.states.items
+    → map group_pair groups ≡ zip h.groups.tuples gathered.groups.states.items
     → all (map (made_record (map (λ key. key.0) g.keys) g.statistics) (sorted_by (on group_tuple tuple_cmp) groups))
     ≡ grouped g records
-finished partial g records h groups read =
+finished gathered g records h groups read =
     let order = on group_tuple tuple_cmp in
     let tuples = h.groups.tuples in
-    let states = partial.groups.states.items in
+    let states = gathered.groups.states.items in
     let are = λ (p : Tuple × States). AreStates g.statistics p.1.list.items (members g.keys records p.0) in
     let made = made_record (map (λ key. key.0) g.keys) g.statistics in
     let tuples_are : map group_tuple groups ≡ tuples =
@@ -167,19 +168,20 @@ finished partial g records h groups read =
     (opening g.keys ++ map (key_tuple g.keys) records) h.groups.once
     ∙ opened g.keys records))
 
--- the same, by what the code has of the partial statistics
-pub finished_as : (partial : Partial) (g : Grouping) (records : List Record) (h : StandsFor partial g records)
+-- the same, by what the code has
+pub finished_as : (plan : Plan) (gathered : Gathered) (g : Grouping) (records : List Record) (p : IsPlanOf plan g)
+    (h : IsGathered gathered g records)
     (names : List (List ℕ)) (functions : List Function) (groups : List (Group (Bor States)))
-    → names ≡ map (λ key. key.0) (map grouped_by partial.keys.items) → functions ≡ partial.functions.items
-    → map group_pair groups ≡ zip h.groups.tuples partial.groups.states.items
+    → names ≡ map (λ key. key.0) (map grouped_by plan.keys.items) → functions ≡ plan.functions.items
+    → map group_pair groups ≡ zip h.groups.tuples gathered.groups.states.items
     → grouped g records
     ≡ all (map (made_record names (map statistic_of functions)) (sorted_by (on group_tuple tuple_cmp) groups))
-finished_as partial g records h names functions groups a b read =
-    sym (finished partial g records h groups read)
+finished_as plan gathered g records p h names functions groups a b read =
+    sym (finished gathered g records h groups read)
     ∙ ap (λ ns. all (map (made_record ns g.statistics) (sorted_by (on group_tuple tuple_cmp) groups)))
-    (sym (a ∙ ap (map (λ key. key.0)) h.keys))
+    (sym (a ∙ ap (map (λ key. key.0)) p.keys))
     ∙ ap (λ ss. all (map (made_record names ss) (sorted_by (on group_tuple tuple_cmp) groups)))
-    (sym (ap (map statistic_of) b ∙ h.statistics))
+    (sym (ap (map statistic_of) b ∙ p.statistics))
 
 -- ---- one result after another
 

@@ -29,7 +29,7 @@ use Rattle.lq_stats.specs.Groups.{AreGroups, AreStates, IsEnteredIn, IsStateOf, 
 use Rattle.lq_stats.specs.Groups.{TakesRecord}
 use Rattle.lq_stats.specs.Key.{grouped_by}
 use Rattle.lq_tuple.specs.Once.{count}
-use Rattle.lq_stats.specs.Partial.{opening}
+use Rattle.lq_stats.specs.Plan.{opening}
 use Rattle.lq_tuple.specs.Places.{AreKnown, IsPlaced}
 use Rattle.lq_tuple.specs.declared.places.Places.{Places}
 use Rattle.lq_stats.specs.State.{AreTaken, Takes, state_call}

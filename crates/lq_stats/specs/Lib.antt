@@ -5,5 +5,6 @@ pub mod Key
 pub mod Keyed
 pub mod Measure
 pub mod Partial
+pub mod Plan
 pub mod State
 pub mod Words

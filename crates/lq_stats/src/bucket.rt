@@ -8,7 +8,7 @@ use std::alloc::{AllocError, Global};
 use time_text::{read_moment, write_moment};
 use vl_row::Text;
 
-/// The first moment of a bucket and its text, which one moment after another asks for while they lie in that bucket.
+/// The first moment of a bucket and its text. The text is made again only for a moment that lies in another bucket.
 #[derive(Drop)]
 pub(crate) struct Bucket {
     first: i64,

@@ -1,16 +1,15 @@
 //! Groups of records.
 ghost use Rattle.std.specs.Prelude.{◌≡◌, [], map, IfOk, OnOk};
 ghost use Rattle.lq_stats.specs.Key.{grouped_by};
-ghost use Rattle.lq_stats.specs.Function.{scanned_statistic, statistic_of};
+ghost use Rattle.lq_stats.specs.Function.{scanned_statistic};
 ghost use Rattle.lq_stats.specs.Groups.{AreStates, IsEntered, TakeRecord, TakeRecords, TakesOne, TakesRecord};
 ghost use Rattle.lq_tuple.specs.Places.{AreKnown};
 
-use crate::function::Function;
-use crate::function_scan::{FunctionScan, scans};
+use crate::function_scan::FunctionScan;
 use crate::key::Key;
 use crate::scratch::Scratch;
 use crate::state::State;
-use lq_tuple::Places;
+use lq_tuple::{HashSeed, Places};
 use std::alloc::{AllocError, Global};
 use vl_row::FieldList;
 
@@ -21,13 +20,13 @@ pub(crate) struct States {
 }
 
 impl States {
-    /// Returns the states of functions over no records.
-    fn of(alloc: Global, scans: &[FunctionScan]) -> Result<States, AllocError>
+    /// Returns the states of functions over no records, with this seed of their tables.
+    fn of(alloc: Global, seed: HashSeed, scans: &[FunctionScan]) -> Result<States, AllocError>
         ensures { IfOk result (λ states. AreStates (map scanned_statistic scans.now) states.list.items []) }
     {
         let mut list = Vec::with_capacity(alloc, scans.len())?;
         for scan in scans {
-            list.push(State::of(alloc, scan.function.call))?;
+            list.push(State::of(alloc, seed, scan.function.call))?;
         }
         Ok(States { list })
     }
@@ -67,7 +66,7 @@ fn add_to(
     state.add(scratch, scan.function.names.as_slice(), fields)
 }
 
-/// The groups of some records. Of each tuple its text is kept only, and the states that have the number of that text.
+/// The groups of some records: of each tuple only its text, and the states that have the number of that text.
 #[derive(Drop)]
 pub(crate) struct Groups {
     pub(crate) places: Places,
@@ -75,30 +74,29 @@ pub(crate) struct Groups {
 }
 
 impl Groups {
-    /// No groups. This allocates nothing.
-    pub(crate) fn new(alloc: Global) -> Groups
+    /// No groups, with this seed of their table. This allocates nothing.
+    pub(crate) fn new(alloc: Global, seed: HashSeed) -> Groups
         ensures known { AreKnown result.places [] }
         ensures none { result.states.items ≡ [] }
     {
         Groups {
-            places: Places::new(alloc),
+            places: Places::seeded(alloc, seed),
             states: Vec::new(alloc),
         }
     }
 
-    /// Takes more records, of which the functions are asked in one scan.
+    /// Takes more records.
     pub(crate) fn add_all(
         &mut self,
         scratch: &mut Scratch,
         keys: &[Key],
-        functions: &[Function],
+        scans: &mut [FunctionScan],
         records: &[FieldList],
     ) -> Result<(), AllocError>
-        ensures { OnOk result (TakeRecords (map grouped_by keys.now) (map statistic_of functions.now)
+        ensures same { OnOk result (map scanned_statistic scans.new ≡ map scanned_statistic scans.old) }
+        ensures taken { OnOk result (TakeRecords (map grouped_by keys.now) (map scanned_statistic scans.old)
             self.old self.new records.now) }
     {
-        let mut scans = scans(scratch.alloc, functions)?;
-        let scans = scans.as_mut_slice();
         for record in records {
             self.add(scratch, keys, scans, record)?;
         }
@@ -141,7 +139,7 @@ impl Groups {
         if place < self.states.len() {
             return Ok(place);
         }
-        let states = States::of(alloc, scans)?;
+        let states = States::of(alloc, scratch.seed, scans)?;
         self.states.push(states)?;
         Ok(place)
     }

@@ -8,23 +8,25 @@ ghost use Rattle.lq_tuple.specs.Counted.{AreShort, part, tuple_text};
 use crate::bucket::Bucket;
 use crate::key::Key;
 use crate::keys::key_value;
-use lq_tuple::push_part;
+use lq_tuple::{HashSeed, push_part};
 use std::alloc::{AllocError, Global};
 use vl_row::FieldList;
 
-/// Where the texts of tuples are written, one after another.
+/// Where the texts of tuples are written, one after another, and the seed of the tables in which they are found.
 #[derive(Drop)]
 pub(crate) struct Scratch {
     pub(crate) alloc: Global,
+    pub(crate) seed: HashSeed,
     pub(crate) text: String,
     pub(crate) bucket: Bucket,
 }
 
 impl Scratch {
     /// No text.
-    pub(crate) fn new(alloc: Global) -> Result<Scratch, AllocError> {
+    pub(crate) fn new(alloc: Global, seed: HashSeed) -> Result<Scratch, AllocError> {
         Ok(Scratch {
             alloc,
+            seed,
             text: String::new(alloc),
             bucket: Bucket::at(alloc, 0)?,
         })

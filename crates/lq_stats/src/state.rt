@@ -11,7 +11,7 @@ use crate::measure::Measure;
 use crate::scratch::Scratch;
 use crate::words::Words;
 use lq_ast::Call;
-use lq_tuple::{Texts, filled_text, is_wholly_empty};
+use lq_tuple::{HashSeed, Texts, filled_text, is_wholly_empty};
 use std::alloc::{AllocError, Global};
 use vl_row::{FieldList, Text};
 
@@ -29,19 +29,19 @@ pub(crate) enum State {
 }
 
 impl State {
-    /// Returns the state of a function over no records.
-    pub(crate) fn of(alloc: Global, call: Call) -> State
+    /// Returns the state of a function over no records, with this seed of its tables.
+    pub(crate) fn of(alloc: Global, seed: HashSeed, call: Call) -> State
         ensures call { state_call result ≡ call }
         ensures none { (names : List (List ℕ)) → AreTaken names result [] }
     {
         match call {
             Call::Count => State::Count(0),
             Call::CountEmpty => State::CountEmpty(0),
-            Call::CountUniq => State::CountUniq(Texts::new(alloc)),
+            Call::CountUniq => State::CountUniq(Texts::seeded(alloc, seed)),
             Call::Sum => State::OfValues(Measure::Sum(None)),
             Call::Min => State::OfValues(Measure::Min(Text::new())),
             Call::Max => State::OfValues(Measure::Max(Text::new())),
-            Call::UniqValues => State::OfValues(Measure::UniqValues(Words::new(alloc))),
+            Call::UniqValues => State::OfValues(Measure::UniqValues(Words::new(alloc, seed))),
         }
     }
 

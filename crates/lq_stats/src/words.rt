@@ -2,7 +2,7 @@
 ghost use Rattle.std.specs.Prelude.{◌++◌, [], ◌∷◌, List, ℕ, OnOk};
 ghost use Rattle.lq_stats.specs.Words.{AreWords};
 
-use lq_tuple::Places;
+use lq_tuple::{HashSeed, Places};
 use std::alloc::{AllocError, Global};
 use vl_row::Text;
 
@@ -14,12 +14,12 @@ pub(crate) struct Words {
 }
 
 impl Words {
-    /// Returns the words of no texts. This allocates nothing.
-    pub(crate) fn new(alloc: Global) -> Words
+    /// Returns the words of no texts, with this seed of their table. This allocates nothing.
+    pub(crate) fn new(alloc: Global, seed: HashSeed) -> Words
         ensures { AreWords result [] }
     {
         Words {
-            places: Places::new(alloc),
+            places: Places::seeded(alloc, seed),
             words: Vec::new(alloc),
         }
     }

@@ -157,5 +157,7 @@ prefixes-bring_words text prefix word text_utf8 utf8 has listed_word =
     let spot = Any-from_list_any (stands_as_prefix text prefix) (range_with_len 0 (suc (length text))) has in
     let parts = both (starts_with nat_eq (drop spot.1 text) prefix) _ spot.4 in
     let found : OccursAt text prefix spot.1 = OccursAt-starts_with text prefix spot.1 filled parts.0 in
-    let apart_after = apart_inside text prefix spot.1 text_utf8 utf8 filled found parts.1 at.0 at.1 is listed_word.4.0 in
+    let apart_after =
+    apart_inside text prefix spot.1 text_utf8 utf8 filled found parts.1 at.0 at.1 is listed_word.4.0
+    in
     rw (← listed_word.4.1) (listed text prefix spot.1 text_utf8 utf8 filled found parts.1 at.0 at.1 is apart_after)

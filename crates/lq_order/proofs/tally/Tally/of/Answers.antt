@@ -6,5 +6,5 @@ pub returns : goal.returns
 returns c =
     let names = c.args.names.now in
     let all = c.in_ok-add_all.ensures names []
-    (omega (arith, c.as_slice.ensures.len, c.into_vec-records.result.ok.0)) c.new-tally.ensures in
+    (omega (arith, c.as_slice.ensures.len, c.into_vec-records.result.ok.0)) c.seeded-tally.ensures in
     subst (Tallies c.add_all.new.self names) (c.as_slice.ensures.value ∙ c.into_vec-records.ensures) all

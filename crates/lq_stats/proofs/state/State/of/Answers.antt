@@ -5,7 +5,7 @@ pub returns-in-Sum-clause-none : goal.returns-in-Sum-clause-none
 returns-in-Sum-clause-none c = none_sum
 
 pub returns-in-Min-clause-none : goal.returns-in-Min-clause-none
-returns-in-Min-clause-none c = none_least c.new-in-Min.result c.new-in-Min.ensures
+returns-in-Min-clause-none c = none_least c.new.result c.new.ensures
 
 pub returns-in-Max-clause-none : goal.returns-in-Max-clause-none
 returns-in-Max-clause-none c = none_greatest c.new-in-Max.result c.new-in-Max.ensures

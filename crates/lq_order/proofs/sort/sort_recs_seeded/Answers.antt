@@ -4,7 +4,7 @@ use Rattle.lq_ast.specs.PipeView.{sorting}
 use Rattle.lq_ast.specs.Sorting.{sorted}
 use Rattle.lq_order.specs.Places.{ArePlaces}
 use Rattle.lq_order.proofs.SortedPlaces.{records_placed}
-use Rattle.lq_order.proofs.sort.sort_recs.Goals as goal
+use Rattle.lq_order.proofs.sort.sort_recs_seeded.Goals as goal
 
 pub moved-requires : goal.moved-requires
 moved-requires c =

@@ -8,7 +8,7 @@ use Rattle.lq_ast.specs.Tuples.{sorted_by}
 use Rattle.lq_order.specs.Places.{ArePlaces, places_in_order, sorted_places}
 use Rattle.lq_order.proofs.Picked.{places_kept}
 use Rattle.lq_order.proofs.SortedPlaces.{places_apart}
-use Rattle.lq_order.proofs.sort.sorted_places.Goals as goal
+use Rattle.lq_order.proofs.sort.sorted_places_seeded.Goals as goal
 
 kept_is : (c : goal.After-drop-places) → c.kept.result.now ≡ sorted_places (sorting c.args.p.now) c.args.records.now
 kept_is c =

@@ -1,7 +1,7 @@
 use Rattle.std.proofs.Common.{subst}
 use Rattle.std.proofs.lemmas.Result.{IfOk-weaker}
 use Rattle.lq_order.specs.Tally.{Tallies}
-use Rattle.lq_order.proofs.top.top_recs.Goals as goal
+use Rattle.lq_order.proofs.top.top_recs_seeded.Goals as goal
 
 pub returns : goal.returns
 returns c =

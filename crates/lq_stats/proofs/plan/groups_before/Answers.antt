@@ -4,8 +4,8 @@ use Rattle.lq_stats.proofs.Gathering.{groups_begun, groups_empty, groups_none}
 use Rattle.lq_stats.specs.Function.{scanned_statistic, statistic_of}
 use Rattle.lq_stats.specs.Groups.{AreGroups}
 use Rattle.lq_stats.specs.Key.{grouped_by}
-use Rattle.lq_stats.specs.Partial.{opening}
-use Rattle.lq_stats.proofs.partial.groups_before.Goals as goal
+use Rattle.lq_stats.specs.Plan.{opening}
+use Rattle.lq_stats.proofs.plan.groups_before.Goals as goal
 
 pub returns-then-not-is_empty : goal.returns-then-not-is_empty
 returns-then-not-is_empty c =
