@@ -1,6 +1,6 @@
 //! From a message of syslog to its row.
 ghost use Rattle.std.specs.Prelude.{◌≡◌, ◌≢◌, ◌≤ℤ◌, pos, IfOk, IfErr, None};
-ghost use Rattle.log_model.specs.Row.{Row as Event};
+ghost use Rattle.log_model.specs.Row.{Row as Event, IsRow};
 ghost use Rattle.vl_row.specs.Faults.{row_fault};
 ghost use Rattle.ingest_row.specs.Ingest.{row_at};
 ghost use Rattle.ingest_row.specs.Syslog.{IsRowOfSyslog, IsSyslogRefused, IsStreamFault, kind_of, moment_of};
@@ -37,6 +37,7 @@ fn row_at(alloc: Global, time: i64, fields: FieldList) -> Result<Row, SyslogKind
     ensures faultless { IfOk result (λ row. row_fault time fields ≡ None) }
     ensures row { IfOk result (λ row. row ≡ row_at syslog_stream time fields) }
     ensures fault { IfErr result (λ kind. IsStreamFault kind time fields) }
+    ensures rules { IfOk result IsRow }
 {
     let names = [
         Text::try_of(alloc, "hostname")?,
@@ -79,6 +80,7 @@ pub fn row_of_syslog(alloc: Global, now: i64, m: &[u8]) -> Result<Row, SyslogKin
     ensures none { IfErr result (λ kind. kind ≢ SyslogKind.Memory
         → (row : Event) → IsRowOfSyslog now m.now row → ⊥) }
     ensures refused { IfErr result (λ kind. IsSyslogRefused kind now m.now) }
+    ensures rules { IfOk result IsRow }
 {
     match read_message(alloc, m) {
         Ok(SyslogRow { time, fields }) => row_at(alloc, moment_of(now, time), fields),

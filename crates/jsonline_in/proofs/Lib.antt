@@ -15,3 +15,5 @@ pub mod Settings
 pub mod Again
 pub mod ValuesAgain
 pub mod Objects
+pub mod Notes
+pub mod Known

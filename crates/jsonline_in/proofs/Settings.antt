@@ -5,7 +5,8 @@ use Rattle.std.specs.Prelude.{OnOk, IfOk, IfSome, option_map, unwrap_or}
 use Rattle.std.specs.Str.{IsUtf8}
 use Rattle.std.proofs.lemmas.List.{append-nil, length-append, take-append-drop, take-take, take_at, take_all}
 use Rattle.std.proofs.lemmas.Str.{IsCharBoundary-from_take}
-use Rattle.log_model.specs.Field.{Field, set_field, set_all}
+use Rattle.log_model.specs.Field.{Field, set_all}
+use Rattle.jsonline_in.specs.Near.{Noted, note, note_all}
 use Rattle.log_model.specs.Token.{Character, string, string_text, Scalar, scalar_text}
 use Rattle.log_model.specs.Value.{Kind, array, object, closing, Label, Value, scalar, nested, Items, nothing, tokens}
 use Rattle.log_model.specs.Value.{member_name, field_name, value_fields, member_fields}
@@ -111,14 +112,14 @@ module _ {X : Type 0} (whole : Value → X) (one : List ℕ → X)
       ∙ mapped_twice (flat_at (nested_at depth) text) value rest e
 
 -- the field of this text is set
-pub value_is_set : (old : List Field) (name : List ℕ) (depth : ℕ) (text rest value kept : List ℕ) (new : List Field)
+pub value_is_set : (old : Noted) (name : List ℕ) (depth : ℕ) (text rest value kept : List ℕ) (new : Noted)
     → past 123 text ≡ None → mapped flat_text (flat_at (nested_at depth) text) ≡ Ok (value, rest) → kept ≡ value
-    → new ≡ set_field old (field_name name) kept → mapped (value_set old name) (value_at (nested_at depth) text) ≡ Ok
+    → new ≡ note old (field_name name) kept → mapped (value_set old name) (value_at (nested_at depth) text) ≡ Ok
     (new, rest)
 value_is_set old name depth text rest value kept new none e f g =
-    flat_made (value_set old name) (set_field old (field_name name)) (λ token. refl) (λ items. refl) depth text rest
+    flat_made (value_set old name) (note old (field_name name)) (λ token. refl) (λ items. refl) depth text rest
     value none e
-    ∙ ap (λ (fields : List Field). Ok (fields, rest)) (ap (set_field old (field_name name)) (sym f) ∙ sym g)
+    ∙ ap (λ (noted : Noted). Ok (noted, rest)) (ap (note old (field_name name)) (sym f) ∙ sym g)
 
 -- the field of this text is listed
 pub value_is_listed : (old : List Field) (name : List ℕ) (depth : ℕ) (text rest value : List ℕ) (new : List Field)
@@ -167,15 +168,15 @@ unwrapped now (Some piece) kept result text e f = ap now e
 
 -- ---- members
 
-all_of_two : (old a b : List Field) → set_all old (a ++ b) ≡ set_all (set_all old a) b
+all_of_two : (old : Noted) (a b : List Field) → note_all old (a ++ b) ≡ note_all (note_all old a) b
 all_of_two old [] b = refl
-all_of_two old (x ∷ a) b = all_of_two (set_field old x.0 x.1) a b
+all_of_two old (x ∷ a) b = all_of_two (note old x.0 x.1) a b
 
-pub member_set : (old now : List Field) (names : List ℕ) (x : Label × Value) (more : Items)
-    → now ≡ set_all old (value_fields (names ++ member_name x.0) x.1)
-    → set_all old (member_fields names (put_item x more)) ≡ set_all now (member_fields names more)
+pub member_set : (old now : Noted) (names : List ℕ) (x : Label × Value) (more : Items)
+    → now ≡ note_all old (value_fields (names ++ member_name x.0) x.1)
+    → note_all old (member_fields names (put_item x more)) ≡ note_all now (member_fields names more)
 member_set old now names x more e = all_of_two old (value_fields (names ++ member_name x.0) x.1)
-    (member_fields names more) ∙ ap (λ (fields : List Field). set_all fields (member_fields names more)) (sym e)
+    (member_fields names more) ∙ ap (λ (noted : Noted). note_all noted (member_fields names more)) (sym e)
 
 pub member_listed : (old now : List Field) (before : List ℕ) (x : Label × Value) (more : Items) → now ≡ old
     ++ value_fields (before ++ member_name x.0) x.1 → old ++ member_fields before (put_item x more) ≡ now

@@ -1,7 +1,7 @@
 -- What a scanner of objects answers, in the words of its reader.
 use Rattle.std.specs.Prelude.{◌≡◌, ℕ, List, [], flat_map, Option, Some, None, Result, Ok, Err, IsUtf8}
 use Rattle.log_model.specs.Token.{Character, short, unicode, scalar_text}
-use Rattle.log_model.specs.Field.{Field, set_all}
+use Rattle.jsonline_in.specs.Near.{Noted, note_all}
 use Rattle.log_model.specs.Value.{Kind, array, object, Value, scalar, nested, tokens, value_fields}
 use Rattle.jsonline_in.specs.Reading.{Fault, deep, stuck, ◌>>=◌, after_space, past, text_at}
 use Rattle.jsonline_in.specs.declared.scan_fault.ScanFault.{ScanFault}
@@ -64,6 +64,6 @@ abbrev pub flat_text : Value → List ℕ
 flat_text (scalar token) = scalar_text token
 flat_text (nested kind items) = compact (tokens (nested kind items))
 
--- the fields with those of the value of this name over them
-abbrev pub value_set : List Field → List ℕ → Value → List Field
-value_set old name value = set_all old (value_fields name value)
+-- what is noted once the fields of the value of this name are set
+abbrev pub value_set : Noted → List ℕ → Value → Noted
+value_set old name value = note_all old (value_fields name value)

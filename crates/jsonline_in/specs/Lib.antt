@@ -1,3 +1,4 @@
 pub mod Reading
+pub mod Near
 pub mod Clauses
 pub mod Faults

@@ -5,7 +5,9 @@ mod bare;
 mod copy;
 mod escape;
 mod fault;
+mod fields;
 mod line;
+mod noting;
 pub mod run;
 mod scan;
 mod scan_fault;
@@ -13,5 +15,5 @@ mod set;
 mod text;
 
 pub use fault::JsonFault;
+pub use fields::{Said, fields_of, said_fields_of};
 pub use scan_fault::ScanFault;
-pub use set::fields_of;

@@ -1,23 +1,19 @@
-// From a line to its fields.
+//! From the members of an object to its fields.
 ghost use Rattle.std.specs.Prelude.{◌≡◌, ◌<◌, ◌++◌, List, [], ◌∷◌, length, take, string_bytes, IfOk, OnOk, IfErr};
 ghost use Rattle.std.specs.Prelude.{IfSome};
 ghost use Rattle.std.specs.Option.{option_map};
-ghost use Rattle.log_model.specs.Field.{Field, set_all, set_field};
-ghost use Rattle.log_model.specs.ObjectLine.{IsObjectLine};
 ghost use Rattle.log_model.specs.Value.{object, field_name, member_name, value_fields, member_fields};
-ghost use Rattle.jsonline_in.specs.Faults.{Refuses, IsFault};
 ghost use Rattle.jsonline_in.specs.Reading.{label_at, flat_at, nested_at, value_at, item_at, items_at, text_at};
+ghost use Rattle.jsonline_in.specs.Near.{note, note_all};
 ghost use Rattle.jsonline_in.specs.Clauses.{ReadsAs, mapped, or_empty, or_kept, flat_text, value_set};
 
 use crate::bare::bare;
 use crate::copy::{Bracket, copy_nested};
-use crate::fault::JsonFault;
-use crate::line::{fault_of, opened};
+use crate::noting::Noting;
 use crate::scan::{after_space, expect, past};
 use crate::scan_fault::ScanFault;
 use crate::text::string;
 use std::alloc::{AllocError, Global};
-use vl_row::FieldList;
 
 /// Returns the name of a member, up to its value. Where a character is escaped, its text is appended to `names`
 /// instead.
@@ -60,8 +56,8 @@ fn flat<'a>(
 }
 
 #[inline(always)]
-fn set_named(alloc: Global, name: &str, value: &str, out: &mut FieldList) -> Result<(), AllocError>
-    ensures { OnOk result (out.new ≡ set_field out.old (field_name name.now) value.now) }
+fn set_named(alloc: Global, name: &str, value: &str, out: &mut Noting) -> Result<(), AllocError>
+    ensures { OnOk result (out.new ≡ note out.old (field_name name.now) value.now) }
 {
     if name.is_empty() {
         return out.set(alloc, "_msg", value);
@@ -76,9 +72,9 @@ fn set_flat(
     own: Option<&str>,
     value: &str,
     names: &mut String,
-    out: &mut FieldList,
+    out: &mut Noting,
 ) -> Result<(), AllocError>
-    ensures set { OnOk result (out.new ≡ set_field out.old
+    ensures set { OnOk result (out.new ≡ note out.old
         (field_name (string_bytes names.old ++ or_empty (option_map (λ t. t.now) own.entry))) value.now) }
     ensures names { OnOk result
         (take (length (string_bytes names.old)) (string_bytes names.new) ≡ string_bytes names.old) }
@@ -134,10 +130,10 @@ impl Setter {
         &mut self,
         text: &'a str,
         depth: u32,
-        out: &mut FieldList,
+        out: &mut Noting,
     ) -> Result<&'a str, ScanFault>
         ensures set { ReadsAs (λ rest. (out.new, rest.now)) result
-            (mapped (λ members. set_all out.old (member_fields (string_bytes self.old.names) members))
+            (mapped (λ members. note_all out.old (member_fields (string_bytes self.old.names) members))
             (items_at (nested_at depth) object text.now)) }
         ensures names { OnOk result (string_bytes self.new.names ≡ string_bytes self.old.names) }
     {
@@ -162,10 +158,10 @@ impl Setter {
         &mut self,
         text: &'a str,
         depth: u32,
-        out: &mut FieldList,
+        out: &mut Noting,
     ) -> Result<&'a str, ScanFault>
         ensures set { ReadsAs (λ rest. (out.new, rest.now)) result
-            (mapped (λ x. set_all out.old (value_fields (string_bytes self.old.names ++ member_name x.0) x.1))
+            (mapped (λ x. note_all out.old (value_fields (string_bytes self.old.names ++ member_name x.0) x.1))
             (item_at (nested_at depth) object text.now)) }
         ensures names { OnOk result (string_bytes self.new.names ≡ string_bytes self.old.names) }
     {
@@ -185,7 +181,7 @@ impl Setter {
         own: Option<&str>,
         text: &'a str,
         depth: u32,
-        out: &mut FieldList,
+        out: &mut Noting,
     ) -> Result<&'a str, ScanFault>
         ensures set { ReadsAs (λ rest. (out.new, rest.now)) result
             (mapped (value_set out.old (string_bytes self.old.names ++ or_empty (option_map (λ t. t.now) own.entry)))
@@ -209,9 +205,9 @@ impl Setter {
 
 /// Sets the members of the object that is all of the text, after white space and its opening brace.
 #[tactic(auto, unfolding(crate::specs::Reading::text_at, crate::specs::Reading::end_at))]
-fn set_text(alloc: Global, inside: &str, out: &mut FieldList) -> Result<(), ScanFault>
+pub(crate) fn set_text(alloc: Global, inside: &str, out: &mut Noting) -> Result<(), ScanFault>
     ensures { ReadsAs (λ _. (out.new, [])) result
-        (mapped (λ members. set_all out.old (member_fields [] members)) (text_at inside.now)) }
+        (mapped (λ members. note_all out.old (member_fields [] members)) (text_at inside.now)) }
 {
     let mut setter = Setter::new(alloc);
     let rest = after_space(setter.members(inside, 63, out)?);
@@ -219,27 +215,4 @@ fn set_text(alloc: Global, inside: &str, out: &mut FieldList) -> Result<(), Scan
         return Err(ScanFault::Stuck { left: rest.len() });
     }
     Ok(())
-}
-
-/// Sets the flattened fields of the object in `line`, in their order, so that later ones count over earlier ones.
-/// After a fault `out` holds any fields.
-pub fn fields_of(alloc: Global, line: &[u8], out: &mut FieldList) -> Result<(), JsonFault>
-    ensures read { OnOk result
-        ((fields : List Field) × IsObjectLine line.now fields × (out.new ≡ set_all out.old fields)) }
-
-    // A line has one reading.
-    ensures only { OnOk result
-        ((fields : List Field) → IsObjectLine line.now fields → out.new ≡ set_all out.old fields) }
-
-    // What is refused is not a line.
-    ensures refused { IfErr result (λ fault. Refuses fault line.now) }
-
-    // Which fault it is.
-    ensures fault { IfErr result (λ fault. IsFault fault line.now) }
-{
-    let inside = opened(line)?;
-    match set_text(alloc, inside, out) {
-        Ok(()) => Ok(()),
-        Err(stop) => Err(fault_of(line, stop)),
-    }
 }

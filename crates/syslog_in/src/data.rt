@@ -15,16 +15,17 @@ ghost use Rattle.syslog_in.specs.HeaderReading.{past};
 ghost use Rattle.syslog_in.specs.Endings.{ending_of};
 
 use crate::part::past;
+use field_setter::FieldSetter;
 use memchr::memchr3;
 use std::alloc::{AllocError, Global};
-use vl_row::{FieldList, Text};
+use vl_row::Text;
 
 /// Sets a field. Bytes that are no UTF-8 become U+FFFD.
 pub(crate) fn set_bytes(
     alloc: Global,
     name: &str,
     value: &[u8],
-    fields: &mut FieldList,
+    fields: &mut FieldSetter,
 ) -> Result<(), AllocError>
     requires { 0 < length name.now }
     ensures { OnOk result (fields.new ≡ set_field fields.old name.now (utf8_lossy value.now)) }
@@ -146,7 +147,7 @@ fn set_value<'a>(
     name: &str,
     text: &'a [u8],
     room: &mut Vec<u8>,
-    fields: &mut FieldList,
+    fields: &mut FieldSetter,
 ) -> Result<Option<&'a [u8]>, AllocError>
     requires { 0 < length name.now }
     ensures { IfOk result (λ found. SetsValue (value_at text.now) name.now fields.old fields.new
@@ -171,7 +172,7 @@ fn set_param<'a>(
     id: &str,
     text: &'a [u8],
     room: &mut Vec<u8>,
-    fields: &mut FieldList,
+    fields: &mut FieldSetter,
 ) -> Result<Option<&'a [u8]>, AllocError>
     ensures one { IfOk result (λ found. FindsOne (SpellsParam text.now) (param_fields id.now) fields.old fields.new
         (option_map (λ rest. rest.now) found)) }
@@ -197,7 +198,7 @@ fn set_params<'a>(
     id: &str,
     text: &'a [u8],
     room: &mut Vec<u8>,
-    fields: &mut FieldList,
+    fields: &mut FieldSetter,
 ) -> Result<Option<&'a [u8]>, AllocError>
     ensures one { IfOk result (λ found. FindsOne (SpellsParams text.now) (params_fields id.now) fields.old fields.new
         (option_map (λ rest. rest.now) found)) }
@@ -221,7 +222,7 @@ fn set_element<'a>(
     alloc: Global,
     text: &'a [u8],
     room: &mut Vec<u8>,
-    fields: &mut FieldList,
+    fields: &mut FieldSetter,
 ) -> Result<Option<&'a [u8]>, AllocError>
     ensures one { IfOk result (λ found. FindsOne (SpellsElement text.now) element_fields fields.old fields.new
         (option_map (λ rest. rest.now) found)) }
@@ -239,7 +240,7 @@ fn set_elements<'a>(
     alloc: Global,
     text: &'a [u8],
     room: &mut Vec<u8>,
-    fields: &mut FieldList,
+    fields: &mut FieldSetter,
 ) -> Result<Option<&'a [u8]>, AllocError>
     ensures one { IfOk result (λ found. FindsOne (SpellsElements text.now) data_fields fields.old fields.new
         (option_map (λ rest. rest.now) found)) }
@@ -262,7 +263,7 @@ fn set_elements<'a>(
 fn set_parameters<'a>(
     alloc: Global,
     text: &'a [u8],
-    fields: &mut FieldList,
+    fields: &mut FieldSetter,
 ) -> Result<Option<&'a [u8]>, AllocError>
     ensures one { IfOk result (λ found. FindsOne (SpellsParameters text.now) data_fields fields.old fields.new
         (option_map (λ rest. rest.now) found)) }
@@ -286,7 +287,7 @@ fn is_end(rest: &[u8]) -> bool
 pub(crate) fn set_data<'a>(
     alloc: Global,
     text: &'a [u8],
-    fields: &mut FieldList,
+    fields: &mut FieldSetter,
 ) -> Result<Option<&'a [u8]>, AllocError>
     ensures one { IfOk result (λ found. FindsOne (SpellsData text.now) data_fields fields.old fields.new
         (option_map (λ rest. rest.now) found)) }

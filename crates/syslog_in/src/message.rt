@@ -1,5 +1,5 @@
 //! From a message to its fields.
-ghost use Rattle.std.specs.Prelude.{◌≡◌, ◌≢◌, ℕ, ℤ, List, Option, IfOk, IfErr, OnOk, codes};
+ghost use Rattle.std.specs.Prelude.{◌≡◌, ◌≢◌, ℕ, ℤ, List, [], Option, IfOk, IfErr, OnOk, codes};
 ghost use Rattle.std.specs.Str.Lossy.{utf8_lossy};
 ghost use Rattle.log_model.specs.Field.{Field as Pair, set_all, set_field};
 ghost use Rattle.syslog_in.specs.Message.{IsMessage, header_fields, unless_nil};
@@ -11,6 +11,7 @@ ghost use Rattle.syslog_in.specs.Parts.{IsMessageFault};
 use crate::data::{set_bytes, set_data};
 use crate::fault::MessageFault;
 use crate::header::{Names, read_header};
+use field_setter::FieldSetter;
 use itoa::Buffer;
 use std::alloc::{AllocError, Global};
 use vl_row::FieldList;
@@ -37,7 +38,7 @@ fn set_header(
     alloc: Global,
     priority: u8,
     names: &Names<'_>,
-    fields: &mut FieldList,
+    fields: &mut FieldSetter,
 ) -> Result<(), AllocError>
     ensures { OnOk result (fields.new ≡ set_all fields.old (header_fields priority (texts_of names.now))) }
 {
@@ -50,6 +51,14 @@ fn set_header(
     fields.set(alloc, "priority", digits.format(priority))?;
     fields.set(alloc, "proc_id", unless_nil(names.proc_id))?;
     fields.set(alloc, "severity", digits.format(priority % 8))
+}
+
+/// Returns no fields, with room for those of a message.
+fn no_fields(alloc: Global) -> Result<FieldSetter, AllocError>
+    ensures { IfOk result (λ fields. fields ≡ []) }
+{
+    let fields = FieldList::with_room(alloc, ROOM)?;
+    Ok(FieldSetter::new(alloc, fields))
 }
 
 /// Returns the message proper, of what follows structured data: without the blank, and without the mark of UTF-8.
@@ -76,7 +85,7 @@ pub fn read_message(alloc: Global, m: &[u8]) -> Result<SyslogRow, MessageFault>
     ensures fault { IfErr result (λ fault. IsMessageFault fault m.now) }
 {
     let (header, rest) = read_header(m)?;
-    let mut fields = FieldList::with_room(alloc, ROOM)?;
+    let mut fields = no_fields(alloc)?;
     set_header(alloc, header.priority, &header.names, &mut fields)?;
     let Some(after) = set_data(alloc, rest, &mut fields)? else {
         return Err(MessageFault::BadData {
@@ -84,8 +93,9 @@ pub fn read_message(alloc: Global, m: &[u8]) -> Result<SyslogRow, MessageFault>
         });
     };
     set_bytes(alloc, "_msg", text_of(after), &mut fields)?;
+    let all = fields.finish()?;
     Ok(SyslogRow {
         time: header.time,
-        fields,
+        fields: all,
     })
 }

@@ -37,7 +37,7 @@ returns-clause-read c =
     (c.in_ok-set_header.ensures
     ∙ ap (λ (f : List Field). set_all f (header_fields header.priority names)) c.in_ok-fields.ensures)
     (rw c.in-Some.is at c.in_ok-after.ensures.one)
-    (c.in_ok-set_bytes.ensures
+    (c.in_ok-all.ensures ∙ c.in_ok-set_bytes.ensures
     ∙ ap (λ (t : List ℕ). set_field c.set_data.new.fields (codes "_msg") (utf8_lossy t)) c.text_of.ensures)
 
 pub returns-clause-only : goal.returns-clause-only
@@ -49,5 +49,5 @@ returns-clause-only c =
     (c.in_ok-set_header.ensures
     ∙ ap (λ (f : List Field). set_all f (header_fields header.priority names)) c.in_ok-fields.ensures)
     (rw c.in-Some.is at c.in_ok-after.ensures.any)
-    (c.in_ok-set_bytes.ensures
+    (c.in_ok-all.ensures ∙ c.in_ok-set_bytes.ensures
     ∙ ap (λ (t : List ℕ). set_field c.set_data.new.fields (codes "_msg") (utf8_lossy t)) c.text_of.ensures)

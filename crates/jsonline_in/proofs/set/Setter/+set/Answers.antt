@@ -2,7 +2,7 @@ use Rattle.std.proofs.Common.{rules, refl, string_bytes, ap, sym, subst, ◌∙�
 use Rattle.std.specs.Prelude.{option_map}
 use Rattle.std.specs.String.Boundary.{IsSplitPoint}
 use Rattle.std.proofs.lemmas.Str.{IsUtf8-string_bytes}
-use Rattle.log_model.specs.Field.{set_all}
+use Rattle.jsonline_in.specs.Near.{note_all}
 use Rattle.log_model.specs.Value.{object, member_name, value_fields, member_fields}
 use Rattle.jsonline_in.specs.Reading.{label_at, item_at, nested_at, value_at, flat_at}
 use Rattle.jsonline_in.specs.Clauses.{mapped, value_set, or_empty, or_kept, flat_text}
@@ -21,7 +21,7 @@ member-returns-in_err-own-clause-set t c =
     let names = string_bytes c.args.self.now.names in
     stops_at _ c.from_residual.result _ (mapped (λ label. names ++ member_name label) (label_at object text)) _
     c.from_residual.ensures.1
-    (λ fault h. ap (mapped (λ x. set_all c.args.out.now (value_fields (names ++ member_name x.0) x.1)))
+    (λ fault h. ap (mapped (λ x. note_all c.args.out.now (value_fields (names ++ member_name x.0) x.1)))
     (no_label (nested_at c.args.depth) object text fault (mapped_err _ (label_at object text) fault h)))
     c.in_err-own.ensures.read
 
@@ -34,7 +34,7 @@ member-returns-in_err-rest-clause-set t c =
     let m = mapped_ok (λ label. names ++ member_name label) (label_at object text) name c.in_ok-own.rest.now
     c.in_ok-own.ensures.read in
     let same = item_mapped inner object text m.0 c.in_ok-own.rest.now
-    (λ x. set_all c.args.out.now (value_fields (names ++ member_name x.0) x.1)) (value_set c.args.out.now name)
+    (λ x. note_all c.args.out.now (value_fields (names ++ member_name x.0) x.1)) (value_set c.args.out.now name)
     m.1 (λ value. ap (λ n. value_set c.args.out.now n value) (sym m.2)) in
     stops_at _ c.from_residual-in_err-rest.result _ (mapped (value_set c.args.out.now name)
     (value_at inner c.in_ok-own.rest.now)) _ c.from_residual-in_err-rest.ensures.1 (λ fault h. same ∙ h)
@@ -61,7 +61,7 @@ member-returns-clause-set t c =
     let m = mapped_ok (λ label. names ++ member_name label) (label_at object text) name c.in_ok-own.rest.now
     c.in_ok-own.ensures.read in
     item_mapped inner object text m.0 c.in_ok-own.rest.now
-    (λ x. set_all c.args.out.now (value_fields (names ++ member_name x.0) x.1)) (value_set c.args.out.now name)
+    (λ x. note_all c.args.out.now (value_fields (names ++ member_name x.0) x.1)) (value_set c.args.out.now name)
     m.1 (λ value. ap (λ n. value_set c.args.out.now n value) (sym m.2))
     ∙ c.in_ok-rest.ensures.set
 
@@ -90,8 +90,8 @@ value-returns-in-Some-clause-set t c =
     gives_same _ c.members.result _ _ (ap (mapped (value_set old name))
     (value_curly (nested_at c.args.depth) c.args.text.now inside (sym c.in-Some.ensures))
     ∙ nested_mapped c.args.depth object inside (value_set old name)
-    (λ members. set_all old (member_fields names members)) c.if-depth-eq0.false
-    (λ members. ap (λ n. set_all old (member_fields n members)) (sym c.in_ok-push_own.ensures))) c.members.ensures.set
+    (λ members. note_all old (member_fields names members)) c.if-depth-eq0.false
+    (λ members. ap (λ n. note_all old (member_fields n members)) (sym c.in_ok-push_own.ensures))) c.members.ensures.set
 
 pub value-returns-in_err-value-clause-set : goal.value-returns-in_err-value-clause-set
 value-returns-in_err-value-clause-set t c =
@@ -117,7 +117,7 @@ value-returns-clause-set t c =
 
 pub members-returns-in-Some-clause-set : goal.members-returns-in-Some-clause-set
 members-returns-in-Some-clause-set t c =
-    ap (mapped (λ members. set_all c.args.out.now (member_fields (string_bytes c.args.self.now.names) members)))
+    ap (mapped (λ members. note_all c.args.out.now (member_fields (string_bytes c.args.self.now.names) members)))
     (no_items c.args.depth object c.args.text.now c.after_space-start.result.now c.after_space-start.ensures
     c.in-Some.end.now (sym c.in-Some.ensures))
 
@@ -126,9 +126,9 @@ members-returns-in_err-rest-clause-set t c =
     let start = c.after_space-start.result.now in
     let names = string_bytes c.args.self.now.names in
     let inner = nested_at c.args.depth in
-    stops_at _ c.from_residual.result _ (mapped (λ x. set_all c.args.out.now
+    stops_at _ c.from_residual.result _ (mapped (λ x. note_all c.args.out.now
     (value_fields (names ++ member_name x.0) x.1)) (item_at inner object start)) _ c.from_residual.ensures.1
-    (λ fault h. ap (mapped (λ members. set_all c.args.out.now (member_fields names members)))
+    (λ fault h. ap (mapped (λ members. note_all c.args.out.now (member_fields names members)))
     (no_first c.args.depth object c.args.text.now start c.after_space-start.ensures fault
     (sym c.in_default.ensures) (mapped_err _ (item_at inner object start) fault h))) c.in_err-rest.ensures.set
 
@@ -138,13 +138,13 @@ members-members-init t c =
     let names = string_bytes c.args.self.now.names in
     let old = c.args.out.now in
     let new = c.member.new.out in
-    let m = mapped_ok (λ x. set_all old (value_fields (names ++ member_name x.0) x.1))
+    let m = mapped_ok (λ x. note_all old (value_fields (names ++ member_name x.0) x.1))
     (item_at (nested_at c.args.depth) object start) new c.in_ok-rest.rest.now c.in_ok-rest.ensures.set in (
       search rules,
       c.in_ok-rest.ensures.names,
       started c.args.depth object c.args.text.now start c.after_space-start.ensures
-          (λ members. set_all old (member_fields names members))
-          (λ members. set_all new (member_fields names members)) m.0 c.in_ok-rest.rest.now
+          (λ members. note_all old (member_fields names members))
+          (λ members. note_all new (member_fields names members)) m.0 c.in_ok-rest.rest.now
           (sym c.in_default.ensures) m.1 (λ more. member_set old new names m.0 more m.2),
     )
 
@@ -163,9 +163,9 @@ members-returns-in_err-rest-2-clause-set t c =
     let here = c.after_space-here.result.now in
     let inner = nested_at c.args.depth in
     stops_at _ c.from_residual-in_err-rest-2.result _ (mapped
-    (λ x. set_all c.members.out (value_fields (string_bytes c.members.self.names ++ member_name x.0) x.1))
+    (λ x. note_all c.members.out (value_fields (string_bytes c.members.self.names ++ member_name x.0) x.1))
     (item_at inner object c.after_space.result.now)) _ c.from_residual-in_err-rest-2.ensures.1
-    (λ fault h. ap (mapped (λ members. set_all c.args.out.now (member_fields names members)))
+    (λ fault h. ap (mapped (λ members. note_all c.args.out.now (member_fields names members)))
     (no_other c.args.depth object _ _ c.members.rest.now _ c.members.invariant.2 here c.after_space-here.ensures
     c.in-Some-past.next.now fault (sym c.in-Some-past.ensures)
     (ap (item_at inner object) (sym c.after_space.ensures)
@@ -186,14 +186,14 @@ members-members-preserved t c =
     let names = string_bytes c.args.self.now.names in
     let now = c.members.out in
     let new = c.member-in-members.new.out in
-    let m = mapped_ok (λ x. set_all now (value_fields (string_bytes c.members.self.names ++ member_name x.0) x.1))
+    let m = mapped_ok (λ x. note_all now (value_fields (string_bytes c.members.self.names ++ member_name x.0) x.1))
     (item_at inner object c.after_space.result.now) new c.in_ok-rest-2.rest.now c.in_ok-rest-2.ensures.set in
-    let same : new ≡ set_all now (value_fields (names ++ member_name m.0.0) m.0.1) = m.2
-    ∙ ap (λ n. set_all now (value_fields (n ++ member_name m.0.0) m.0.1)) c.members.invariant.1 in (
+    let same : new ≡ note_all now (value_fields (names ++ member_name m.0.0) m.0.1) = m.2
+    ∙ ap (λ n. note_all now (value_fields (n ++ member_name m.0.0) m.0.1)) c.members.invariant.1 in (
       search rules,
       c.in_ok-rest-2.ensures.names ∙ c.members.invariant.1,
       goes_on_to c.args.depth object _ _ c.members.rest.now _ c.members.invariant.2 c.after_space-here.result.now
-          c.after_space-here.ensures (λ members. set_all new (member_fields names members)) c.in-Some-past.next.now
+          c.after_space-here.ensures (λ members. note_all new (member_fields names members)) c.in-Some-past.next.now
           m.0 c.in_ok-rest-2.rest.now
           (sym c.in-Some-past.ensures) (ap (item_at inner object) (sym c.after_space.ensures) ∙ m.1)
           (λ more. member_set now new names m.0 more same),
