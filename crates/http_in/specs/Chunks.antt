@@ -36,7 +36,7 @@ pub record AreChunks (raw body : List ℕ) (chunks : List Chunk) : Type 0 where
   pub raw_is : raw ≡ flat_map print_chunk chunks
   pub body_is : body ≡ flat_map (λ chunk. chunk.bytes) chunks
 
--- whole chunks, and of one more its line and this much of its data that `left` bytes are missing
+-- Whole chunks, and then one more, of whose data the last `left` bytes are missing.
 pub record IsInChunk (raw body : List ℕ) (left : ℕ) : Type 0 where
   pub before : List ℕ
   pub joined : List ℕ

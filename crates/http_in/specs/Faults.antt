@@ -20,8 +20,8 @@ use Rattle.http_in.specs.declared.stage.Stage.TheVariants as stages
 
 -- ---- heads
 
--- A front of the bytes is not a head and never becomes one. It has so few bytes as a head may have, and of header
--- lines, whose line feeds count, so few: with the start line one more.
+-- A front of the bytes is not a head and never becomes one. It has at most as many bytes as a head may have, and at
+-- most as many lines, with the start line: each line feed ends one.
 pub record HasBadHead (bytes : List ℕ) : Type 0 where
   pub front : List ℕ
   pub later : List ℕ

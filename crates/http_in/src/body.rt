@@ -20,8 +20,8 @@ use crate::window::Window;
 use http_said::BODY_LIMIT;
 use vl_io::Source;
 
-/// How many bytes a read is offered room for at least, where this many are missing. Its room is twice what the read
-/// before gave, so that little is cleared for a source that gives little.
+/// The least room that a read is offered, if that many bytes are missing. Otherwise it is offered twice what the read
+/// before gave, so that little memory is cleared for a source that gives little.
 const LEAST_ROOM: usize = 4_096;
 
 /// A body that is being read.

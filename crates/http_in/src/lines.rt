@@ -1,4 +1,4 @@
-//! Lines that are not empty, of which a head and a trailer section may have this many.
+//! Cuts the bytes of a head or a trailer section after as many lines that are not empty as it may have.
 ghost use Rattle.std.specs.Prelude.{◌≡◌, ◌+◌, ◌≤◌, IfSome, None};
 ghost use Rattle.http_in.specs.Limits.{field_limit};
 ghost use Rattle.http_in.specs.Lines.{EndsLine, IsFrontOf, begins_line, ends_line, lines_in};

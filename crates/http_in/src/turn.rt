@@ -15,7 +15,7 @@ use crate::head::{Head, whole_head};
 use crate::request::Request;
 use crate::stage::Stage;
 use crate::window::Window;
-use http_said::{Framing, push_arguments};
+use http_said::{Framing, push_arguments, takes_form};
 use std::alloc::{AllocError, Global};
 use std::mem;
 use vl_io::Source;
@@ -179,7 +179,7 @@ fn request_of(
 {
     let method = text_of(head.method.of(bytes));
     let (path, query) = split_target(text_of(head.target.of(bytes)));
-    let form = head.form && method == "POST" && path == "/select/logsql/query";
+    let form = head.form && takes_form(method, path);
     let args = arguments_in(alloc, query, form, body)?;
     let method = Text::try_of(alloc, method)?;
     let path = Text::try_of(alloc, path)?;

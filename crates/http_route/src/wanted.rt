@@ -15,7 +15,7 @@ use vl_row::Field;
 /// What a request asks for.
 #[derive(Drop)]
 pub enum Wanted<'a> {
-    /// The lines of the body are to be read.
+    /// The lines of the body are to be inserted.
     Insert(Options),
     /// This query is to be answered.
     Query(&'a str),

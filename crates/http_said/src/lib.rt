@@ -2,12 +2,13 @@
 //!
 //! - `framing`: how the body is framed by Content-Length and Transfer-Encoding (RFC 9112, section 6).
 //! - `fields`: all relevant header fields: framing, form data, and whether the connection closes (RFC 9112, section 9).
-//! - `push_arguments`, in this file, decodes the arguments in a query string or in form data.
+//! - `push_arguments`, in this file, decodes the arguments in a query string or in form data; `takes_form` says which
+//!   requests may have them in their body.
 //! - `specs/Fields` defines what fields mean, `Arguments` the arguments of a request.
 #![tactic(auto)]
 
-ghost use Rattle.std.specs.Prelude.{◌≡◌, ◌++◌, IfOk, OnOk};
-ghost use Rattle.http_said.specs.Arguments.{arguments, decode_text};
+ghost use Rattle.std.specs.Prelude.{◌≡◌, ◌&&◌, ◌++◌, IfOk, OnOk};
+ghost use Rattle.http_said.specs.Arguments.{arguments, decode_text, is_post, is_select};
 
 mod fields;
 mod framing;
@@ -27,6 +28,13 @@ pub fn push_arguments(alloc: Global, form: &[u8], args: &mut Vec<Field>) -> Resu
         args.push(field)?;
     }
     Ok(())
+}
+
+/// Returns whether a request of this method and path may have arguments in form data in its body.
+pub fn takes_form(method: &str, path: &str) -> bool
+    ensures { result ≡ (is_post method.now && is_select path.now) }
+{
+    method == "POST" && path == "/select/logsql/query"
 }
 
 /// Decodes an argument.

@@ -1,8 +1,8 @@
 //! The answer to a query over what the shelf held.
 ghost use Rattle.std.specs.Prelude.{◌≡◌, ◌<◌, ◌++◌, OnOk, IfErr, IfOk, Ok, flat_map, length, map};
-ghost use Rattle.std.specs.List.{AllByRecursion};
-ghost use Rattle.log_model.specs.Core.{parts_of};
-ghost use Rattle.log_model.specs.History.{rows_in};
+ghost use Rattle.std.specs.List.{All, AllByRecursion};
+ghost use Rattle.log_model.specs.Core.{Stands, parts_of};
+ghost use Rattle.log_model.specs.History.{History, rows_of};
 ghost use Rattle.log_model.specs.Print.{lines_text};
 ghost use Rattle.log_model.specs.Row.{record_of};
 ghost use Rattle.lq_ast.specs.Evaluation.{row_limit, rows_that_hold};
@@ -12,7 +12,9 @@ ghost use Rattle.lq_ast.specs.Pipes.{all_piped};
 ghost use Rattle.lq_filter.specs.Tree.{condition_of, moment_of, scanned};
 ghost use Rattle.query_run.specs.Answer.{FailsFor, FailsOver, FailsPiped, IsAnswerOver, PrintsPiped, held_in};
 ghost use Rattle.query_run.specs.Asked.{HasReadablePipes, asked_by};
+ghost use Rattle.query_run.specs.Order.{IsPlaced, part_at};
 
+use crate::order::{Place, places_in_order, rows_at};
 use crate::search::Search;
 use log_core::Snapshot;
 use lq_ast::Pipe;
@@ -56,7 +58,7 @@ impl<T: Drop> From<AllocFailed<T>> for RunFault {
 }
 
 /// Returns the answer to the query at the moment `now`, in nanoseconds since 1970: the lines of the records that its
-/// pipes make of those rows that hold, over all parts of the look in their order.
+/// pipes make of those rows that hold, in the order of the history.
 pub fn answer(
     alloc: Global,
     search: &Search,
@@ -64,30 +66,35 @@ pub fn answer(
     snapshot: &Snapshot<RowList>,
 ) -> Result<Text, RunFault>
     requires { HasReadablePipes search.now }
-    ensures answered { IfOk result (IsAnswerOver (asked_by search.now) now
-        (flat_map rows_in (parts_of snapshot.now))) }
-    ensures fault { IfErr result (FailsOver (asked_by search.now) now (flat_map rows_in (parts_of snapshot.now))) }
+    ensures answered { IfOk result (λ text. (history : History) → Stands (λ rows. rows) snapshot.now history
+        → IsAnswerOver (asked_by search.now) now (rows_of history) text) }
+    ensures fault { IfErr result (λ fault. (history : History) → Stands (λ rows. rows) snapshot.now history
+        → FailsOver (asked_by search.now) now (rows_of history) fault) }
 {
-    let rows = held_rows(alloc, &search.filter, now, snapshot)?;
+    let places = places_in_order(alloc, snapshot)?;
+    let rows = held_rows(alloc, &search.filter, now, snapshot, places.as_slice())?;
     piped_lines(alloc, search.pipes.as_slice(), rows)
 }
 
-/// Returns the rows that hold at the moment `now`, over all parts in their order.
+/// Returns the rows that hold at the moment `now`, over the parts at these places, one after another.
 fn held_rows<'s>(
     alloc: Global,
     filter: &Prepared,
     now: i64,
     snapshot: &'s Snapshot<RowList>,
+    places: &[Place],
 ) -> Result<Vec<&'s Row>, RunFault>
+    requires { All (IsPlaced (parts_of snapshot.now)) places.now }
     ensures rows { IfOk result (λ rows. map (λ row. row.now) rows.items
-        ≡ held_in (condition_of filter.now) now (parts_of snapshot.now)) }
+        ≡ held_in (condition_of filter.now) now (map (part_at (parts_of snapshot.now)) places.now)) }
     ensures few { IfOk result (λ rows. length rows.items < row_limit) }
-    ensures fault { IfErr result (FailsFor (held_in (condition_of filter.now) now (parts_of snapshot.now))) }
+    ensures fault { IfErr result (FailsFor
+        (held_in (condition_of filter.now) now (map (part_at (parts_of snapshot.now)) places.now))) }
 {
     let mut scan = filter.scan(alloc, now);
     let mut held = Vec::new(alloc);
-    for i in 0..snapshot.len() {
-        push_rows(&mut scan, snapshot.part(i).as_slice(), &mut held)?;
+    for i in 0..places.len() {
+        push_rows(&mut scan, rows_at(snapshot, &places[i]), &mut held)?;
     }
     Ok(held)
 }

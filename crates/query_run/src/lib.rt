@@ -2,6 +2,7 @@
 #![tactic(auto)]
 
 mod evaluation;
+mod order;
 mod query;
 mod search;
 

@@ -7,10 +7,13 @@ use Rattle.std.specs.Prelude.{count_by}
 use Rattle.vl_io.proofs.Laws.{Appends-trans, Rose-earlier}
 use Rattle.log_model.specs.History.{rows_of}
 use Rattle.query_run.specs.Question.{Question}
+use Rattle.query_run.specs.Evaluation as evaluation
 use Rattle.query_run.specs.Evaluation.{evaluate}
 use Rattle.query_run.specs.Asked.{IsReadableQuery}
 use Rattle.lone_desk.specs.Seen.{Seen}
-use Rattle.vl_pipe.specs.Groups.{Arrival, refusals_of}
+use Rattle.vl_session.proofs.QueryLemmas.{history_rows}
+use Rattle.vl_session.specs.Query.{batch_list_rows}
+use Rattle.vl_pipe.specs.Groups.{Arrival, batches_of, refusals_of}
 use Rattle.vl_pipe.specs.Program as model
 use Rattle.vl_pipe.specs.Program.{AreFew, IsAnswer, IsTakenIn, overflow_text, overflowing, said_of_query, stop_text}
 use Rattle.vl_pipe.specs.Load.{IsLoaded, StopsLoad, StopsUntold}
@@ -52,14 +55,14 @@ stops_load query arrival source errors written f0 f1 NoMemory stops = stops
 module _ (text : List ℕ) (arrival : Arrival) (source output errors : Change) (seen : Seen) where
   -- what the input becomes
   taken : (l : IsLoaded arrival source errors seen)
-      → IsTakenIn arrival l.begins.taken (refusals_of l.groups) seen.history
+      → IsTakenIn arrival l.begins.taken (refusals_of l.groups) (batches_of l.groups)
   taken l = record {
     within = l.begins.within;
     groups = l.groups;
     intake = l.begins.given;
     grouped = AreGroups-weaken l.groups _ (Unit {0}) (λ _. tt) l.begins.grouped;
     held = l.fits;
-    entered = l.holding.entered;
+    are = refl;
     named = refl;
   }
 
@@ -69,13 +72,21 @@ module _ (text : List ℕ) (arrival : Arrival) (source output errors : Change) (
       (subst (λ rest. Gave source (l.begins.taken ++ rest)) l.all l.begins.gave)
 
   module _ (l : IsLoaded arrival source errors seen) where
+    -- what is evaluated over what has been seen is evaluated over the rows of the batches
+    over : (query : Question) (outcome : evaluation.Outcome)
+        → evaluate query (pos arrival.moment) (rows_of seen.history) ≡ outcome
+        → evaluate query (pos arrival.moment) (batch_list_rows (batches_of l.groups)) ≡ outcome
+    over query outcome is =
+        subst (λ rows. evaluate query (pos arrival.moment) rows ≡ outcome)
+        (history_rows seen.history (batches_of l.groups) l.holding.entered) is
+
     module _ (lines : List ℕ) (has : HasLines text arrival.moment seen.history lines) where
       answer : IsAnswer has.1.query arrival l.begins.taken lines (refusals_of l.groups)
       answer = record {
-        history = seen.history;
+        batches = batches_of l.groups;
         taken = taken l;
         found = has.0;
-        evaluated = has.1.evaluated;
+        evaluated = over has.1.query _ has.1.evaluated;
         answered = has.2;
       }
 
@@ -119,7 +130,7 @@ module _ (text : List ℕ) (arrival : Arrival) (source output errors : Change) (
       refusals = refusals_of l.groups;
       gave = gave_all l;
       spent = l.spent;
-      overflows = record { history = seen.history; taken = taken l; evaluated = is };
+      overflows = record { batches = batches_of l.groups; taken = taken l; evaluated = over query _ is };
       named = l.named;
     }
 

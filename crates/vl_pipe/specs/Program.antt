@@ -4,10 +4,9 @@ use Rattle.std.specs.Prelude.{decimal}
 use Rattle.vl_io.specs.Change.{Change, HasFailed}
 use Rattle.vl_io.specs.Lines.{AreFewer, AreLines, piece_len}
 use Rattle.log_model.specs.Core.{held_limit}
-use Rattle.log_model.specs.History.{History, batches_in, rows_of}
 use Rattle.log_model.specs.Field.{Field}
 use Rattle.log_model.specs.Print.{lines_text}
-use Rattle.log_model.specs.Row.{batch_limit, batch_weight}
+use Rattle.log_model.specs.Row.{Batch, batch_limit, batch_weight}
 use Rattle.query_run.specs.Evaluation as evaluation
 use Rattle.query_run.specs.Evaluation.{evaluate, records}
 use Rattle.query_run.specs.Question.{Question}
@@ -15,27 +14,27 @@ use Rattle.query_run.specs.Faults.{fault_text}
 use Rattle.query_run.specs.QueryFault.{QueryFault}
 use Rattle.ingest_row.specs.Intake.{Outcome, rows_read}
 use Rattle.query_run.specs.Asked.{HasUnreadablePattern, IsUnspelled}
+use Rattle.vl_session.specs.Query.{batch_list_rows}
 use Rattle.vl_status.specs.Status.{no_memory_text}
 use Rattle.vl_pipe.specs.Groups.{Arrival, AreGroups, BeginsWith, CanBeHeld, HaveOutcomes, batches_of, input_limit}
 use Rattle.vl_pipe.specs.Groups.{outcomes_in, refusals_of}
 
--- The lines of the input become the batches of this history, whoever made its entries, and `refusals` names the lines
--- that are not rows.
-pub record IsTakenIn (arrival : Arrival) (input refusals : List ℕ) (history : History) : Type 0 where
+-- The lines of the input become these batches, and `refusals` names the lines that are not rows.
+pub record IsTakenIn (arrival : Arrival) (input refusals : List ℕ) (batches : List Batch) : Type 0 where
   pub within : length input ≤ input_limit
   pub groups : List (List Outcome)
   pub intake : HaveOutcomes arrival input (outcomes_in groups)
   pub grouped : AreGroups groups (Unit {0})
   pub held : CanBeHeld groups
-  pub entered : batches_in history ≡ batches_of groups
+  pub are : batches ≡ batches_of groups
   pub named : refusals ≡ refusals_of groups
 
--- `answer` is what the query gives over the history that the input becomes.
+-- `answer` is what the query gives over the rows of the batches that the input becomes.
 pub record IsAnswer (query : Question) (arrival : Arrival) (input answer refusals : List ℕ) : Type 0 where
-  pub history : History
-  pub taken : IsTakenIn arrival input refusals history
+  pub batches : List Batch
+  pub taken : IsTakenIn arrival input refusals batches
   pub found : List (List Field)
-  pub evaluated : evaluate query (pos arrival.moment) (rows_of history) ≡ records found
+  pub evaluated : evaluate query (pos arrival.moment) (batch_list_rows batches) ≡ records found
   pub answered : answer ≡ lines_text found
 
 -- why the evaluation of a query has no records
@@ -49,11 +48,11 @@ abbrev pub overflowing : Overflow → evaluation.Outcome
 overflowing many_rows = evaluation.many_rows
 overflowing (total name) = evaluation.overflow name
 
--- The evaluation over that history overflows for this cause.
+-- The evaluation over these rows overflows for this cause.
 pub record Overflows (query : Question) (arrival : Arrival) (input refusals : List ℕ) (cause : Overflow) : Type 0 where
-  pub history : History
-  pub taken : IsTakenIn arrival input refusals history
-  pub evaluated : evaluate query (pos arrival.moment) (rows_of history) ≡ overflowing cause
+  pub batches : List Batch
+  pub taken : IsTakenIn arrival input refusals batches
+  pub evaluated : evaluate query (pos arrival.moment) (batch_list_rows batches) ≡ overflowing cause
 
 -- a limit that an input may meet
 pub data Limit : Type 0 where

@@ -14,7 +14,7 @@ use Rattle.http_in.specs.Requests.{AreRequests, asked_to_close}
 use Rattle.http_in.proofs.RequestsLemmas.{AreRequests-later, AreRequests-more, asked_to_close-more}
 use Rattle.log_desk.specs.Seen.{Caller, Seen}
 use Rattle.vl_session.specs.Sent.{EndsReading, EndsTurn, Reaches, Serves}
-use Rattle.vl_session.specs.Session.{Ends, IsServing, IsSession, StaysOpen, fault_bytes}
+use Rattle.vl_session.specs.Session.{Ends, IsServing, IsSession, StaysOpen, connection, fault_bytes}
 use Rattle.vl_session.specs.Turns.{GaveMoments, IsDone, IsTurn, Turn, asked_in, moments_of, replies_of}
 use Rattle.vl_session.specs.Turns.{turn_limit}
 use Rattle.vl_session.specs.declared.report.Done.{Done}
@@ -157,7 +157,7 @@ going_moved caller first last source t0 t1 w0 w1 w2 k0 k1 k2 dones moved reader 
 pub ends_memory : (caller : Caller) (first last : Seen) (source sink : Change) (t0 t1 : Option (List ℕ))
     (dones : List Done) (reader : Reading) → length dones < turn_limit
     → Going caller first last source sink t0 t1 dones reader
-    → IsSession caller first last source sink t0 t1 dones ends.Memory
+    → IsSession (connection caller first last source sink t0 t1 dones ends.Memory)
 ends_memory caller first last source sink t0 t1 dones reader few g = record {
   turns = g.turns;
   few = omega (arith, few, done-length g.turns dones g.done);
@@ -170,7 +170,7 @@ ends_memory caller first last source sink t0 t1 dones reader few g = record {
 pub ends_limit : (caller : Caller) (first last : Seen) (source sink : Change) (t0 t1 : Option (List ℕ))
     (dones : List Done) (reader : Reading) → length dones ≡ turn_limit
     → Going caller first last source sink t0 t1 dones reader
-    → IsSession caller first last source sink t0 t1 dones ends.Limit
+    → IsSession (connection caller first last source sink t0 t1 dones ends.Limit)
 ends_limit caller first last source sink t0 t1 dones reader full g = record {
   turns = g.turns;
   few = omega (arith, full, done-length g.turns dones g.done);
@@ -202,7 +202,7 @@ pub ends_reading : (caller : Caller) (first last : Seen) (l0 l1 l2 t0 t1 w0 w1 w
     → length dones < turn_limit → Going caller first last (change l0 l1 s0 s1) (change w0 w1 k0 k1) t0 t1 dones reader
     → (piece : List ℕ) × Consumes l1 l2 piece × ((start : ℕ) (bytes : List ℕ) → Holds start bytes reader.held
     → EndsReading (change l1 l2 s1 s2) (change w1 w2 k1 k2) start (bytes ++ piece) end)
-    → IsSession caller first last (change l0 l2 s0 s2) (change w0 w2 k0 k2) t0 t1 dones end
+    → IsSession (connection caller first last (change l0 l2 s0 s2) (change w0 w2 k0 k2) t0 t1 dones end)
 unfolding serving_read
 ends_reading caller first last l0 l1 l2 t0 t1 w0 w1 w2 s0 s1 s2 k0 k1 k2 dones reader end p q few g e =
     let short : length g.turns < turn_limit = omega (arith, few, done-length g.turns dones g.done) in
@@ -236,7 +236,7 @@ pub ends_turn : (caller : Caller) (first mid last : Seen) (l0 l1 l2 t0 t1 t2 w0 
     → Going caller first mid (change l0 l1 s0 s1) (change w0 w1 k0 k1) t0 t1 dones before
     → Reaches before after l1 l2 asked → Serves caller asked mid last dones dones_new turn
     → Tells t1 t2 (pos turn.now) → EndsTurn turn (change w1 w2 k1 k2) end
-    → IsSession caller first last (change l0 l2 s0 s2) (change w0 w2 k0 k2) t0 t2 dones_new end
+    → IsSession (connection caller first last (change l0 l2 s0 s2) (change w0 w2 k0 k2) t0 t2 dones_new end)
 unfolding serving_read serving_turn
 ends_turn caller first mid last l0 l1 l2 t0 t1 t2 w0 w1 w2 s0 s1 s2 k0 k1 k2 dones dones_new before after turn asked end q
     few g r v tells e =

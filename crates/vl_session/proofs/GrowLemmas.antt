@@ -1,15 +1,16 @@
 -- How what a caller has seen grows over its turns.
 use Rattle.std.proofs.Common.{◌≡◌, inl, inr, ℕ, ◌+◌, ◌≤◌, true, List, [], ◌∷◌, ◌++◌, length, refl, ap, sym, subst, ◌∙◌, arith}
-use Rattle.std.proofs.Common.{append_assoc, append-nil}
+use Rattle.std.proofs.Common.{append_assoc, append-nil, length-append}
 use Rattle.std.specs.Prelude.{filter}
 use Rattle.std.specs.List.{AllByRecursion}
 use Rattle.std.proofs.lemmas.List.{map-append}
 use Rattle.std.proofs.lemmas.List.Elements.{filter-append}
 use Rattle.log_model.specs.History.{Entry, History, batches_in, entry_rows}
 use Rattle.log_model.specs.Row.{Batch}
-use Rattle.log_desk.specs.Seen.{Caller, Follows, IsStrange, Seen, is_own}
+use Rattle.log_desk.specs.Seen.{Caller, Follows, IsStrange, Seen, is_own, turn_of}
+use Rattle.log_desk.specs.TurnEnd.{TurnEnd}
 use Rattle.log_desk.proofs.SeenLaws.{none_beside_one, none_own}
-use Rattle.vl_session.specs.Laws.{Grows, IsOfCaller}
+use Rattle.vl_session.specs.Laws.{AreEnds, EndOf, Grows, IsOfCaller}
 use Rattle.vl_session.specs.Seen.{Effect, Has, added, adds, asks, looks, nothing, desk_turns}
 use Rattle.vl_session.specs.SyslogSession.{TakesAll, end_effect}
 use Rattle.vl_session.specs.declared.syslog_report.SyslogEnd.{SyslogEnd}
@@ -24,7 +25,9 @@ grows_none caller old new same = record {
   makers = tt;
   settled = omega (arith, ap (λ (s : Seen). s.settled) same);
   stays = λ may. ap (λ (s : Seen). s.settled) same;
-  took = omega (arith, ap (λ (s : Seen). s.turns) same);
+  ends = [];
+  turns = ap (λ (s : Seen). s.turns) same ∙ sym (append-nil old.turns);
+  took = omega arith;
 }
 
 -- an entry of the caller's own after those of others
@@ -44,23 +47,42 @@ of_both : (caller : Caller) (first later : History) → AllByRecursion (IsOfCall
 of_both caller [] later a b = b
 of_both caller (entry ∷ first) later a b = (a.0, of_both caller first later a.1 b)
 
-pub grows_follows : (caller : Caller) (old new : Seen) (turns : ℕ) → Follows caller old new
-    → old.turns + turns ≤ new.turns → Grows caller old new [] turns
-grows_follows caller old new turns f took = record {
+pub grows_follows : (caller : Caller) (old new : Seen) (ends : List TurnEnd) → Follows caller old new
+    → new.turns ≡ old.turns ++ ends → Grows caller old new [] (length ends)
+grows_follows caller old new ends f turns = record {
   later = f.others;
   longer = f.longer;
   made = ap batches_in (none_own caller f.others f.strange);
   makers = of_others caller f.others f.strange;
   settled = f.settled;
   stays = f.stays;
-  took = took;
+  ends = ends;
+  turns = turns;
+  took = omega arith;
+}
+
+-- as many turns at least are fewer at least
+at_least : (caller : Caller) (old new : Seen) (batches : List Batch) (m n : ℕ) → n ≤ m → Grows caller old new batches m
+    → Grows caller old new batches n
+at_least caller old new batches m n le g = record {
+  later = g.later;
+  longer = g.longer;
+  made = g.made;
+  makers = g.makers;
+  settled = g.settled;
+  stays = g.stays;
+  ends = g.ends;
+  turns = g.turns;
+  took = omega (arith, le, g.took);
 }
 
 pub grows_by : (caller : Caller) (old new : Seen) (effect : Effect) → Has caller old new effect
     → Grows caller old new (added effect) (desk_turns effect)
 grows_by caller old new nothing same = grows_none caller old new same
-grows_by caller old new asks f = grows_follows caller old new 0 f (omega (arith, f.turns))
-grows_by caller old new looks f = grows_follows caller old new 1 f.0 (omega (arith, f.1))
+grows_by caller old new asks f =
+    at_least caller old new [] (length f.more_turns) 0 (omega arith)
+    (grows_follows caller old new f.more_turns f f.turns)
+grows_by caller old new looks f = grows_follows caller old new (turn_of new ∷ []) f.0 f.1
 grows_by caller old new (adds batch) g = record {
   later = g.others ++ g.entry ∷ [];
   longer = g.longer;
@@ -68,7 +90,9 @@ grows_by caller old new (adds batch) g = record {
   makers = of_both caller g.others (g.entry ∷ []) (of_others caller g.others g.strange) (inl g.own, tt);
   settled = g.settled;
   stays = g.stays;
-  took = omega (arith, g.turns);
+  ends = turn_of new ∷ [];
+  turns = g.turn;
+  took = omega arith;
 }
 
 pub grows_then : (caller : Caller) (old mid new : Seen) (xs ys : List Batch) (m n : ℕ) → Grows caller old mid xs m
@@ -82,7 +106,9 @@ grows_then caller old mid new xs ys m n g h = record {
   makers = of_both caller g.later h.later g.makers h.makers;
   settled = omega (arith, g.settled, h.settled);
   stays = λ may. h.stays may ∙ g.stays may;
-  took = omega (arith, g.took, h.took);
+  ends = g.ends ++ h.ends;
+  turns = h.turns ∙ ap (λ l. l ++ h.ends) g.turns ∙ append_assoc old.turns g.ends h.ends;
+  took = omega (arith, g.took, h.took, length-append g.ends h.ends);
 }
 
 -- The caller's own entries of a session are exactly the batches of its accepted inserts, in order.
@@ -93,6 +119,28 @@ turns_grow caller before old new (turn ∷ turns) t =
     grows_then caller old turn.seen new (added turn.effect) (accepted_in turns) (desk_turns turn.effect)
     (desk_turns_of turns) (grows_by caller old turn.seen turn.effect t.0.has)
     (turns_grow caller _ turn.seen new turns t.1)
+
+-- ---- the ends of turns
+
+end_of : (caller : Caller) (old new : Seen) (effect : Effect) → Has caller old new effect
+    → (ends : List TurnEnd) × (new.turns ≡ old.turns ++ ends) × EndOf effect new ends
+end_of caller old new nothing same = ([], ap (λ (s : Seen). s.turns) same ∙ sym (append-nil old.turns), refl)
+end_of caller old new asks f = (f.more_turns, f.turns, tt)
+end_of caller old new looks f = (turn_of new ∷ [], f.1, refl)
+end_of caller old new (adds batch) g = (turn_of new ∷ [], g.turn, refl)
+
+-- A session's turns at the desk are those of its requests, in order.
+pub turns_end : (caller : Caller) (before : ℕ) (old new : Seen) (turns : List Turn) → AreTurns caller before old turns new
+    → (ends : List TurnEnd) × (new.turns ≡ old.turns ++ ends) × AreEnds turns ends
+turns_end caller before old new [] same =
+    ([], ap (λ (s : Seen). s.turns) same ∙ sym (append-nil old.turns), refl)
+turns_end caller before old new (turn ∷ turns) t =
+    let first = end_of caller old turn.seen turn.effect t.0.has in
+    let then = turns_end caller _ turn.seen new turns t.1 in (
+      first.0 ++ then.0,
+      then.1 ∙ ap (λ l. l ++ then.0) first.1 ∙ append_assoc old.turns first.0 then.0,
+      (first.0, then.0, refl, first.2, then.2),
+    )
 
 -- ---- batches of a stream
 

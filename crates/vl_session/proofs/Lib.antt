@@ -1,4 +1,5 @@
-mod SeenLemmas
+pub mod SeenLemmas
+mod EffectLemmas
 pub mod GrowLemmas
 pub mod TurnLemmas
 pub mod RequestLemmas
@@ -9,7 +10,7 @@ mod PreparedLemmas
 mod InsertionLemmas
 mod InsertLaws
 mod AnswerLemmas
-mod QueryLemmas
+pub mod QueryLemmas
 mod ResultLemmas
 mod SelectLemmas
 mod SyslogLists

@@ -1,9 +1,9 @@
 -- Queries over what is held.
 use Rattle.std.proofs.lemmas.Int.{ints}
-use Rattle.std.proofs.Common.{arith, ◌≡◌, ◌≢◌, ℕ, ℤ, pos, negsuc, unsigned_abs, ◌≤ℤ◌, List, length, Some, refl, sym, ap, subst, ◌∙◌}
+use Rattle.std.proofs.Common.{arith, ◌≡◌, ◌≢◌, ℕ, ℤ, pos, negsuc, unsigned_abs, ◌≤ℤ◌, List, [], ◌∷◌, ◌++◌, length, Some, refl, sym, ap, subst, ◌∙◌}
 use Rattle.std.specs.List.{AllByRecursion}
-use Rattle.log_model.specs.History.{History, rows_of}
-use Rattle.log_model.specs.Row.{Row}
+use Rattle.log_model.specs.History.{History, batches_in, entry_rows, rows_of}
+use Rattle.log_model.specs.Row.{Batch, Row}
 use Rattle.query_run.specs.Evaluation as evaluation
 use Rattle.query_run.specs.Evaluation.{evaluate}
 use Rattle.query_run.specs.Patterns.{CanBeRead, all_patterns}
@@ -17,7 +17,7 @@ use Rattle.query_run.specs.declared.evaluation.RunFault.TheVariants.{ManyRows, O
 use Rattle.query_run.specs.declared.query.QueryRefusal.{QueryRefusal}
 use Rattle.query_run.specs.declared.query.QueryRefusal.TheVariants as refusals
 use Rattle.vl_session.specs.Answer.{FailsQuery, IsQueryAnswer, fault_of_refusal, fault_of_run, query_outcome_of}
-use Rattle.vl_session.specs.Query.{Evaluates, HasQueryOutcome, QueryOutcome, many_rows, overflows, unreadable, unspelled}
+use Rattle.vl_session.specs.Query.{Evaluates, HasQueryOutcome, batch_list_rows, QueryOutcome, many_rows, overflows, unreadable, unspelled}
 use Rattle.vl_session.specs.declared.answer.Answer.{Answer}
 use Rattle.vl_session.specs.declared.answer.AnswerFault.{AnswerFault}
 use Rattle.vl_session.specs.declared.answer.AnswerFault.TheVariants as answers
@@ -39,6 +39,15 @@ evaluates text now query rows history outcome from are spelled readable evaluate
   evaluated = ap (λ moment. evaluate query moment (rows_of history)) (sym (same_moment now from))
       ∙ ap (evaluate query now) are ∙ evaluated;
 }
+
+-- A history has the rows of its batches.
+rows_of_batches : (history : History) → rows_of history ≡ batch_list_rows (batches_in history)
+rows_of_batches [] = refl
+rows_of_batches (entry ∷ history) = ap (λ rows. entry_rows entry ++ rows) (rows_of_batches history)
+
+pub history_rows : (history : History) (batches : List Batch) → batches_in history ≡ batches
+    → rows_of history ≡ batch_list_rows batches
+history_rows history batches are = rows_of_batches history ∙ ap batch_list_rows are
 
 -- why a text is not asked
 pub refused_text : (text : List ℕ) (now : ℕ) (history : History) (refusal : QueryRefusal) → Refuses text refusal

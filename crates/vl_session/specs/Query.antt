@@ -1,8 +1,9 @@
 -- The answer to a query over the history that was seen (VictoriaLogs, "Querying").
-use Rattle.std.specs.Prelude.{◌≡◌, ℕ, pos, List, ◌++◌, codes, decimal}
+use Rattle.std.specs.Prelude.{◌≡◌, ℕ, pos, List, ◌++◌, codes, decimal, flat_map}
 use Rattle.std.specs.List.{AllByRecursion}
 use Rattle.log_model.specs.History.{History, rows_of}
 use Rattle.log_model.specs.Print.{lines_text}
+use Rattle.log_model.specs.Row.{Batch, Row}
 use Rattle.http_reply.specs.declared.status.Kind.TheVariants as kinds
 use Rattle.http_reply.specs.declared.status.Status.{Status}
 use Rattle.http_reply.specs.declared.status.Status.TheVariants as statuses
@@ -30,12 +31,20 @@ pub data QueryOutcome : Type 0 where
   -- the total of the function with this name is not a 64-bit integer
   overflows : List ℕ → QueryOutcome
 
--- The text spells a query whose patterns can all be read, and this is its evaluation at that moment.
-pub record Evaluates (text : List ℕ) (now : ℕ) (history : History) (outcome : evaluation.Outcome) : Type 0 where
+-- the rows of these batches, one batch after another
+abbrev pub batch_list_rows : List Batch → List Row
+batch_list_rows batches = flat_map (λ batch. batch) batches
+
+-- The text spells a query whose patterns can all be read, and this is its evaluation over the rows at that moment.
+pub record EvaluatesOver (text : List ℕ) (now : ℕ) (rows : List Row) (outcome : evaluation.Outcome) : Type 0 where
   pub query : Question
   pub spelled : IsQueryText text query
   pub readable : AllByRecursion CanBeRead (all_patterns query)
-  pub evaluated : evaluate query (pos now) (rows_of history) ≡ outcome
+  pub evaluated : evaluate query (pos now) rows ≡ outcome
+
+-- the same over all rows of the history
+abbrev pub Evaluates : List ℕ → ℕ → History → evaluation.Outcome → Type 0
+Evaluates text now history outcome = EvaluatesOver text now (rows_of history) outcome
 
 -- the text of a query, over the history that was seen
 abbrev pub HasQueryOutcome : List ℕ → ℕ → History → QueryOutcome → Type 0

@@ -1,9 +1,9 @@
 -- What serving a request does to what its caller has seen of the log.
-use Rattle.std.specs.Prelude.{◌≡◌, ℕ, ◌+◌, ◌<◌, ◌≤◌, List, [], ◌∷◌, length}
+use Rattle.std.specs.Prelude.{◌≡◌, ℕ, ◌+◌, ◌≤◌, List, [], ◌∷◌, length}
 use Rattle.log_model.specs.Core.{held_limit}
 use Rattle.log_model.specs.Row.{Batch, Row}
 use Rattle.log_desk.specs.Faults.{HasRoom as HasRoomFor, IsFull as IsFullAt, Refuses, last_number}
-use Rattle.log_desk.specs.Seen.{Caller, Follows, Gains, Seen}
+use Rattle.log_desk.specs.Seen.{Caller, Follows, Gains, Seen, TakesTurn}
 use Rattle.log_desk.specs.declared.fault.InsertFault.{InsertFault}
 use Rattle.log_desk.specs.declared.fault.InsertFault.TheVariants.{Full, Spent, Memory}
 
@@ -31,9 +31,9 @@ desk_turns asks = 0
 desk_turns looks = 1
 desk_turns (adds batch) = 1
 
--- A turn was taken, in which the caller added nothing.
+-- One turn was taken, in which the caller added nothing, and saw all that it has seen now.
 abbrev pub Looks : Caller → Seen → Seen → Type 0
-Looks caller old new = Follows caller old new × (old.turns < new.turns)
+Looks caller old new = Follows caller old new × TakesTurn old new
 
 -- what was seen before such an effect, and after it
 abbrev pub Has : Caller → Seen → Seen → Effect → Type 0

@@ -59,12 +59,38 @@ pub record IsServing (caller : Caller) (first last : Seen) (source : Change)
   pub ran : AreTurns caller 0 first turns last
   pub told : GaveMoments moments_old moments_new (moments_of turns)
 
--- One session of a caller that had seen `first` before, and `last` then.
-pub record IsSession (caller : Caller) (first last : Seen) (source sink : Change)
-    (moments_old moments_new : Option (List ℕ)) (dones : List Done) (end : End) : Type 0 where
+-- what a session is of: a caller, what it had seen before and then, the objects of the outside, and the report
+pub record Connection : Type 0 where
+  pub caller : Caller
+  pub first : Seen
+  pub last : Seen
+  pub source : Change
+  pub sink : Change
+  pub moments_old : Option (List ℕ)
+  pub moments_new : Option (List ℕ)
+  pub dones : List Done
+  pub end : End
+
+-- One session.
+pub record IsSession (c : Connection) : Type 0 where
   pub turns : List Turn
   pub few : length turns ≤ turn_limit
   pub rest : List ℕ
-  pub serving : IsServing caller first last source moments_old moments_new turns rest
-  pub done : AllZip IsDone turns dones
-  pub ends : Ends source sink turns (length serving.used) rest end
+  pub serving : IsServing c.caller c.first c.last c.source c.moments_old c.moments_new turns rest
+  pub done : AllZip IsDone turns c.dones
+  pub ends : Ends c.source c.sink turns (length serving.used) rest c.end
+
+-- the same, part by part
+abbrev pub connection : Caller → Seen → Seen → Change → Change → Option (List ℕ) → Option (List ℕ) → List Done → End
+    → Connection
+connection caller first last source sink moments_old moments_new dones end = record {
+  caller = caller;
+  first = first;
+  last = last;
+  source = source;
+  sink = sink;
+  moments_old = moments_old;
+  moments_new = moments_new;
+  dones = dones;
+  end = end;
+}

@@ -2,12 +2,14 @@
 ghost use Rattle.std.specs.Prelude.{◌≡◌, IfErr, IfOk, OnOk, length};
 ghost use Rattle.log_desk.specs.Passes.{IsPassOf};
 ghost use Rattle.log_desk.specs.Seen.{caller_of, seen_of};
-ghost use Rattle.vl_session.specs.Seen.{IsRefused, Takes};
+ghost use Rattle.log_model.specs.Core.{Stands};
+ghost use Rattle.vl_session.specs.Seen.{IsRefused, Looks, Takes};
 
+use log_core::Snapshot;
 use log_desk::{Desk, InsertFault, Pass};
-use std::alloc::Global;
+use std::alloc::{AllocError, Global};
 use std::sync::Wait;
-use vl_row::Batch;
+use vl_row::{Batch, RowList};
 
 /// The desk, and what its calls take besides a pass.
 #[derive(Drop)]
@@ -18,6 +20,29 @@ pub(crate) struct Access<'d, R> {
 }
 
 impl<R: Wait> Access<'_, R> {
+    /// Returns what the desk holds, in one turn.
+    pub(crate) fn look(&self, pass: &mut Pass) -> Result<Snapshot<RowList>, AllocError>
+        requires { IsPassOf self.now.desk.now pass.old }
+        ensures looks { Looks (caller_of pass.old) (seen_of pass.old) (seen_of pass.new) }
+        ensures stands { IfOk result (λ look. Stands (λ rows. rows) look (seen_of pass.new).history) }
+        ensures pass { IsPassOf self.now.desk.now pass.new }
+        ensures caller { caller_of pass.new ≡ caller_of pass.old }
+    {
+        self.desk.look(self.rt, pass)
+    }
+
+    /// Returns how many batches there are, and how many of them are settled, in one turn.
+    pub(crate) fn status(&self, pass: &mut Pass) -> (u64, u64)
+        requires { IsPassOf self.now.desk.now pass.old }
+        ensures looks { Looks (caller_of pass.old) (seen_of pass.old) (seen_of pass.new) }
+        ensures numbers { (result.0 ≡ length (seen_of pass.new).history)
+            × (result.1 ≡ (seen_of pass.new).settled) }
+        ensures pass { IsPassOf self.now.desk.now pass.new }
+        ensures caller { caller_of pass.new ≡ caller_of pass.old }
+    {
+        self.desk.status(self.rt, pass)
+    }
+
     /// Inserts the batch, and answers its number.
     pub(crate) fn insert(&self, pass: &mut Pass, batch: Batch) -> Result<u64, InsertFault>
         requires { IsPassOf self.now.desk.now pass.old }

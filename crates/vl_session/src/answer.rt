@@ -8,7 +8,6 @@ ghost use Rattle.vl_session.specs.Seen.{Has, Looks};
 
 use crate::access::Access;
 use crate::law::select_law;
-use log_core::history_law;
 use log_desk::{Desk, Pass};
 use query_run::{QueryFault, QueryRefusal, RunFault, answer, read_query};
 use std::alloc::{AllocError, Global};
@@ -124,11 +123,10 @@ pub(crate) fn answer_text<R: Wait>(
         Ok(search) => search,
         Err(refusal) => return Err(AnswerFault::from(refusal)),
     };
-    let snapshot = match access.desk.look(access.rt, pass) {
+    let snapshot = match access.look(pass) {
         Ok(snapshot) => snapshot,
         Err(AllocError) => return Err(AnswerFault::Memory),
     };
-    history_law(&snapshot);
     let front = snapshot.front();
     match answer(access.alloc, &search, now, &snapshot) {
         Ok(lines) => Ok(Answer { front, lines }),

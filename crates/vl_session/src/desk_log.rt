@@ -91,7 +91,7 @@ fn reply_to<R: Wait>(
             Ok(reply)
         }
         Ok(Wanted::Status) => {
-            let (batches, settled) = access.desk.status(access.rt, pass);
+            let (batches, settled) = access.status(pass);
             let text = status_reply(access.alloc, batches, settled, delivery)?;
             Ok(Reply::Whole(text))
         }

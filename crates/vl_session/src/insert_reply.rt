@@ -73,15 +73,14 @@ pub(crate) fn refusal_reply(
     ensures { IfOk result (λ text. (outcome : InsertOutcome) × (insert_outcome_of fault ≡ Some outcome)
         × (string_bytes text ≡ reply_bytes (insert_status outcome) (refusal_text outcome) delivery)) }
 {
+    let unavailable = Status::ServiceUnavailable;
     match fault {
         InsertionFault::Large { weight } => {
             let text = large_reply(alloc, weight, delivery)?;
             Ok(text)
         }
-        InsertionFault::Full { .. } => {
-            reply(alloc, Status::ServiceUnavailable, "Full 4096\n", delivery)
-        }
-        InsertionFault::Spent => reply(alloc, Status::ServiceUnavailable, "Spent\n", delivery),
+        InsertionFault::Full { .. } => reply(alloc, unavailable, "Full 4096\n", delivery),
+        InsertionFault::Spent => reply(alloc, unavailable, "Spent\n", delivery),
         InsertionFault::Memory => Err(AllocError),
     }
 }

@@ -10,8 +10,9 @@ ghost use Rattle.log_desk.specs.Seen.{Caller, Seen};
 ghost use Rattle.vl_session.specs.Answer.{FailsQuery, IsOfEvaluation};
 ghost use Rattle.vl_session.specs.Insert.{CanBeBatch, HasInsertOutcome, InsertOutcome, taken};
 ghost use Rattle.vl_session.specs.InsertRequest.{InsertRequest, IsInsertAnswered, IsInsertServed};
-ghost use Rattle.vl_session.specs.Laws.{Connection, Grows, HaveTurns, IsByInput, IsServedWhole};
-ghost use Rattle.vl_session.specs.Laws.{IsTakenWhole, SyslogInput};
+ghost use Rattle.log_desk.specs.TurnEnd.{TurnEnd};
+ghost use Rattle.vl_session.specs.Laws.{AreEnds, Grows, HaveTurns, IsByInput, IsTakenWhole, SyslogInput};
+ghost use Rattle.vl_session.specs.Session.{Connection, IsSession};
 ghost use Rattle.vl_session.specs.Query.{HasQueryOutcome, QueryOutcome, found};
 ghost use Rattle.vl_session.specs.Select.{IsSelectAnswered, IsSelectServed, Select};
 ghost use Rattle.vl_session.specs.Seen.{HasRoom, desk_turns};
@@ -48,13 +49,17 @@ pub fn insert_law()
 }
 
 /// Where a session ends by its input, every request of it has its turn. The entries that are the caller's own are the
-/// batches of its accepted inserts, in their order. The caller took a turn at the desk for each reply that tells of
-/// what is held.
+/// batches of its accepted inserts, in their order. Each reply that tells of what is held was made in a turn of its
+/// own, and tells of all that was held then.
 pub fn session_law()
-    ensures requests { (c : Connection) (session : IsServedWhole c) → IsByInput c.end
+    ensures requests { (c : Connection) (session : IsSession c) → IsByInput c.end
         → HaveTurns (session.serving.used ++ session.rest) session.turns }
-    ensures entries { (c : Connection) (session : IsServedWhole c)
+    ensures entries { (c : Connection) (session : IsSession c)
         → Grows c.caller c.first c.last (accepted_in session.turns) (desk_turns_of session.turns) }
+
+    // The turns that the caller left are those of its requests, in their order.
+    ensures ends { (c : Connection) (session : IsSession c)
+        → (ends : List TurnEnd) × (c.last.turns ≡ c.first.turns ++ ends) × AreEnds session.turns ends }
 {}
 
 /// The entries of a session of syslog that are the caller's own are its batches, in order. Joined, these are the rows

@@ -11,7 +11,7 @@ use vl_row::Text;
 
 /// A reply that is to be written.
 #[derive(Drop)]
-pub enum Reply {
+pub(crate) enum Reply {
     /// All of it.
     Whole(String),
     /// Its head, and its content, which is not copied after that.
@@ -21,7 +21,7 @@ pub enum Reply {
 }
 
 /// The log, as one caller sees it.
-pub trait Log {
+pub(crate) trait Log {
     // What the caller has seen.
     ghost seen: { Self → Seen };
 

@@ -24,10 +24,6 @@ pub(crate) fn status_reply(
         ≡ reply_bytes (Status.Served Kind.Json) (status_text batches settled) delivery) }
 {
     let content = format!(in alloc; "{{\"batches\":\"{batches}\",\"settled\":\"{settled}\"}}\n")?;
-    reply(
-        alloc,
-        Status::Served(Kind::Json),
-        content.as_str(),
-        delivery,
-    )
+    let status = Status::Served(Kind::Json);
+    reply(alloc, status, content.as_str(), delivery)
 }

@@ -86,11 +86,8 @@ impl NumberedReply {
         ensures content { IfOk result (λ made. (number : ℕ) → number < 2 ^ 64
             → content_with made number ≡ line_text (fields_said incoming.now number)) }
     {
-        let (mut head_start, head_end) = head_around_length(
-            alloc,
-            Status::Served(Kind::Json),
-            delivery,
-        )?;
+        let status = Status::Served(Kind::Json);
+        let (mut head_start, head_end) = head_around_length(alloc, status, delivery)?;
         let mut content_start = String::new(alloc);
         push_accepted(&mut content_start, incoming.accepted)?;
         content_start.push_str("\",\"batch\":\"")?;
@@ -145,12 +142,8 @@ fn numberless_reply(
     let mut content = String::new(alloc);
     push_accepted(&mut content, incoming.accepted)?;
     push_refused(&mut content, incoming.refused.as_slice())?;
-    let text = reply(
-        alloc,
-        Status::Served(Kind::Json),
-        content.as_str(),
-        delivery,
-    )?;
+    let status = Status::Served(Kind::Json);
+    let text = reply(alloc, status, content.as_str(), delivery)?;
     Ok(text)
 }
 

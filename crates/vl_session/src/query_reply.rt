@@ -90,10 +90,6 @@ fn overflow_reply(alloc: Global, name: &str, delivery: Delivery) -> Result<Strin
         ≡ reply_bytes Status.UnprocessableContent (query_content (overflows name.now)) delivery) }
 {
     let content = format!(in alloc; "Overflow in {name}\n")?;
-    reply(
-        alloc,
-        Status::UnprocessableContent,
-        content.as_str(),
-        delivery,
-    )
+    let status = Status::UnprocessableContent;
+    reply(alloc, status, content.as_str(), delivery)
 }

@@ -31,9 +31,17 @@ pub fn serve_session<R: Wait, S: Source, K: Sink, C: Clock>(
     clock: &mut C,
 ) -> Report
     requires { IsPassOf desk.now pass.old }
-    ensures session { IsSession (caller_of pass.old) (seen_of pass.old) (seen_of pass.new)
-        (change_of S.left S.faults src.old src.new) (change_of K.written K.faults sink.old sink.new)
-        (C.moments clock.old) (C.moments clock.new) result.turns result.end }
+    ensures session { IsSession (record {
+      caller = caller_of pass.old;
+      first = seen_of pass.old;
+      last = seen_of pass.new;
+      source = change_of S.left S.faults src.old src.new;
+      sink = change_of K.written K.faults sink.old sink.new;
+      moments_old = C.moments clock.old;
+      moments_new = C.moments clock.new;
+      dones = result.turns;
+      end = result.end;
+    }) }
     ensures pass { IsPassOf desk.now pass.new }
     ensures caller { caller_of pass.new ≡ caller_of pass.old }
 {

@@ -1,7 +1,7 @@
 //! A session: the requests of one connection, served one after another.
 ghost use Rattle.std.specs.Prelude.{◌≡◌};
 ghost use Rattle.vl_io.specs.Change.{change_of};
-ghost use Rattle.vl_session.specs.Session.{IsSession};
+ghost use Rattle.vl_session.specs.Session.{IsSession, connection};
 
 use crate::log::Log;
 use crate::report::{Done, End, Report};
@@ -14,7 +14,7 @@ use vl_row::Items;
 
 /// Serves the requests of a connection, until one asks to close, the input ends, something fails, or 1,000 were served.
 /// Room for a turn is taken before its request is read.
-pub fn serve_requests<L: Log, S: Source, K: Sink, C: Clock>(
+pub(crate) fn serve_requests<L: Log, S: Source, K: Sink, C: Clock>(
     alloc: Global,
     log: &mut L,
     src: &mut S,
@@ -22,9 +22,9 @@ pub fn serve_requests<L: Log, S: Source, K: Sink, C: Clock>(
     clock: &mut C,
 ) -> Report
     requires { L.may_ask log.old }
-    ensures session { IsSession (L.caller log.old) (L.seen log.old) (L.seen log.new)
+    ensures session { IsSession (connection (L.caller log.old) (L.seen log.old) (L.seen log.new)
         (change_of S.left S.faults src.old src.new) (change_of K.written K.faults sink.old sink.new)
-        (C.moments clock.old) (C.moments clock.new) result.turns result.end }
+        (C.moments clock.old) (C.moments clock.new) result.turns result.end) }
     ensures may_ask { L.may_ask log.new }
     ensures same { L.caller log.new ≡ L.caller log.old }
     ensures lent { L.name log.new ≡ L.name log.old }
@@ -51,9 +51,9 @@ fn serve_turns<L: Log, S: Source, K: Sink, C: Clock>(
     clock: &mut C,
 ) -> Served
     requires { L.may_ask log.old }
-    ensures session { IsSession (L.caller log.old) (L.seen log.old) (L.seen log.new)
+    ensures session { IsSession (connection (L.caller log.old) (L.seen log.old) (L.seen log.new)
         (change_of S.left S.faults src.old src.new) (change_of K.written K.faults sink.old sink.new)
-        (C.moments clock.old) (C.moments clock.new) result.turns.items result.end }
+        (C.moments clock.old) (C.moments clock.new) result.turns.items result.end) }
     ensures may_ask { L.may_ask log.new }
     ensures same { L.caller log.new ≡ L.caller log.old }
     ensures lent { L.name log.new ≡ L.name log.old }
@@ -77,8 +77,6 @@ fn serve_turns<L: Log, S: Source, K: Sink, C: Clock>(
             Err(end) => return Served { turns, end },
         }
     }
-    Served {
-        turns,
-        end: End::Limit,
-    }
+    let end = End::Limit;
+    Served { turns, end }
 }

@@ -133,10 +133,7 @@ fn read_row(alloc: Global, now: i64, message: &[u8]) -> Result<Option<Row>, Allo
     ensures rules { IfOk result (λ row. IfSome row IsRow) }
 {
     match row_of_syslog(alloc, now, message) {
-        Ok(row) => {
-            let _ = row.fields();
-            Ok(Some(row))
-        }
+        Ok(row) => Ok(Some(row)),
         Err(SyslogKind::Memory) => Err(AllocError),
         Err(SyslogKind::Message(_)) => Ok(None),
         Err(SyslogKind::Row(_)) => Ok(None),

@@ -11,7 +11,6 @@
 
 mod answers_tests;
 mod limits_tests;
-mod no_memory_tests;
 mod sessions_tests;
 mod spelling_tests;
 

@@ -1,6 +1,6 @@
 -- The batches of a trial, inserted one after another.
-use Rattle.std.proofs.Common.{◌≡◌, ℕ, ◌+◌, ◌^◌, ◌-◌, ◌<◌, ◌≤◌, List, [], ◌∷◌, ◌++◌, append_assoc, length, length-append, refl, sym, ap, ◌∙◌, arith}
-use Rattle.std.specs.Prelude.{flat_map, map}
+use Rattle.std.proofs.Common.{◌≡◌, ℕ, ◌+◌, ◌^◌, ◌-◌, ◌<◌, ◌≤◌, List, [], ◌∷◌, ◌++◌, append_assoc, length, length-append, ap, ◌∙◌, arith}
+use Rattle.std.specs.Prelude.{flat_map}
 use Rattle.std.proofs.lemmas.List.{length-map}
 use Rattle.log_model.specs.Core.{held_limit}
 use Rattle.log_model.specs.History.{History, batches_in, entry_rows, rows_of}
@@ -10,6 +10,7 @@ use Rattle.log_desk.specs.Seen.{Seen}
 use Rattle.log_desk.specs.declared.fault.InsertFault.TheVariants.{Full, Spent}
 use Rattle.lone_desk.proofs.Laws.{batches-with, same-alone, settled-alone}
 use Rattle.lone_desk.specs.Alone.{FollowsAlone, GainsAlone}
+use Rattle.vl_session.proofs.QueryLemmas.{history_rows}
 
 -- one batch more
 pub one_more : (old new : Seen) (batch : Batch) (left all : List Batch) → GainsAlone old new batch
@@ -40,11 +41,7 @@ module _ (old new : Seen) (batch : Batch) (left all : List Batch) (follows : Fol
       let same = same-alone old new follows in
       omega (arith, refuses.1, ap length same.0, few old batch left all whole small)
 
-joined : (history : History) → rows_of history ≡ flat_map (λ batch. batch) (batches_in history)
-joined [] = refl
-joined (entry ∷ history) = ap (λ rows. entry_rows entry ++ rows) (joined history)
-
 -- the rows of the history
 pub all_rows : (history : History) (all : List Batch) (rows : List Row) → batches_in history ≡ all
     → flat_map (λ batch. batch) all ≡ rows → rows_of history ≡ rows
-all_rows history all rows are whole = joined history ∙ ap (λ batches. flat_map (λ batch. batch) batches) are ∙ whole
+all_rows history all rows are whole = history_rows history all are ∙ whole

@@ -83,7 +83,7 @@ fn insert_rows<R: Wait>(
 fn lines_of<R: Wait>(desk: &mut LoneDesk<'_, R>, text: &str, now: i64) -> Result<Text, AllocError>
     requires has { HasRecords text.now (unsigned_abs now) desk.old.history }
     requires moment { pos 0 ≤ℤ now }
-    ensures lines { IfOk result (AreLines text.now (unsigned_abs now) desk.old.history) }
+    ensures lines { IfOk result (AreLines text.now (unsigned_abs now) (rows_of desk.old.history)) }
     ensures same { desk.new.history ≡ desk.old.history }
 {
     match desk.answer_query(text, now) {

@@ -7,6 +7,7 @@ use Rattle.log_desk.specs.Seen.{caller_of, seen_of}
 use Rattle.vl_session.specs.Answer.{FailsQuery, IsQueryAnswer}
 use Rattle.vl_session.specs.Query.{found}
 use Rattle.vl_session.proofs.AnswerLemmas.{fault_has}
+use Rattle.vl_session.proofs.EffectLemmas.{effect_follows, on_err}
 use Rattle.vl_session.proofs.QueryLemmas.{outcome_has}
 use Rattle.vl_session.proofs.desk_log.query_reply.Goals as goal
 
@@ -40,3 +41,9 @@ returns-in_ok-text-in-Err-clause-said g c =
       has_outcome = outcome_has c.args.text.now (unsigned_abs c.args.now) new.history c.in-Err.fault said.0 fails said.1;
       said = said.2;
     }
+
+pub returns-in_err-text-in-Err-clause-unsaid : goal.returns-in_err-text-in-Err-clause-unsaid
+returns-in_err-text-in-Err-clause-unsaid g c =
+    on_err c.from_residual-in_err-text-in-Err.result _
+    (effect_follows (caller_of c.args.pass.now) (seen_of c.args.pass.now) (seen_of c.answer_text.new.pass)
+    c.in-Err.fault c.in-Err.ensures.effect)

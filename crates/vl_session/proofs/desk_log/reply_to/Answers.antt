@@ -1,13 +1,14 @@
-use Rattle.std.proofs.Common.{◌≡◌, Ok, ap, sym, subst, ◌∙◌, string_bytes, pos, unsigned_abs, FitsSigned, w64, to_z, of_z, arith}
+use Rattle.std.proofs.Common.{◌≡◌, Ok, ap, sym, subst, ◌∙◌, string_bytes, pos, unsigned_abs, FitsSigned, w64, to_z, of_z}
 use Rattle.std.proofs.lemmas.Int.{to_z-of_z}
 use Rattle.http_route.specs.Route.{wanted_by}
 use Rattle.log_desk.specs.Seen.{caller_of, seen_of}
-use Rattle.log_desk.proofs.SeenLaws.{length-seen}
 use Rattle.vl_session.specs.Answering.{Answered, SaysOutcome}
 use Rattle.vl_session.specs.Incoming.{IsIncoming}
 use Rattle.vl_session.specs.Sent.{bytes_of}
 use Rattle.vl_session.proofs.AnswerLemmas.{insert_answered, query_answered, status_answered}
+use Rattle.vl_session.proofs.EffectLemmas.{on_err}
 use Rattle.vl_session.proofs.QueryLemmas.{same_moment}
+use Rattle.vl_session.proofs.SeenLemmas.{follows_none}
 use Rattle.vl_session.proofs.desk_log.reply_to.Goals as goal
 
 pub returns-in-Ok-clause-answered : goal.returns-in-Ok-clause-answered
@@ -41,8 +42,8 @@ returns-in-Ok-Status-clause-answered g c =
     (λ wanted. Answered (caller_of c.args.pass.now) wanted body (unsigned_abs c.args.now) (seen_of c.args.pass.now) (seen_of new)
     c.args.delivery text) (sym wanted)
     (status_answered (caller_of c.args.pass.now) (seen_of c.args.pass.now) (seen_of new) body (unsigned_abs c.args.now)
-    c.args.delivery text c.status-batches.result.0 c.status-batches.result.1 (e.follows, omega (arith, e.turn))
-    (e.numbers.0 ∙ sym (length-seen new.seen)) e.numbers.1 c.in_ok-text-in-Ok-Status.ensures)
+    c.args.delivery text c.status-batches.result.0 c.status-batches.result.1 e.looks e.numbers.0 e.numbers.1
+    c.in_ok-text-in-Ok-Status.ensures)
 
 pub returns-in-Ok-Query-clause-answered : goal.returns-in-Ok-Query-clause-answered
 returns-in-Ok-Query-clause-answered g c =
@@ -59,3 +60,18 @@ returns-in-Ok-Query-clause-answered g c =
     (query_answered caller text (unsigned_abs c.args.now) body old new c.args.delivery reply
     (subst (λ now. SaysOutcome caller text (unsigned_abs now) old new c.args.delivery reply) moment
     c.in_ok-reply-in-Ok-Query.ensures.said))
+
+pub returns-in-Ok-Insert-clause-unanswered : goal.returns-in-Ok-Insert-clause-unanswered
+returns-in-Ok-Insert-clause-unanswered g c =
+    on_err c.whole.result _ (follows_none (caller_of c.args.pass.now) (seen_of c.args.pass.now))
+
+pub returns-in-Ok-Health-clause-unanswered : goal.returns-in-Ok-Health-clause-unanswered
+returns-in-Ok-Health-clause-unanswered g c =
+    on_err c.whole-in-Ok-Health.result _ (follows_none (caller_of c.args.pass.now) (seen_of c.args.pass.now))
+
+pub returns-in-Err-Refused-clause-unanswered : goal.returns-in-Err-Refused-clause-unanswered
+returns-in-Err-Refused-clause-unanswered g c =
+    on_err c.whole-in-Err-Refused.result _ (follows_none (caller_of c.args.pass.now) (seen_of c.args.pass.now))
+
+pub returns-clause-unanswered : goal.returns-clause-unanswered
+returns-clause-unanswered g c = follows_none (caller_of c.args.pass.now) (seen_of c.args.pass.now)

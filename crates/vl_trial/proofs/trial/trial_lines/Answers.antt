@@ -4,7 +4,9 @@ use Rattle.log_model.specs.History.{rows_of}
 use Rattle.vl_trial.specs.Questions.{all_counted, errors_by_app, slow_counted}
 use Rattle.vl_trial.specs.QueryTexts.{count_text, errors_text, slow_text}
 use Rattle.vl_trial.specs.Answer.{AreLines}
+use Rattle.vl_trial.specs.Trial.{trial_batches}
 use Rattle.vl_trial.proofs.Asked.{has_records, if_ok}
+use Rattle.vl_session.proofs.QueryLemmas.{history_rows}
 use Rattle.vl_trial.proofs.trial.trial_lines.Goals as goal
 
 pub lines_of-requires-clause-has : goal.lines_of-requires-clause-has
@@ -33,20 +35,20 @@ pub returns : goal.returns
 returns g c =
     let fits : FitsSigned w64 c.args.now = c.ranges.now in
     let now = unsigned_abs c.args.now in
-    let history = c.insert_rows.new.desk.history in
-    let second = c.in_ok-counted.ensures.same in
-    let third = c.in_ok-errors.ensures.same ∙ second in
+    let all = history_rows c.insert_rows.new.desk.history (trial_batches c.args.seed c.args.rows)
+    c.in_ok-insert_rows.ensures.entered in
+    let second = ap rows_of c.in_ok-counted.ensures.same ∙ all in
+    let third = ap rows_of c.in_ok-errors.ensures.same ∙ second in
     if_ok c.joined.result _ _ c.joined.ensures
     (λ lines is. record {
-      history = history;
-      entered = c.in_ok-insert_rows.ensures.entered;
       counted = c.in_ok-counted.counted;
       errors = c.in_ok-errors.errors;
       slow = c.in_ok-slow.slow;
-      are_counted = simp to_z-of_z at c.in_ok-counted.ensures.lines;
-      are_errors = subst (λ h. AreLines errors_text now h c.in_ok-errors.errors) second
+      are_counted = subst (λ rows. AreLines count_text now rows c.in_ok-counted.counted) all
+          (simp to_z-of_z at c.in_ok-counted.ensures.lines);
+      are_errors = subst (λ rows. AreLines errors_text now rows c.in_ok-errors.errors) second
           (simp to_z-of_z at c.in_ok-errors.ensures.lines);
-      are_slow = subst (λ h. AreLines slow_text now h c.in_ok-slow.slow) third
+      are_slow = subst (λ rows. AreLines slow_text now rows c.in_ok-slow.slow) third
           (simp to_z-of_z at c.in_ok-slow.ensures.lines);
       joined = rw (c.as_str.ensures.value, c.as_str-2.ensures.value, c.as_str-3.ensures.value) at is;
     })
