@@ -556,14 +556,17 @@ ends() {
 
 by_words() {
   local usage='usage: pipe, load, query, trial or serve' address=127.0.0.1:$http
+  local taken="cannot listen on $address: Address already in use (os error 98)"
   ends "serve without an address" 2 "$usage" serve
   ends "0 workers" 2 "$usage" serve --http "$address" --workers 0
   ends "65 workers at one address" 2 "$usage" serve --http "$address" --workers 65
   ends "33 workers at each of two addresses" 2 "$usage" serve --http "$address" --syslog "$address" --workers 33
   ends "an address twice" 2 "$usage" serve --http "$address" --http "$address"
-  ends "a port in use" 7 "door fault" serve --http "$address"
-  ends "the same port in use for both addresses" 7 "door fault" serve --http "$address" --syslog "$address"
-  ends "an address without a port" 7 "door fault" serve --http 127.0.0.1
+  ends "a port in use" 7 "$taken"$'\n'"door fault" serve --http "$address"
+  ends "the same port in use for both addresses" 7 "$taken"$'\n'"$taken"$'\n'"door fault" \
+    serve --http "$address" --syslog "$address"
+  ends "an address without a port" 7 "cannot listen on 127.0.0.1: invalid socket address"$'\n'"door fault" \
+    serve --http 127.0.0.1
 }
 
 write_python
@@ -579,7 +582,8 @@ if start_server 4 syslog; then
   by_words
   judge_slow_client
   stop_server
-  judge "a server that SIGTERM stops" "$? $(cat "$work/server_out" "$work/server_err"; echo .)" "143 ."
+  judge "a server that SIGTERM stops" "$? $(cat "$work/server_out" "$work/server_err"; echo .)" \
+    "143 http on 127.0.0.1:$http (workers: 4), syslog on 127.0.0.1:$syslog (workers: 4)"$'\n.'
   by_wrk
   by_filling
 else

@@ -24,29 +24,26 @@ is_healthy() {
   [ -z "$syslog" ] || (exec 3<> "/dev/tcp/127.0.0.1/$syslog") 2> /dev/null
 }
 
-# start_server WORKERS [syslog]: starts a server with this number of workers at each address, and waits until it
-# answers. Sets server to its process id, http to its port, and syslog to its syslog port, if it has one
+# start_server WORKERS [syslog]: starts a server with this number of workers at each address, at ports that the system
+# chooses, and waits until it answers. Sets server to its process id, http to its port, and syslog to its syslog port, if
+# it has one
 start_server() {
-  local words
-  for _ in {1..5}; do
-    free_port || return 1
-    http=$port syslog=
-    words=(serve --http "127.0.0.1:$http" --workers "$1")
-    if [ -n "${2:-}" ]; then
-      free_port && [ "$port" != "$http" ] || continue
-      syslog=$port
-      words+=(--syslog "127.0.0.1:$syslog")
-    fi
-    "$program" "${words[@]}" < /dev/null > "$work/server_out" 2> "$work/server_err" &
-    server=$!
-    servers+=("$server")
-    for _ in {1..200}; do
+  local line words=(serve --http 127.0.0.1:0 --workers "$1")
+  [ -z "${2:-}" ] || words+=(--syslog 127.0.0.1:0)
+  http='' syslog=''
+  "$program" "${words[@]}" < /dev/null > "$work/server_out" 2> "$work/server_err" &
+  server=$!
+  servers+=("$server")
+  for _ in {1..200}; do
+    if { read -r line < "$work/server_err"; } 2> /dev/null; then
+      [[ $line =~ http\ on\ 127\.0\.0\.1:([0-9]+) ]] && http=${BASH_REMATCH[1]}
+      [[ $line =~ syslog\ on\ 127\.0\.0\.1:([0-9]+) ]] && syslog=${BASH_REMATCH[1]}
       is_healthy && return 0
-      kill -0 "$server" 2> /dev/null || break
-      sleep 0.1
-    done
-    stop_server
+    fi
+    kill -0 "$server" 2> /dev/null || break
+    sleep 0.1
   done
+  stop_server
   return 1
 }
 

@@ -1,1 +1,2 @@
 mod Workers
+mod DoorKinds

@@ -1,9 +1,7 @@
 -- How many workers a server has, and which doors a command is given.
-use Rattle.std.specs.Prelude.{◌≡◌, ℕ, ◌≤◌, ◌++◌, All, List, [], Option, None, Some, length}
-use Rattle.vl_io.specs.Adapters.{kind_of}
+use Rattle.std.specs.Prelude.{ℕ, zero, suc, ◌≤◌, ◌++◌, List, [], ◌∷◌, None, Some}
 use Rattle.vl_io.specs.declared.outside.VisitKind.{VisitKind}
 use Rattle.vl_io.specs.declared.outside.VisitKind.TheVariants.{Http, Syslog}
-use Rattle.vl_io.specs.declared.tcp.TcpDoors.{TcpDoors}
 use Rattle.command_line.specs.Asked.{most_workers}
 use Rattle.command_line.specs.declared.command.Command.{Command}
 use Rattle.command_line.specs.declared.command.Command.TheVariants.{Pipe, Trial, Serve}
@@ -14,21 +12,20 @@ AreFewWorkers (Pipe fields query) = Unit {0}
 AreFewWorkers (Trial seed rows) = Unit {0}
 AreFewWorkers (Serve http syslog workers) = workers ≤ most_workers syslog
 
--- They are this many doors, all for visits of this kind.
-pub record AreDoors {R : Type 0} (kind : VisitKind) (count : ℕ) (doors : List (TcpDoors R)) : Type 0 where
-  pub many : length doors ≡ count
-  pub kinds : All (λ d. kind_of d ≡ kind) doors
+-- this many doors for HTTP
+abbrev pub all_http : ℕ → List VisitKind
+all_http zero = []
+all_http (suc count) = all_http count ++ Http ∷ []
 
--- The doors of a command: of a server as many for HTTP as there are workers, and then as many for syslog, where it has
--- an address for that; of another command none.
-abbrev pub AreDoorsOf : {R : Type 0} → Command → List (TcpDoors R) → Type 0
-AreDoorsOf (Pipe fields query) doors = doors ≡ []
-AreDoorsOf (Trial seed rows) doors = doors ≡ []
-AreDoorsOf (Serve http None workers) doors = AreDoors Http workers doors
-AreDoorsOf {R} (Serve http (Some address) workers) doors =
-    (web senders : List (TcpDoors R)) × AreDoors Http workers web × AreDoors Syslog workers senders
-    × (doors ≡ web ++ senders)
+-- this many doors for syslog and as many for HTTP, in turn
+abbrev pub in_turn : ℕ → List VisitKind
+in_turn zero = []
+in_turn (suc count) = in_turn count ++ Syslog ∷ Http ∷ []
 
--- They are these, and this many more for syslog.
-abbrev pub GainDoors : {R : Type 0} → ℕ → List (TcpDoors R) → List (TcpDoors R) → Type 0
-GainDoors {R} count old new = (senders : List (TcpDoors R)) × AreDoors Syslog count senders × (new ≡ old ++ senders)
+-- What the doors of a command speak. A server has as many for HTTP as it has workers, and as many for syslog, where it
+-- has an address for that. Another command has none.
+abbrev pub kinds_for : Command → List VisitKind
+kinds_for (Pipe fields query) = []
+kinds_for (Trial seed rows) = []
+kinds_for (Serve http None workers) = all_http workers
+kinds_for (Serve http (Some address) workers) = in_turn workers

@@ -1,14 +1,18 @@
 //! Duvonka, a log database: the program. What it does is `vl_top::run`.
 #![tactic(auto)]
 
-ghost use Rattle.std.specs.Prelude.{◌≡◌, ◌+◌, ◌≤◌, IfOk, vec_len};
-ghost use Rattle.duvonka.specs.Workers.{AreDoorsOf, AreFewWorkers, GainDoors};
+ghost use Rattle.std.specs.Prelude.{◌≡◌, ◌*◌, ◌≤◌, IfOk, map, vec_len};
+ghost use Rattle.vl_io.specs.Adapters.{kind_of};
+ghost use Rattle.duvonka.specs.Workers.{AreFewWorkers, all_http, in_turn, kinds_for};
 
+mod addresses;
+
+use addresses::{Address, address_part, report_addresses, report_both};
 use std::alloc::AllocError;
 use std::env;
 use std::io::ErrorKind;
 use std::process::ExitCode;
-use vl_io::{InputSource, OutputSink, SystemClock, TcpDoors, VisitKind};
+use vl_io::{InputSource, Listening, OutputSink, Sink, SystemClock, TcpDoors, VisitKind};
 use vl_status::report_no_memory;
 use vl_top::{Command, UsageFault, read_words, report_usage, run};
 
@@ -27,7 +31,7 @@ fn main(rt: HostRuntime) -> ExitCode {
         return ExitCode::from(report_no_memory(&mut err).number());
     };
     let words = borrowed.as_slice();
-    let Ok(mut doors) = doors_for(rt, words) else {
+    let Ok(mut doors) = doors_for(rt, words, &mut err) else {
         return ExitCode::from(report_no_memory(&mut err).number());
     };
     let status = run(
@@ -48,21 +52,30 @@ fn words_of(rt: &HostRuntime) -> Result<Vec<String>, UsageFault> {
     }
 }
 
-/// Returns the doors that the words ask for, and none where they ask for none.
-fn doors_for(rt: HostRuntime, words: &[&str]) -> Result<Vec<TcpDoors<HostRuntime>>, AllocError>
+/// Returns the doors that the words ask for, and none where they ask for none. Where they listen, and where they
+/// cannot, is said on the error stream.
+fn doors_for<E: Sink>(
+    rt: HostRuntime,
+    words: &[&str],
+    err: &mut E,
+) -> Result<Vec<TcpDoors<HostRuntime>>, AllocError>
     ensures { IfOk result (λ doors. vec_len doors ≤ 64) }
 {
     match read_words(rt.alloc(), words) {
-        Ok(command) => doors_of(rt, &command),
+        Ok(command) => doors_of(rt, &command, err),
         Err(UsageFault::Usage) => Ok(Vec::new(rt.alloc())),
         Err(UsageFault::Memory) => Err(AllocError),
     }
 }
 
 /// Returns the doors of a command: as many at each address as there are workers, and none for another command.
-fn doors_of(rt: HostRuntime, command: &Command) -> Result<Vec<TcpDoors<HostRuntime>>, AllocError>
+fn doors_of<E: Sink>(
+    rt: HostRuntime,
+    command: &Command,
+    err: &mut E,
+) -> Result<Vec<TcpDoors<HostRuntime>>, AllocError>
     requires { AreFewWorkers command.now }
-    ensures doors { IfOk result (λ doors. AreDoorsOf command.now doors.items) }
+    ensures doors { IfOk result (λ doors. map kind_of doors.items ≡ kinds_for command.now) }
     ensures few { IfOk result (λ doors. vec_len doors ≤ 64) }
 {
     let Command::Serve {
@@ -73,24 +86,60 @@ fn doors_of(rt: HostRuntime, command: &Command) -> Result<Vec<TcpDoors<HostRunti
     else {
         return Ok(Vec::new(rt.alloc()));
     };
-    let doors = TcpDoors::listen(rt, rt.alloc(), http.as_str(), VisitKind::Http, *workers)?;
-    match syslog {
-        Some(address) => with_syslog(rt, doors, address.as_str(), *workers),
-        None => Ok(doors),
-    }
+    let pages = Listening::at(&rt, rt.alloc(), http.as_str())?;
+    let first = Address {
+        protocol: "http",
+        asked: http.as_str(),
+        listening: &pages,
+        workers: *workers,
+    };
+    let Some(syslog) = syslog else {
+        let part = address_part(rt.alloc(), err, &first)?;
+        report_addresses(rt.alloc(), err, part.as_str(), "")?;
+        return doors_for_pages(rt, &pages, *workers);
+    };
+    let senders = Listening::at(&rt, rt.alloc(), syslog.as_str())?;
+    let second = Address {
+        protocol: "syslog",
+        asked: syslog.as_str(),
+        listening: &senders,
+        workers: *workers,
+    };
+    report_both(rt.alloc(), err, &first, &second)?;
+    doors_in_turn(rt, &pages, &senders, *workers)
 }
 
-/// Returns these doors, and this many at another address.
-fn with_syslog(
+/// Returns this many doors for HTTP.
+fn doors_for_pages(
     rt: HostRuntime,
-    mut doors: Vec<TcpDoors<HostRuntime>>,
-    address: &str,
+    pages: &Listening,
     count: u32,
 ) -> Result<Vec<TcpDoors<HostRuntime>>, AllocError>
-    ensures gain { IfOk result (λ all. GainDoors count doors.items all.items) }
-    ensures count { IfOk result (λ all. vec_len all ≡ vec_len doors + count) }
+    ensures kinds { IfOk result (λ doors. map kind_of doors.items ≡ all_http count) }
+    ensures count { IfOk result (λ doors. vec_len doors ≡ count) }
 {
-    let mut others = TcpDoors::listen(rt, rt.alloc(), address, VisitKind::Syslog, count)?;
-    doors.append(&mut others)?;
+    let mut doors = Vec::new(rt.alloc());
+    for _ in 0..count {
+        doors.push(pages.door(rt, rt.alloc(), VisitKind::Http)?)?;
+    }
+    Ok(doors)
+}
+
+/// Returns this many doors of each kind, in turn. A thread that has to take several doors begins with the last of them,
+/// so each pair ends with one for HTTP.
+fn doors_in_turn(
+    rt: HostRuntime,
+    pages: &Listening,
+    senders: &Listening,
+    count: u32,
+) -> Result<Vec<TcpDoors<HostRuntime>>, AllocError>
+    ensures kinds { IfOk result (λ doors. map kind_of doors.items ≡ in_turn count) }
+    ensures count { IfOk result (λ doors. vec_len doors ≡ 2 * count) }
+{
+    let mut doors = Vec::new(rt.alloc());
+    for _ in 0..count {
+        doors.push(senders.door(rt, rt.alloc(), VisitKind::Syslog)?)?;
+        doors.push(pages.door(rt, rt.alloc(), VisitKind::Http)?)?;
+    }
     Ok(doors)
 }

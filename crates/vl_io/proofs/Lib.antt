@@ -2,3 +2,4 @@ pub mod Laws
 mod Feeds
 mod Pieces
 mod Telling
+mod Passing

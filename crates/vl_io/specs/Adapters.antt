@@ -1,4 +1,4 @@
--- What stands after the forms over std's readers, writers and listeners.
+-- The state of the adapters over std's readers, writers and listeners.
 use Rattle.std.specs.Prelude.{ℕ, Bool, is_some}
 use Rattle.vl_io.specs.declared.adapters.InputSource.{InputSource}
 use Rattle.vl_io.specs.declared.adapters.OutputSink.{OutputSink}
@@ -20,7 +20,7 @@ write_faults sink = sink.faults
 abbrev pub door_faults : {R : Type 0} → TcpDoors R → ℕ
 door_faults doors = doors.faults
 
--- whether they accept connections at all
+-- whether they have a listener
 abbrev pub has_listener : {R : Type 0} → TcpDoors R → Bool
 has_listener doors = is_some doors.listener
 

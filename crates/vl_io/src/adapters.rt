@@ -1,6 +1,6 @@
 //! The real outside: standard streams and the system's clock. No clause says what these give and
-//! take, so the forms here tell nothing. Each counts its faults in a number that stands still at its
-//! end. Of a reader or a writer that does tell its bytes, it is proved that they are passed on.
+//! take, so the forms here tell nothing. Each counts its faults in a number that stops at its largest
+//! value. Of a reader or a writer that does tell its bytes, it is proved that they are passed on.
 ghost use Rattle.std.specs.Io.KnownBytes.{ReadConsumes as ReaderGives, WriteAppends as WriterTakes};
 ghost use Rattle.std.specs.Prelude.{◌≡◌, ◌≤◌, IfOk, None, length};
 ghost use Rattle.vl_io.specs.Adapters.{read_faults, reader_of, write_faults, writer_of};
@@ -8,12 +8,12 @@ ghost use Rattle.vl_io.specs.Bytes.{ReadConsumes, TakesSome, WriteAppends};
 ghost use Rattle.vl_io.specs.Faults.{HasCause};
 
 use crate::outside::{Clock, Failed, Sink, Source};
-use std::io::{Read, Write};
+use std::io::{ErrorKind, Read, Write};
 use std::rt::Clock as SystemTimer;
 use std::thread;
 use std::time::{Duration, SystemTime, UNIX_EPOCH};
 
-/// A source over a reader, as standard input.
+/// A source over a reader, as standard input. A read that is interrupted is tried again.
 #[derive(Debug, Drop)]
 pub struct InputSource<R> {
     reader: R,
@@ -35,6 +35,7 @@ impl<R: Read> Source for InputSource<R> {
 
     ghost faults = { read_faults };
 
+    #[tactic(auto, using(crate::proofs::Passing::reads_at_last))]
     fn read(&mut self, buf: &mut [u8]) -> Result<usize, Failed>
         ensures bound { IfOk result (λ n. n ≤ length buf.new) }
         ensures bytes { ReadConsumes None None result buf.new }
@@ -42,17 +43,22 @@ impl<R: Read> Source for InputSource<R> {
         ensures passed { ReaderGives (R.remaining (reader_of self.old))
             (R.remaining (reader_of self.new)) result buf.new }
     {
-        match self.reader.read(buf) {
-            Ok(count) => Ok(count),
-            Err(_) => {
-                self.faults = self.faults.saturating_add(1);
-                Err(Failed)
+        for _ in 0..u64::MAX {
+            match self.reader.read(buf) {
+                Ok(count) => return Ok(count),
+                Err(fault) if fault.kind() == ErrorKind::Interrupted => {
+                    self.faults = self.faults.saturating_add(1);
+                }
+                Err(_) => break,
             }
         }
+        self.faults = self.faults.saturating_add(1);
+        Err(Failed)
     }
 }
 
-/// A sink over a writer that has no buffer of its own, as standard output and standard error.
+/// A sink over a writer that has no buffer of its own, as standard output and standard error. A write that is
+/// interrupted is tried again.
 #[derive(Debug, Drop)]
 pub struct OutputSink<W> {
     writer: W,
@@ -74,7 +80,8 @@ impl<W: Write> Sink for OutputSink<W> {
 
     ghost faults = { write_faults };
 
-    /// Returns a writer that takes no byte of a piece that has some failed.
+    /// Writes to the writer. A writer that takes no byte of a piece that is not empty has failed.
+    #[tactic(auto, using(crate::proofs::Passing::writes_at_last))]
     fn write(&mut self, piece: &[u8]) -> Result<usize, Failed>
         ensures bound { TakesSome result piece.now }
         ensures bytes { WriteAppends None None result piece.now }
@@ -82,21 +89,25 @@ impl<W: Write> Sink for OutputSink<W> {
         ensures passed { WriterTakes (W.contents (writer_of self.old))
             (W.contents (writer_of self.new)) result piece.now }
     {
-        match self.writer.write(piece) {
-            Ok(count) if count > 0 || piece.is_empty() => Ok(count),
-            _ => {
-                self.faults = self.faults.saturating_add(1);
-                Err(Failed)
+        for _ in 0..u64::MAX {
+            match self.writer.write(piece) {
+                Ok(count) if count > 0 || piece.is_empty() => return Ok(count),
+                Err(fault) if fault.kind() == ErrorKind::Interrupted => {
+                    self.faults = self.faults.saturating_add(1);
+                }
+                _ => break,
             }
         }
+        self.faults = self.faults.saturating_add(1);
+        Err(Failed)
     }
 }
 
 /// How long `pause` of the system's clock waits, in milliseconds.
 const PAUSE: u64 = 1;
 
-/// The system's clock. Where it can't be read, or stands before 1970, it gives 0, and past the last
-/// moment of an `i64` that one.
+/// The system's clock. Where it can't be read, or stands before 1970, it gives 0, and after the last
+/// moment of an `i64` that moment.
 #[derive(Debug, Drop)]
 pub struct SystemClock<R> {
     rt: R,

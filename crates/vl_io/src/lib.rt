@@ -11,6 +11,7 @@ mod memory;
 mod outside;
 mod sure;
 mod tcp;
+mod timed;
 mod transfer;
 
 pub use adapters::{InputSource, OutputSink, SystemClock};
@@ -18,5 +19,5 @@ pub use lines::GroupReader;
 pub use memory::{MemClock, MemDoors, MemSink, MemSource};
 pub use outside::{Clock, Doors, Failed, Sink, Source, Visit, VisitKind};
 pub use sure::{SureSink, SureSource};
-pub use tcp::{TcpDoors, TcpVisit};
+pub use tcp::{Listening, TcpDoors, TcpVisit};
 pub use transfer::{ReadFault, put_all};

@@ -2,13 +2,13 @@
 
 use std::alloc::{AllocError, Global};
 use std::io::Write;
-use std::net::{TcpListener, TcpStream};
+use std::net::TcpStream;
 use std::rt::Clock as SystemTimer;
 use std::test::Fail;
 use std::{io, thread};
 use vl_io::{
-    Doors, Failed, GroupReader, MemClock, MemDoors, MemSource, ReadFault, Source, SureSink,
-    TcpDoors, TcpVisit, Visit, VisitKind, put_all,
+    Doors, Failed, GroupReader, Listening, MemClock, MemDoors, MemSource, ReadFault, Source,
+    SureSink, TcpDoors, TcpVisit, Visit, VisitKind, put_all,
 };
 
 /// Doors in memory, whose visitors send these texts.
@@ -84,24 +84,16 @@ fn doors_are_asked_side_by_side(rt: HostRuntime) -> Result<(), Fail> {
 #[test]
 fn doors_without_a_listener_fail(rt: HostRuntime) -> Result<(), Fail> {
     // An address needs a port.
-    let mut closed = TcpDoors::listen(&rt, rt.alloc(), "127.0.0.1", VisitKind::Http, 2)?;
-    assert!(rt; closed.len() == 2);
-    thread::for_each_mut(
-        &rt,
-        closed.as_mut_slice(),
-        2,
-        &|_, doors| {
-            let _ = doors.next();
-        },
-    );
-    for doors in &mut closed {
-        assert!(rt; matches!(doors.next(), Err(Failed)));
-    }
+    let nowhere = Listening::at(&rt, rt.alloc(), "127.0.0.1")?;
+    assert!(rt; nowhere.address().is_err());
+    let mut closed = nowhere.door(&rt, rt.alloc(), VisitKind::Http)?;
+    assert!(rt; matches!(closed.next(), Err(Failed)));
+    assert!(rt; matches!(closed.next(), Err(Failed)));
     Ok(())
 }
 
 /// Sends the visitor's first line back.
-fn echo<R: Drop>(alloc: Global, mut visit: TcpVisit<R>) -> Result<(), ReadFault> {
+fn echo<R: SystemTimer + Drop>(alloc: Global, mut visit: TcpVisit<R>) -> Result<(), ReadFault> {
     let mut reader = GroupReader::of(alloc, 1, 16)?;
     reader.advance(&mut visit.source)?;
     put_all(&mut visit.sink, reader.group())?;
@@ -121,9 +113,10 @@ fn serve_next<R: SystemTimer + Copy + Drop>(
 
 #[test]
 fn a_listener_gives_its_connections(rt: HostRuntime) -> Result<(), Fail> {
-    let listener = TcpListener::bind(&rt, "127.0.0.1:0")?;
-    let address = listener.local_addr()?;
-    let mut doors = TcpDoors::new(&rt, Some(listener), VisitKind::Http);
+    // The system chooses the port.
+    let listening = Listening::at(&rt, rt.alloc(), "127.0.0.1:0")?;
+    let address = listening.address()?;
+    let mut doors = listening.door(&rt, rt.alloc(), VisitKind::Http)?;
     let mut first = TcpStream::connect(&rt, address)?;
     let mut second = TcpStream::connect(&rt, address)?;
     first.write_all(b"first\n")?;

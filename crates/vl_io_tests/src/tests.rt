@@ -49,6 +49,44 @@ impl Read for BrokenReader {
     }
 }
 
+/// Reads from a slice and writes to a list. Each of its first calls is interrupted.
+#[derive(Drop)]
+struct Interrupted<'a> {
+    given: &'a [u8],
+    taken: &'a mut Vec<u8>,
+    interruptions: u32,
+}
+
+impl Interrupted<'_> {
+    /// Fails, as long as interruptions are left.
+    fn interrupted(&mut self) -> io::Result<()> {
+        if self.interruptions == 0 {
+            return Ok(());
+        }
+        self.interruptions -= 1;
+        Err(ErrorKind::Interrupted.into())
+    }
+}
+
+impl Read for Interrupted<'_> {
+    fn read(&mut self, buf: &mut [u8]) -> io::Result<usize> {
+        self.interrupted()?;
+        self.given.read(buf)
+    }
+}
+
+impl Write for Interrupted<'_> {
+    fn write(&mut self, buf: &[u8]) -> io::Result<usize> {
+        self.interrupted()?;
+        self.taken.extend_from_slice(buf)?;
+        Ok(buf.len())
+    }
+
+    fn flush(&mut self) -> io::Result<()> {
+        Ok(())
+    }
+}
+
 /// Returns what a read gave, and `failed` where it failed.
 fn given<'a, S: Source>(source: &mut S, buf: &'a mut [u8]) -> &'a [u8] {
     match source.read(buf) {
@@ -128,6 +166,26 @@ fn a_clock_gives_its_moments_and_then_the_last(rt: HostRuntime) -> Result<(), Fa
     let mut clock = SystemClock::new(&rt);
     clock.pause();
     assert!(rt; clock.now() > 1_600_000_000_000_000_000);
+    Ok(())
+}
+
+#[test]
+fn an_interrupted_call_is_tried_again(rt: HostRuntime) -> Result<(), Fail> {
+    let mut taken = Vec::new(rt.alloc());
+    let mut source = InputSource::new(Interrupted {
+        given: b"line",
+        taken: &mut taken,
+        interruptions: 3,
+    });
+    assert!(rt; gives(&mut source, 4, &["line", ""]));
+    let mut sink = OutputSink::new(Interrupted {
+        given: b"",
+        taken: &mut taken,
+        interruptions: 3,
+    });
+    assert!(rt; put_all(&mut sink, b"stored").is_ok());
+    drop(sink);
+    assert!(rt; taken.as_slice() == b"stored".as_slice());
     Ok(())
 }
 

@@ -18,11 +18,16 @@ use Rattle.vl_status.specs.Status.{status_number}
 use Rattle.vl_status.specs.declared.status.Status.{Status}
 use Rattle.vl_status.specs.declared.status.Status.TheVariants.{Done, DoorFault, Limit, NoMemory, QueryRefused}
 use Rattle.vl_status.specs.declared.status.Status.TheVariants.{ReadFault, Usage, WriteFault}
-use Rattle.vl_top.specs.Run.{CannotBeAsked, EndsCommand, GoesWell, IsAsked, IsNoCommand, IsRun}
+use Rattle.vl_top.specs.Run.{CannotBeAsked, EndsTask, GoesWell, IsAsked, IsNoCommand, IsRun}
 use Rattle.vl_top.specs.Run.{IsServe, IsTrial, Run, Says, pipe_run, usage_text}
 use Rattle.vl_top.specs.Server.{HasFailedDoor}
+use Rattle.vl_top.specs.Task.{PipeWords, Task, pipes, serves, task_of, tries}
 
 -- ---- what a command says
+
+-- the words of `pipe`
+abbrev pipe_words : Option (List ℕ) → List ℕ → PipeWords
+pipe_words fields text = record { stream_fields = fields; query = text }
 
 -- The clock's first reading was this.
 abbrev FirstReading : Run → ℕ → Type 0
@@ -31,7 +36,7 @@ FirstReading run now = FirstTold run.does.moments_before run.does.moments_after 
 module _ (run : Run) where
   says_readable : (fields : Option (List ℕ)) (text : List ℕ) (now : ℕ) (status : Status)
       → IsCommand run.words (Pipe fields text) → FirstReading run now
-      → EndsReadable (pipe_run run.does fields text now) status → Says run status
+      → EndsReadable (pipe_run run.does (pipe_words fields text) now) status → Says run status
   says_readable fields text now Done is first e =
       (Pipe fields text, is, record { query = e.query; spelled = e.spelled; now = now; first = first; facts = e.ends })
   says_readable fields text now QueryRefused is first e = inr
@@ -50,7 +55,7 @@ module _ (run : Run) where
       (Pipe fields text, is, record { query = e.query; spelled = e.spelled; now = now; first = first; facts = e.ends })
 
   says_refused : (fields : Option (List ℕ)) (text : List ℕ) (now : ℕ) (status : Status)
-      → IsCommand run.words (Pipe fields text) → EndsRefused (pipe_run run.does fields text now) status → Says run status
+      → IsCommand run.words (Pipe fields text) → EndsRefused (pipe_run run.does (pipe_words fields text) now) status → Says run status
   says_refused fields text now status is e = by_said e.refusal e.refused e.said
     where
       by_said : (refusal : QueryRefusal) → Refuses text refusal → ReportsRefused run.does.errors refusal status
@@ -62,7 +67,7 @@ module _ (run : Run) where
       by_said Memory why (inl told) = absurd (told.1 refl)
       by_said refusal why (inr told) = subst (Says run) (sym told.0) (inl (e.unread, told.1))
 
-  says : (command : Command) (status : Status) → IsCommand run.words command → EndsCommand run.does command status
+  says : (command : Command) (status : Status) → IsCommand run.words command → EndsTask run.does (task_of command) status
       → Says run status
   says (Pipe fields text) status is (now, first, inl e) = says_readable fields text now status is first e
   says (Pipe fields text) status is (now, first, inr e) = says_refused fields text now status is e
@@ -87,7 +92,7 @@ module _ (run : Run) where
 
 module _ (run : Run) where
   -- a query that cannot be asked is refused
-  refuses : (command : Command) (status : Status) → EndsCommand run.does command status → CannotBeAsked command
+  refuses : (command : Command) (status : Status) → EndsTask run.does (task_of command) status → CannotBeAsked (task_of command)
       → (status ≡ QueryRefused) ⊎ (status ≡ NoMemory)
   refuses (Pipe fields text) status (now, first, inl e) cannot = absurd (e.askable cannot)
   refuses (Pipe fields text) status (now, first, inr e) cannot = by_said e.said
@@ -100,7 +105,7 @@ module _ (run : Run) where
 
   well : (fields : Option (List ℕ)) (text : List ℕ) (now : ℕ) (status : Status)
       → IsCommand run.words (Pipe fields text) → FirstReading run now
-      → EndsReadable (pipe_run run.does fields text now) status → (HasFailed run.does.source → ⊥)
+      → EndsReadable (pipe_run run.does (pipe_words fields text) now) status → (HasFailed run.does.source → ⊥)
       → (HasFailed run.does.output → ⊥) → (HasFailed run.does.errors → ⊥) → GoesWell run status
   well fields text now Done is first e source output errors = tt
   well fields text now QueryRefused is first e source output errors =
@@ -122,8 +127,8 @@ module _ (run : Run) where
   well_refused refusal status free (inl told) = absurd (told.1 free)
   well_refused refusal status free (inr told) = subst (GoesWell run) (sym told.0) tt
 
-  goes_well : (command : Command) (status : Status) → IsCommand run.words command → EndsCommand run.does command status
-      → IsAsked command → (HasFailed run.does.source → ⊥) → (HasFailed run.does.output → ⊥)
+  goes_well : (command : Command) (status : Status) → IsCommand run.words command → EndsTask run.does (task_of command) status
+      → IsAsked (task_of command) → (HasFailed run.does.source → ⊥) → (HasFailed run.does.output → ⊥)
       → (HasFailed run.does.errors → ⊥) → GoesWell run status
   goes_well (Pipe fields text) status is (now, first, inl e) asked source output errors =
       well fields text now status is first e source output errors
@@ -132,7 +137,7 @@ module _ (run : Run) where
   goes_well (Trial seed rows) status is e asked source output errors = absurd asked
   goes_well (Serve http syslog workers) status is e asked source output errors = absurd asked
 
-  trial_goes : (command : Command) (status : Status) → EndsCommand run.does command status → IsTrial command
+  trial_goes : (command : Command) (status : Status) → EndsTask run.does (task_of command) status → IsTrial (task_of command)
       → (HasFailed run.does.output → ⊥) → (status ≡ Done) ⊎ (status ≡ NoMemory)
   trial_goes (Pipe fields text) status e trial output = absurd trial
   trial_goes (Trial seed rows) Done e trial output = inl refl
@@ -145,7 +150,7 @@ module _ (run : Run) where
   trial_goes (Trial seed rows) NoMemory e trial output = inr refl
   trial_goes (Serve http syslog workers) status e trial output = absurd trial
 
-  server_goes : (command : Command) (status : Status) → EndsCommand run.does command status → IsServe command
+  server_goes : (command : Command) (status : Status) → EndsTask run.does (task_of command) status → IsServe (task_of command)
       → (HasFailedDoor run.does.doors → ⊥) → (status ≡ Done) ⊎ (status ≡ NoMemory)
   server_goes (Pipe fields text) status e serve doors = absurd serve
   server_goes (Trial seed rows) status e serve doors = absurd serve
@@ -163,7 +168,7 @@ module _ (run : Run) where
 module _ (run : Run) where
   -- the words are a command, and no other one
   pub command_runs : ((a b : Command) → IsCommand run.words a → IsCommand run.words b → a ≡ b) → (command : Command)
-      (status : Status) → IsCommand run.words command → EndsCommand run.does command status
+      (status : Status) → IsCommand run.words command → EndsTask run.does (task_of command) status
       → run.status ≡ status_number status → IsRun run
   command_runs one command status is ends number = record {
     status = status;
@@ -171,10 +176,10 @@ module _ (run : Run) where
     says = says run command status is ends;
     unusable = λ none. absurd (none command is);
     unasked = λ other. refuses run command status ends
-        (subst CannotBeAsked (one other.0 command other.1 is) other.2);
-    query = λ other. goes_well run command status is ends (subst IsAsked (one other.0 command other.1 is) other.2);
-    trial = λ other. trial_goes run command status ends (subst IsTrial (one other.0 command other.1 is) other.2);
-    server = λ other. server_goes run command status ends (subst IsServe (one other.0 command other.1 is) other.2);
+        (subst (λ c. CannotBeAsked (task_of c)) (one other.0 command other.1 is) other.2);
+    query = λ other. goes_well run command status is ends (subst (λ c. IsAsked (task_of c)) (one other.0 command other.1 is) other.2);
+    trial = λ other. trial_goes run command status ends (subst (λ c. IsTrial (task_of c)) (one other.0 command other.1 is) other.2);
+    server = λ other. server_goes run command status ends (subst (λ c. IsServe (task_of c)) (one other.0 command other.1 is) other.2);
   }
 
   -- memory ran out, and nothing was read

@@ -9,7 +9,6 @@ use Rattle.vl_pipe.specs.Asked.{IsNoReadableQuery, IsReadableQuery}
 use Rattle.command_line.specs.Asked.{IsCommand}
 use Rattle.command_line.specs.Faults.{fault_text}
 use Rattle.command_line.specs.declared.command.Command.{Command}
-use Rattle.command_line.specs.declared.command.Command.TheVariants.{Pipe, Trial, Serve}
 use Rattle.command_line.specs.declared.fault.UsageFault.TheVariants as faults
 use Rattle.vl_pipe.specs.Ended.{IsAnswerCut, IsAnswered, IsNamingCut, IsStopped, IsUnanswered}
 use Rattle.vl_pipe.specs.Groups.{arrival_at}
@@ -23,6 +22,7 @@ use Rattle.vl_status.specs.declared.status.Status.TheVariants.{Done, DoorFault, 
 use Rattle.vl_status.specs.declared.status.Status.TheVariants.{QueryRefused, ReadFault, Usage, WriteFault}
 use Rattle.vl_top.specs.Doors.{DoorChange, IsOver}
 use Rattle.vl_top.specs.Server.{AreDone, EndsServer, HasFailedDoor, door_fault_text}
+use Rattle.vl_top.specs.Task.{PipeWords, Task, pipes, serves, task_of, tries}
 use Rattle.vl_top.specs.Trial.{EndsTrial, IsTrialCut, IsTrialDone}
 
 -- what is done to each object of the outside, and what the clock gave before and after
@@ -40,47 +40,43 @@ pub record Run : Type 0 where
   pub does : Effects
   pub status : ℕ
 
--- ---- commands
+-- ---- tasks
 
--- the words are a command for which this holds
-abbrev pub ForCommand : List (List ℕ) → (Command → Type 0) → Type 0
-ForCommand words holds = (command : Command) × IsCommand words command × holds command
+-- the words are a command, and of its task this holds
+abbrev pub ForTask : List (List ℕ) → (Task → Type 0) → Type 0
+ForTask words holds = (command : Command) × IsCommand words command × holds (task_of command)
 
 -- the words are not a command
 abbrev pub IsNoCommand : List (List ℕ) → Type 0
 IsNoCommand words = (command : Command) → IsCommand words command → ⊥
 
--- the command asks a query that can be asked
-abbrev pub IsAsked : Command → Type 0
-IsAsked (Pipe fields text) = IsReadableQuery text
-IsAsked (Trial seed rows) = ⊥
-IsAsked (Serve http syslog workers) = ⊥
+-- the task is a query that can be asked
+abbrev pub IsAsked : Task → Type 0
+IsAsked (pipes words) = IsReadableQuery words.query
+IsAsked task = ⊥
 
--- it asks one that cannot be asked
-abbrev pub CannotBeAsked : Command → Type 0
-CannotBeAsked (Pipe fields text) = IsNoReadableQuery text
-CannotBeAsked (Trial seed rows) = ⊥
-CannotBeAsked (Serve http syslog workers) = ⊥
+-- the task is a query that cannot be asked
+abbrev pub CannotBeAsked : Task → Type 0
+CannotBeAsked (pipes words) = IsNoReadableQuery words.query
+CannotBeAsked task = ⊥
 
-abbrev pub IsTrial : Command → Type 0
-IsTrial (Pipe fields text) = ⊥
-IsTrial (Trial seed rows) = Unit {0}
-IsTrial (Serve http syslog workers) = ⊥
+abbrev pub IsTrial : Task → Type 0
+IsTrial (tries words) = Unit {0}
+IsTrial task = ⊥
 
-abbrev pub IsServe : Command → Type 0
-IsServe (Pipe fields text) = ⊥
-IsServe (Trial seed rows) = ⊥
-IsServe (Serve http syslog workers) = Unit {0}
+abbrev pub IsServe : Task → Type 0
+IsServe (serves words) = Unit {0}
+IsServe task = ⊥
 
 -- the words have the input read
 abbrev pub Reads : List (List ℕ) → Type 0
-Reads words = ForCommand words IsAsked
+Reads words = ForTask words IsAsked
 
 -- the words have the doors served
 abbrev pub Serves : List (List ℕ) → Type 0
-Serves words = ForCommand words IsServe
+Serves words = ForTask words IsServe
 
--- ---- the result of a command
+-- ---- the result of a task
 
 -- The clock's first reading was `now`, and for it this holds.
 abbrev pub ForMoment : Effects → (ℕ → Type 0) → Type 0
@@ -94,49 +90,52 @@ pub record ForQuery (does : Effects) (text : List ℕ) (holds : Question → ℕ
   pub first : FirstTold does.moments_before does.moments_after now
   pub facts : holds query now
 
--- the command did all that it is to do
-abbrev pub IsDone : Effects → Command → Type 0
-IsDone does (Pipe fields text) =
-    ForQuery does text (λ query now. IsAnswered query (arrival_at fields now) does.source does.output does.errors)
-IsDone does (Trial seed rows) =
-    IsUnread does.source × ForMoment does (λ now. IsTrialDone seed rows now does.output does.errors)
-IsDone does (Serve http syslog workers) =
-    IsUnread does.source × IsUntold does.output × IsUntold does.errors × AreDone does.doors
+-- all that the task is was done
+abbrev pub IsDone : Effects → Task → Type 0
+IsDone does (pipes words) =
+    ForQuery does words.query
+    (λ query now. IsAnswered query (arrival_at words.stream_fields now) does.source does.output does.errors)
+IsDone does (tries words) =
+    IsUnread does.source × ForMoment does (λ now. IsTrialDone words.seed words.rows now does.output does.errors)
+IsDone does (serves words) = IsUnread does.source × IsUntold does.output × IsUntold does.errors × AreDone does.doors
 
--- what the command writes was written only up to some place
-abbrev pub IsCutShort : Effects → Command → Type 0
-IsCutShort does (Pipe fields text) =
-    ForQuery does text
-    (λ query now. IsAnswerCut query (arrival_at fields now) does.source does.output does.errors
-    ⊎ IsNamingCut (arrival_at fields now) does.source does.output does.errors)
-IsCutShort does (Trial seed rows) =
-    IsUnread does.source × ForMoment does (λ now. IsTrialCut seed rows now does.output does.errors)
-IsCutShort does command = ⊥
+-- what is to be written was written only up to some place
+abbrev pub IsCutShort : Effects → Task → Type 0
+IsCutShort does (pipes words) =
+    ForQuery does words.query
+    (λ query now. IsAnswerCut query (arrival_at words.stream_fields now) does.source does.output does.errors
+    ⊎ IsNamingCut (arrival_at words.stream_fields now) does.source does.output does.errors)
+IsCutShort does (tries words) =
+    IsUnread does.source × ForMoment does (λ now. IsTrialCut words.seed words.rows now does.output does.errors)
+IsCutShort does task = ⊥
 
 -- the query stopped for this cause
-abbrev pub HasStopped : Effects → Stop → Command → Type 0
-HasStopped does stop (Pipe fields text) =
-    ForQuery does text (λ query now. IsStopped (arrival_at fields now) does.source does.errors stop)
-HasStopped does stop command = ⊥
+abbrev pub HasStopped : Effects → Stop → Task → Type 0
+HasStopped does stop (pipes words) =
+    ForQuery does words.query
+    (λ query now. IsStopped (arrival_at words.stream_fields now) does.source does.errors stop)
+HasStopped does stop task = ⊥
 
 -- the query was refused before anything was read, for this cause, which is said
-abbrev pub IsRefused : Effects → Refusal → Command → Type 0
-IsRefused does refusal (Pipe fields text) =
-    IsRefusedText text refusal × IsUnread does.source × IsTold does.errors [] (said_of_query (refusal_text refusal))
-IsRefused does refusal command = ⊥
+abbrev pub IsRefused : Effects → Refusal → Task → Type 0
+IsRefused does refusal (pipes words) =
+    IsRefusedText words.query refusal × IsUnread does.source
+    × IsTold does.errors [] (said_of_query (refusal_text refusal))
+IsRefused does refusal task = ⊥
 
 -- the evaluation of the query overflows
-abbrev pub HasNoAnswer : Effects → Command → Type 0
-HasNoAnswer does (Pipe fields text) =
-    ForQuery does text (λ query now. IsUnanswered query (arrival_at fields now) does.source does.errors)
-HasNoAnswer does command = ⊥
+abbrev pub HasNoAnswer : Effects → Task → Type 0
+HasNoAnswer does (pipes words) =
+    ForQuery does words.query
+    (λ query now. IsUnanswered query (arrival_at words.stream_fields now) does.source does.errors)
+HasNoAnswer does task = ⊥
 
 -- Each door was served until it failed or had no visit left, and one failed, which is said.
-abbrev pub IsDoorFault : Effects → Command → Type 0
-IsDoorFault does (Serve http syslog workers) =
+abbrev pub IsDoorFault : Effects → Task → Type 0
+IsDoorFault does (serves words) =
     IsUnread does.source × HasFailedDoor does.doors × AllByRecursion IsOver does.doors
     × IsTold does.errors [] door_fault_text
-IsDoorFault does command = ⊥
+IsDoorFault does task = ⊥
 
 -- memory ran out, and nothing was read
 abbrev pub IsUnstarted : Effects → Type 0
@@ -149,23 +148,23 @@ usage_text = fault_text faults.Usage ++ 10 ∷ []
 abbrev pub Says : Run → Status → Type 0
 -- A query has its answer, which is the naive evaluation over the batches that the input is. A trial has the lines of
 -- its queries. The doors of a server have no visit left.
-Says run Done = ForCommand run.words (IsDone run.does)
+Says run Done = ForTask run.words (IsDone run.does)
 -- The query is refused before anything is read, or its evaluation overflows.
 Says run QueryRefused =
-    ((refusal : Refusal) × ForCommand run.words (IsRefused run.does refusal))
-    ⊎ ForCommand run.words (HasNoAnswer run.does)
+    ((refusal : Refusal) × ForTask run.words (IsRefused run.does refusal))
+    ⊎ ForTask run.words (HasNoAnswer run.does)
 Says run Usage = IsNoCommand run.words × IsTold run.does.errors [] usage_text
-Says run ReadFault = ForCommand run.words (HasStopped run.does unreadable)
-Says run WriteFault = ForCommand run.words (IsCutShort run.does)
-Says run DoorFault = ForCommand run.words (IsDoorFault run.does)
-Says run AtLimit = (limit : Limit) × ForCommand run.words (HasStopped run.does (beyond limit))
-Says run NoMemory = IsUnstarted run.does ⊎ ForCommand run.words (HasStopped run.does no_memory)
+Says run ReadFault = ForTask run.words (HasStopped run.does unreadable)
+Says run WriteFault = ForTask run.words (IsCutShort run.does)
+Says run DoorFault = ForTask run.words (IsDoorFault run.does)
+Says run AtLimit = (limit : Limit) × ForTask run.words (HasStopped run.does (beyond limit))
+Says run NoMemory = IsUnstarted run.does ⊎ ForTask run.words (HasStopped run.does no_memory)
 
 -- The status of a query where nothing fails: it is answered, or overflows, or the input is beyond a limit, or memory
 -- runs out.
 abbrev pub GoesWell : Run → Status → Type 0
 GoesWell run Done = Unit {0}
-GoesWell run QueryRefused = ForCommand run.words (HasNoAnswer run.does)
+GoesWell run QueryRefused = ForTask run.words (HasNoAnswer run.does)
 GoesWell run AtLimit = Unit {0}
 GoesWell run NoMemory = Unit {0}
 GoesWell run status = ⊥
@@ -176,28 +175,28 @@ pub record IsRun (run : Run) : Type 0 where
   pub number : run.status ≡ status_number status
   pub says : Says run status
   pub unusable : IsNoCommand run.words → (status ≡ Usage) ⊎ (status ≡ NoMemory)
-  pub unasked : ForCommand run.words CannotBeAsked → (status ≡ QueryRefused) ⊎ (status ≡ NoMemory)
-  pub query : ForCommand run.words IsAsked → ¬ HasFailed run.does.source → ¬ HasFailed run.does.output
+  pub unasked : ForTask run.words CannotBeAsked → (status ≡ QueryRefused) ⊎ (status ≡ NoMemory)
+  pub query : ForTask run.words IsAsked → ¬ HasFailed run.does.source → ¬ HasFailed run.does.output
       → ¬ HasFailed run.does.errors → GoesWell run status
   -- Where nothing fails, a trial and a server do all that they are to do, or memory runs out.
-  pub trial : ForCommand run.words IsTrial → ¬ HasFailed run.does.output → (status ≡ Done) ⊎ (status ≡ NoMemory)
-  pub server : ForCommand run.words IsServe → ¬ HasFailedDoor run.does.doors → (status ≡ Done) ⊎ (status ≡ NoMemory)
+  pub trial : ForTask run.words IsTrial → ¬ HasFailed run.does.output → (status ≡ Done) ⊎ (status ≡ NoMemory)
+  pub server : ForTask run.words IsServe → ¬ HasFailedDoor run.does.doors → (status ≡ Done) ⊎ (status ≡ NoMemory)
 
--- ---- commands that were read
+-- ---- tasks that were begun
 
 -- what `pipe` is asked at this moment, and what it does
-abbrev pub pipe_run : Effects → Option (List ℕ) → List ℕ → ℕ → PipeRun
-pipe_run does fields text now = record {
-  asked = record { arrival = arrival_at fields now; query = text };
+abbrev pub pipe_run : Effects → PipeWords → ℕ → PipeRun
+pipe_run does words now = record {
+  asked = record { arrival = arrival_at words.stream_fields now; query = words.query };
   source = does.source;
   output = does.output;
   errors = does.errors;
 }
 
--- how a command ends, by its status
-abbrev pub EndsCommand : Effects → Command → Status → Type 0
-EndsCommand does (Pipe fields text) status = ForMoment does (λ now. IsPiped (pipe_run does fields text now) status)
-EndsCommand does (Trial seed rows) status =
-    IsUnread does.source × ForMoment does (λ now. EndsTrial seed rows now does.output does.errors status)
-EndsCommand does (Serve http syslog workers) status =
+-- how a task ends, by its status
+abbrev pub EndsTask : Effects → Task → Status → Type 0
+EndsTask does (pipes words) status = ForMoment does (λ now. IsPiped (pipe_run does words now) status)
+EndsTask does (tries words) status =
+    IsUnread does.source × ForMoment does (λ now. EndsTrial words.seed words.rows now does.output does.errors status)
+EndsTask does (serves words) status =
     IsUnread does.source × IsUntold does.output × EndsServer does.errors does.doors status

@@ -26,7 +26,7 @@ pub(crate) fn serve_door<R: Wait, D: Doors>(
 {
     'visits: for _ in rt.forever() {
         match door.next() {
-            Ok(Some(visit)) => serve_visit(rt, alloc, desk, pass, visit),
+            Ok(Some(mut visit)) => serve_visit(rt, alloc, desk, pass, &mut visit),
             Ok(None) => return false,
             Err(Failed) => return true,
         }

@@ -28,7 +28,6 @@ where
     ensures ends { EndsServer (change_of E.written E.faults err.old err.new)
         (door_changes D.left D.faults doors.old.items doors.new.items) result }
     ensures doors { length doors.new.items ≡ length doors.old.items }
-    ensures clock { clock.new ≡ clock.old }
 {
     // One pass for each door, and the one that they are split from.
     let passes = doors.len() as u32 + 1;

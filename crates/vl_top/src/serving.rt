@@ -60,7 +60,6 @@ where
     ensures pass { IsPassOf desk.now pass.new }
     ensures may_settle { pass.new.may_settle ≡ pass.old.may_settle }
     ensures goes_on { GoesOn (seen_of pass.old) (seen_of pass.new) }
-    ensures clock { clock.new ≡ clock.old }
 {
     let count = doors.len();
     let (Ok(workers), Ok(room)) = (

@@ -6,7 +6,8 @@ use Rattle.vl_status.specs.Status.{status_number}
 use Rattle.vl_pipe.specs.Pipe.{IsPiped}
 use Rattle.vl_top.specs.Doors.{door_changes}
 use Rattle.vl_top.proofs.RunLemmas.{command_runs, no_memory_runs, usage_runs}
-use Rattle.vl_top.specs.Run.{Effects, EndsCommand, Run}
+use Rattle.vl_top.specs.Run.{Effects, EndsTask, Run}
+use Rattle.vl_top.specs.Task.{task_of}
 use Rattle.vl_top.proofs.run.Goals as goal
 
 pub returns-in_default-clause-run : goal.returns-in_default-clause-run
@@ -47,7 +48,7 @@ returns-in-Ok-Pipe-clause-run g c =
       errors = does.errors;
     }) c.run_pipe.result) came c.run_pipe.ensures.ends in
     command_runs run (c.command_law.ensures words) c.in-Ok-Pipe.field-0 c.run_pipe.result c.in-Ok-Pipe.ensures.read
-    (subst (λ command. EndsCommand does command c.run_pipe.result) (sym c.in-Ok-Pipe.field-0-is)
+    (subst (λ command. EndsTask does (task_of command) c.run_pipe.result) (sym c.in-Ok-Pipe.field-0-is)
     (unsigned_abs c.now.result, FirstTold-from_one _ _ _ c.now.ensures.told, piped))
     c.number-in-Ok-Pipe.ensures
 
@@ -64,7 +65,7 @@ returns-in-Ok-Serve-clause-run g c =
     } in
     let run : Run = record { words = words; does = does; status = c.number-in-Ok-Serve.result } in
     command_runs run (c.command_law.ensures words) c.in-Ok-Serve.field-0 c.run_server.result c.in-Ok-Serve.ensures.read
-    (subst (λ command. EndsCommand does command c.run_server.result) (sym c.in-Ok-Serve.field-0-is)
+    (subst (λ command. EndsTask does (task_of command) c.run_server.result) (sym c.in-Ok-Serve.field-0-is)
     ((refl, refl), refl, c.run_server.ensures.ends))
     c.number-in-Ok-Serve.ensures
 
