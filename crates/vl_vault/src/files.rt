@@ -1,6 +1,7 @@
 //! The files of a directory, with the handles that are open. This is the edge where the program meets the file system:
 //! no clause says what these functions do there.
-ghost use Rattle.std.specs.Prelude.{◌≡◌, ◌<◌, ◌≤◌, [], IfOk, IfSome, IsSome, OnOk, false, length, true, vec_len};
+ghost use Rattle.std.specs.Prelude.{◌≡◌, ◌<◌, ◌≤◌, [], IfOk, IfSome, IsSome, OnOk, false, length};
+ghost use Rattle.std.specs.Prelude.{string_bytes, true, vec_len};
 ghost use Rattle.vl_vault.specs.Directory.{IsFound, IsOpen, place_of};
 
 use std::alloc::{AllocError, Global};
@@ -83,7 +84,9 @@ impl FileTable {
     }
 
     /// Returns the path that was used last.
-    pub fn path(&self) -> &str {
+    pub fn path(&self) -> &str
+        ensures { result.now ≡ string_bytes self.now.path }
+    {
         self.path.as_str()
     }
 

@@ -1,0 +1,5 @@
+pub mod Tearing
+pub mod StepLemmas
+pub mod SlotLemmas
+pub mod Live
+pub mod ReadLemmas

@@ -1,0 +1,146 @@
+#!/usr/bin/env bash
+# Tries the vault over a directory: against the vault in memory, under strace, with system calls that fail, on a full
+# disk, and beside a second program. Without strace it skips what needs it, and says so.
+# usage: tests/vault.sh [CALLS]     (2000 calls)
+set -u
+export LC_ALL=C.UTF-8
+top=$(cd "$(dirname "$0")/.." && pwd)
+vault=$top/crates/vault_stdio/out/vault_stdio
+calls=${1:-2000}
+[ -x "$vault" ] || { echo "vault.sh: $vault is not built: run rt run in its crate first" >&2; exit 2; }
+work=$(mktemp -d) || exit 2
+trap 'rm -rf "$work"' EXIT
+passed=0 failed=0
+check() { # NAME WANTED GOT
+  if [ "$2" = "$3" ]; then passed=$((passed + 1)); else failed=$((failed + 1)); printf 'FAILED %s\n  wanted: %s\n  got:    %s\n' "$1" "$2" "$3"; fi
+}
+
+# The same calls on both vaults.
+python3 - "$calls" >"$work/calls" <<'PYTHON'
+import random, sys
+random.seed(1)
+for _ in range(int(sys.argv[1])):
+    file = random.choice([0, 1, 2, 3, 7, 2 ** 63 - 1, 2 ** 64 - 1])
+    at, size = random.choice([0, 0, 1, 5, 40, 200]), random.choice([0, 1, 2, 9, 64, 300])
+    print(random.choice([f"length {file}", f"read {file} {at} {size}", f"read {file} {at} {size}",
+                         f"write {file} {at} {size} {random.randrange(251)}", f"write {file} {at} {size} 7",
+                         f"write {file} 0 {size} 3", f"cut {file} {at}", f"sync {file}", f"remove {file}"]))
+print("write 5 0 3000000 1\nread 5 0 4000000\nsync 5")
+PYTHON
+"$vault" memory <"$work/calls" >"$work/memory" 2>"$work/err"
+"$vault" write "$work/same" <"$work/calls" >"$work/directory" 2>>"$work/err"
+check "the same answers" "$(cksum <"$work/memory")" "$(cksum <"$work/directory")"
+check "no fault" "faults 0" "$(tail -1 "$work/directory")"
+check "nothing on standard error" "" "$(cat "$work/err")"
+# What a program wrote, the next one reads, also one that only reads.
+printf 'length %s\n' 0 1 2 3 7 9223372036854775807 18446744073709551615 5 >"$work/lengths"
+"$vault" write "$work/same" <"$work/lengths" >"$work/again"
+chmod -w "$work/same" && "$vault" read "$work/same" <"$work/lengths" >"$work/read_only"; chmod +w "$work/same"
+check "a reader reads the same" "$(cat "$work/again")" "$(cat "$work/read_only")"
+
+under_strace() {
+# What is not durable yet when a sync is answered.
+head -400 "$work/calls" >"$work/few"
+strace -o "$work/trace" -e trace=openat,open,pwrite64,ftruncate,unlink,unlinkat,fsync,fdatasync,mkdir,mkdirat,write,close \
+  "$vault" write "$work/traced" <"$work/few" >/dev/null 2>"$work/err"
+check "each change is synced before the answer" "nothing pending" "$(python3 - "$work/trace" "$work/few" "$work/traced" <<'PYTHON'
+import re, sys
+trace, lines, directory = sys.argv[1:]
+names, answers, dirty, entry = {}, 0, set(), False     # entry: a name was made or removed and the directory is not synced
+wanted = [line.split() for line in open(lines)]
+made, parent_synced, seen_change = False, False, 0
+for event in open(trace):
+    m = re.match(r'(\w+)\((.*)\)\s+= (-?\d+)', event)
+    if not m or int(m[3]) < 0: continue
+    call, words, value = m[1], m[2], int(m[3])
+    if call in ("open", "openat"):
+        path = re.search(r'"([^"]*)"', words)[1]
+        names[value] = path
+        if "O_CREAT" in words and path.startswith(directory + "/"): entry = True; dirty.add(path); seen_change += 1
+    elif call in ("mkdir", "mkdirat"): made = True
+    elif call in ("pwrite64", "ftruncate"):
+        dirty.add(names[int(words.split(",")[0])]); seen_change += 1
+    elif call in ("unlink", "unlinkat"):
+        path = re.search(r'"([^"]*)"', words)[1]
+        dirty.discard(path); entry = True; seen_change += 1
+    elif call in ("fsync", "fdatasync"):
+        path = names[int(words)].rstrip("/")
+        dirty.discard(path)
+        if path == directory: entry = False
+        if made and directory.startswith(path + "/"): parent_synced = True
+    elif call == "write" and words.startswith("1,"):
+        for _ in range(words.split('"')[1].count("\\n")):
+            if answers < len(wanted) and wanted[answers][0] == "sync":
+                path = directory + "/" + wanted[answers][1]
+                if path in dirty or entry: sys.exit(print(f"pending at line {answers + 1}: {wanted[answers]}"))
+            answers += 1
+if not (made and parent_synced): sys.exit(print("the directory is not synced into its parent"))
+print("nothing pending" if answers > len(wanted) and seen_change > 50 else f"only {answers} answers, {seen_change} changes")
+PYTHON
+)"
+
+# One system call that fails counts one fault, and the first says why. A signal counts none.
+fail() { # NAME PATH SYSTEM_CALL WHEN ERROR LINES WANTED_FAULTS WANTED_REASON
+  printf "$6" | strace -o "$work/trace" -e trace="$3" -P "$2" -e inject="$3:error=$5:when=$4" \
+    "$vault" write "$work/broken" >"$work/out" 2>"$work/err"
+  check "$1: a system call that failed" "yes" "$(grep -q INJECTED "$work/trace" && echo yes)"
+  check "$1: faults" "faults $7" "$(tail -1 "$work/out")"
+  check "$1: reason" "$8" "$(cat "$work/err")"
+}
+io='Input/output error (os error 5)' space='No space left on device (os error 28)'
+file=$work/broken/3 directory=$work/broken
+fail "a length" "$file" statx 1 EIO 'length 3\nlength 3\n' 1 "$file: $io"
+fail "a write" "$file" pwrite64 1 EIO 'write 3 0 5 1\nlength 3\n' 1 "$file: $io"
+fail "a write without space" "$file" pwrite64 1 ENOSPC 'write 3 0 5 1\nlength 3\n' 1 "$file: $space"
+fail "a write and a signal" "$file" pwrite64 1 EINTR 'write 3 0 5 1\nlength 3\n' 0 ""
+fail "a read" "$file" pread64 1 EIO 'read 3 0 5\nlength 3\n' 1 "$file: $io"
+fail "a read and a signal" "$file" pread64 1 EINTR 'read 3 0 5\nlength 3\n' 0 ""
+fail "a cut" "$file" ftruncate 1 EIO 'cut 3 1\nlength 3\n' 1 "$file: $io"
+fail "a cut and a signal" "$file" ftruncate 1 EINTR 'cut 3 1\nwrite 3 1 4 2\nlength 3\n' 0 ""
+fail "a removal" "$file" unlink 1 EIO 'remove 3\nlength 3\n' 1 "$file: $io"
+fail "a sync" "$file" fsync 1 EIO 'write 3 0 5 1\nsync 3\nlength 3\n' 1 "$file: $io"
+fail "a sync and a signal" "$file" fsync 1 EINTR 'write 3 0 5 1\nsync 3\nlength 3\n' 0 ""
+fail "a sync of the directory" "$directory" fsync 1 EIO 'write 3 0 5 1\nsync 3\nsync 3\n' 1 "$file: $io"
+fail "a sync of the directory and a signal" "$directory" fsync 1 EINTR 'sync 3\nsync 3\n' 0 ""
+fail "an opening" "$file" openat 1 EIO 'read 3 0 5\nlength 3\n' 1 "$file: $io"
+fail "an opening and a signal" "$file" openat 1 EINTR 'read 3 0 5\nlength 3\n' 0 ""
+fail "two faults" "$file" pwrite64 1+ EIO 'write 3 0 5 1\nwrite 3 0 5 1\n' 2 "$file: $io"
+fail "an opening of the directory" "$directory" openat 1 EIO 'length 3\n' 1 "$directory: $io"
+fail "a lock" "$directory" flock 1 EIO 'length 3\nsync 3\n' 2 "$directory: $io"
+fail "a lock and a signal" "$directory" flock 1 EINTR 'length 3\nsync 3\n' 0 ""
+fail "the directory's creation" "$directory" mkdir 1 EIO 'length 3\n' 1 "$directory: $io"
+}
+printf 'write 3 0 5 1\nsync 3\n' | "$vault" write "$work/broken" >/dev/null
+if command -v strace >/dev/null; then
+  under_strace
+else
+  echo "skipped: strace is missing, so no call was traced and no system call failed"
+fi
+
+# A full disk: the write that passes the limit is torn, and the next one is refused.
+full=$(printf 'write 1 0 3000 1\nlength 1\nwrite 1 1024 3000 5\nread 1 0 9\nsync 1\n' \
+  | (trap '' XFSZ; ulimit -f 2; "$vault" write "$work/full" 2>"$work/err"))
+check "a full disk" "$(printf 'failed\n2048\nfailed')" "$(printf '%s\n' "$full" | head -3)"
+check "a full disk: reason" "$work/full/1: File too large (os error 27)" "$(cat "$work/err")"
+
+# A second program on the same directory, and a directory that cannot be used.
+mkfifo "$work/held"
+"$vault" write "$work/alone" <"$work/held" >/dev/null &
+exec 3>"$work/held"
+for _ in $(seq 50); do [ -d "$work/alone" ] && break; sleep 0.1; done
+sleep 0.5
+second=$(echo 'length 3' | "$vault" write "$work/alone" 2>"$work/err")
+check "a second program" "$(printf 'failed\nfaults 1')" "$second"
+check "a second program: line" "$work/alone: another program uses this directory" "$(cat "$work/err")"
+reader=$(echo 'length 3' | "$vault" read "$work/alone" 2>"$work/err")
+check "a reader beside a writer" "$(printf 'failed\nfaults 1')" "$reader"
+exec 3>&-
+wait
+missing=$(printf 'length 3\nread 3 0 1\n' | "$vault" read "$work/none" 2>"$work/err")
+check "a missing directory" "$(printf 'failed\nfailed\nfaults 2')" "$missing"
+check "a missing directory: line" "$work/none: No such file or directory (os error 2)" "$(cat "$work/err")"
+changed=$(printf 'write 3 0 1 1\nremove 3\ncut 3 0\nlength 3\nsync 3\n' | "$vault" read "$work/broken" 2>/dev/null)
+check "a reader changes nothing" "$(printf 'failed\nfailed\nfailed\n5\ndone\nfaults 3')" "$changed"
+
+echo "$passed passed, $failed failed"
+[ "$failed" = 0 ]
