@@ -31,6 +31,7 @@ start_server() {
   local line words=(serve --http 127.0.0.1:0 --workers "$1")
   [ -z "${2:-}" ] || words+=(--syslog 127.0.0.1:0)
   http='' syslog=''
+  : > "$work/server_err"   # the line of an earlier server is not taken for that of this one
   "$program" "${words[@]}" < /dev/null > "$work/server_out" 2> "$work/server_err" &
   server=$!
   servers+=("$server")
