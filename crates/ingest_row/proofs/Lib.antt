@@ -7,3 +7,5 @@ pub mod SyslogRows
 pub mod OnlyRow
 pub mod OnlyKind
 pub mod OnlyIntake
+pub mod Far
+pub mod Listing

@@ -13,6 +13,12 @@ pub record SaysOnly (line : List ℕ) (fields : List Field) : Type 0 where
   pub says : Says line fields
   pub only : (other : List Field) → Says line other → other ≡ fields
 
+pub is_row_of_line : (o : Options) (now : ℤ) (line : List ℕ) (fields : List Field) (result : Result Row LineKind)
+    → SaysOnly line fields → IfOk result (λ row. IsRowOf o now fields row)
+    → IfOk result (λ row. IsRowOfLine o now line row)
+is_row_of_line o now line fields (Ok row) said is = record { fields = fields; says = said.says; is_row = is }
+is_row_of_line o now line fields (Err kind) said is = tt
+
 pub only_row_of_line : (o : Options) (now : ℤ) (line : List ℕ) (fields : List Field) (result : Result Row LineKind)
     → SaysOnly line fields → IfOk result (λ row. (other : Row) → IsRowOf o now fields other → other ≡ row)
     → IfOk result (λ row. (other : Row) → IsRowOfLine o now line other → other ≡ row)

@@ -1,11 +1,13 @@
 -- How a line of JSON becomes a row (VictoriaLogs, "Data ingestion": HTTP parameters).
-use Rattle.std.specs.Prelude.{◌≡◌, ◌⊎◌, ℕ, ℤ, Bool, ◌≤◌, ◌||◌, List, [], ◌∷◌, length, filter, fold, bytes_eq, codes}
-use Rattle.std.specs.Prelude.{unsigned_abs, None, not, IsTrue, IsFalse}
+use Rattle.std.specs.Prelude.{◌≡◌, ◌⊎◌, ℕ, ℤ, Bool, ◌≤◌, ◌||◌, ◌&&◌, List, [], ◌∷◌, length, filter, fold, bytes_eq}
+use Rattle.std.specs.Prelude.{codes, unsigned_abs, None, not, IsTrue, IsFalse}
+use Rattle.std.specs.List.{list_all}
 use Rattle.log_model.specs.Field.{Field, is_empty, field_value, set_field, set_all, without}
 use Rattle.log_model.specs.Row.{Row}
 use Rattle.log_model.specs.MomentText.{SpellsMoment, IsMomentInRange}
 use Rattle.log_model.specs.ObjectLine.{IsObjectLine}
 use Rattle.vl_row.specs.Faults.{stored, labels_of, row_fault}
+use Rattle.jsonline_in.specs.Near.{is_short}
 
 -- what is asked for beside the lines
 pub record Options : Type 0 where
@@ -27,6 +29,19 @@ plain = record {
 
 abbrev pub is_named : Field → Bool
 is_named field = not (is_empty field.0)
+
+-- whether none of the names of the moment, of the message, of what is ignored and of what is added has more than 128
+-- bytes
+abbrev pub have_short_names : List ℕ → List (List ℕ) → List (List ℕ) → List Field → Bool
+have_short_names time_field message_fields ignored_fields extra_fields =
+    is_short time_field && (list_all is_short message_fields && (list_all is_short ignored_fields
+    && list_all (λ field. is_short field.0) extra_fields))
+
+-- what is asked for names no long field, and what is added has names
+pub record AsksShort (options : Options) : Type 0 where
+  pub short : IsTrue (have_short_names options.time_field options.message_fields options.ignored_fields
+      options.extra_fields)
+  pub named : IsTrue (list_all is_named options.extra_fields)
 
 -- the fields that are not ignored
 abbrev pub kept : Options → List Field → List Field

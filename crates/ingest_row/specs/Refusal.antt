@@ -1,11 +1,12 @@
 -- Why a line gives no row.
-use Rattle.std.specs.Prelude.{◌≡◌, ◌⊎◌, ℕ, ℤ, ◌<◌, ◌≤◌, List, length, codes, Some}
+use Rattle.std.specs.Prelude.{◌≡◌, ◌⊎◌, ℕ, ℤ, ◌<◌, ◌≤◌, List, length, codes, false, Some}
 use Rattle.log_model.specs.Field.{Field}
 use Rattle.vl_row.specs.Faults.{row_fault}
 use Rattle.vl_row.specs.declared.row.RowFault.TheVariants as row
 use Rattle.jsonline_in.specs.Faults.{IsFault, SaysNothing}
 use Rattle.jsonline_in.specs.declared.fault.JsonFault.TheVariants as json
-use Rattle.ingest_row.specs.Ingest.{Options, Says, IsTimeOf, time_text, row_fields}
+use Rattle.jsonline_in.specs.Near.{AreKnown}
+use Rattle.ingest_row.specs.Ingest.{AsksShort, Options, Says, IsTimeOf, time_text, row_fields}
 use Rattle.ingest_row.specs.declared.kind.LineKind.{LineKind}
 use Rattle.ingest_row.specs.declared.kind.LineKind.TheVariants.{LineLong, NotUtf8, NotObject, TooDeep, NotJson}
 use Rattle.ingest_row.specs.declared.kind.LineKind.TheVariants.{BadTime, NameLong, ManyFields, RowLarge, Empty}
@@ -47,6 +48,12 @@ pub record HasRowFault (kind : LineKind) (options : Options) (now : ℤ) (fields
 abbrev pub IsFieldsFault : LineKind → Options → ℤ → List Field → Type 0
 IsFieldsFault kind options now fields =
     ((kind ≡ BadTime) × SaysNoTime options now fields) ⊎ HasRowFault kind options now fields
+
+-- the fault of any fields of which these are known, one of whose names is long
+abbrev pub IsKindOfFar : Options → ℤ → List Field → LineKind → Type 0
+IsKindOfFar options now fields kind =
+    AsksShort options → (whole : List Field) (name : List ℕ) → AreKnown false whole fields (Some name)
+    → IsFieldsFault kind options now whole
 
 -- The line says no fields, or such as make no row. That memory ran out says nothing of it.
 abbrev pub IsRefused : LineKind → Options → ℤ → List ℕ → Type 0

@@ -1,16 +1,17 @@
 //! From a line to its row.
-ghost use Rattle.std.specs.Prelude.{◌≡◌, ◌≢◌, ◌≤ℤ◌, ℤ, List, pos, fold, IsTrue, IfOk, IfErr, IfSome, OnOk, None};
+ghost use Rattle.std.specs.Prelude.{◌≡◌, ◌≢◌, ◌≤ℤ◌, ℤ, List, pos, IsTrue, IsFalse, IfOk, IfErr, IfSome, OnOk, None};
 ghost use Rattle.std.specs.List.{list_all};
-ghost use Rattle.log_model.specs.Field.{Field as Pair, field_value, set_all, without};
+ghost use Rattle.log_model.specs.Field.{Field as Pair, IsFieldList, set_all};
 ghost use Rattle.log_model.specs.Row.{Row as Event};
 ghost use Rattle.vl_row.specs.Faults.{row_fault};
-ghost use Rattle.ingest_row.specs.Ingest.{IsRowOf, IsRowOfLine, IsTimeOf, Says, completed, is_named, moved, row_at};
-ghost use Rattle.ingest_row.specs.Ingest.{says_now, with_message};
-ghost use Rattle.ingest_row.specs.Refusal.{IsRefused, IsFieldsFault, IsLineFault, IsRowFault};
+ghost use Rattle.jsonline_in.specs.Near.{AreKnown};
+ghost use Rattle.ingest_row.specs.Ingest.{IsRowOf, IsRowOfLine, AsksShort, IsTimeOf, Says, completed, is_named, kept};
+ghost use Rattle.ingest_row.specs.Ingest.{moved, row_at, says_now, with_message};
+ghost use Rattle.ingest_row.specs.Refusal.{IsRefused, IsFieldsFault, IsKindOfFar, IsLineFault, IsRowFault};
 
 use crate::kind::LineKind;
 use crate::options::Options;
-use jsonline_in::{JsonFault, fields_of};
+use jsonline_in::{JsonFault, Said, said_fields_of};
 use std::alloc::{AllocError, Global};
 use time_text::{TimeFault, read_moment};
 use vl_row::{Field, FieldList, Row, RowFault, Text};
@@ -54,7 +55,41 @@ pub(crate) fn row_with_room(
         → (row : Event) → IsRowOfLine o.now now line.now row → ⊥) }
     ensures refused { IfErr result (λ kind. IsRefused kind o.now now line.now) }
 {
-    row_of_fields(alloc, o, now, fields_of_line(alloc, line, room)?)
+    let all = !o.are_short();
+    let said = said_of_line(alloc, line, all, room)?;
+    row_of_said(alloc, o, now, all, said)
+}
+
+/// Returns the row of a line of which this is known.
+fn row_of_said(alloc: Global, o: &Options, now: i64, all: bool, said: Said) -> Result<Row, LineKind>
+    requires since { pos 0 ≤ℤ now }
+    requires short { IsFalse all → AsksShort o.now }
+    ensures read { IfOk result (λ row. (whole : List Pair) → AreKnown all whole said.fields said.far
+        → IsRowOf o.now now whole row) }
+    ensures only { IfOk result (λ row. (whole : List Pair) → AreKnown all whole said.fields said.far
+        → (other : Event) → IsRowOf o.now now whole other → other ≡ row) }
+    ensures none { IfErr result (λ kind. kind ≢ LineKind.Memory → (whole : List Pair)
+        → AreKnown all whole said.fields said.far → (row : Event) → IsRowOf o.now now whole row → ⊥) }
+    ensures fault { IfErr result (λ kind. (whole : List Pair) → AreKnown all whole said.fields said.far
+        → IsFieldsFault kind o.now now whole) }
+{
+    let Said { fields, far } = said;
+    if far.is_some() {
+        return Err(kind_of_far(o, now, fields));
+    }
+    row_of_fields(alloc, o, now, fields)
+}
+
+/// Returns why there is no row of fields of which one has a long name, where these are those of short names.
+fn kind_of_far(o: &Options, now: i64, mut fields: FieldList) -> LineKind
+    requires { pos 0 ≤ℤ now }
+    ensures { IsKindOfFar o.now now fields result }
+{
+    remove_ignored(o, &mut fields);
+    match time_of(fields.get(o.time_field()), now) {
+        Some(_) => LineKind::NameLong,
+        None => LineKind::BadTime,
+    }
 }
 
 /// Returns the row of the fields that a line says.
@@ -70,7 +105,7 @@ fn row_of_fields(
     ensures none { IfErr result (λ kind. kind ≢ LineKind.Memory → (row : Event) → IsRowOf o.now now fields row → ⊥) }
     ensures fault { IfErr result (λ kind. IsFieldsFault kind o.now now fields) }
 {
-    remove_all(&mut fields, o.ignored_fields());
+    remove_ignored(o, &mut fields);
     let Some(time) = time_of(fields.get(o.time_field()), now) else {
         return Err(LineKind::BadTime);
     };
@@ -95,7 +130,7 @@ fn row_at(alloc: Global, o: &Options, time: i64, fields: FieldList) -> Result<Ro
     ensures row { IfOk result (λ row. row ≡ row_at o.now.stream_fields time fields) }
     ensures fault { IfErr result (λ kind. IsRowFault kind time fields) }
 {
-    match Row::try_new(alloc, time, o.stream_fields(), fields) {
+    match Row::try_listed(alloc, time, o.labels(), fields) {
         Ok(row) => Ok(row),
         Err((RowFault::TimeRange, _)) => unreachable!(),
         Err((RowFault::NameLong, _)) => Err(LineKind::NameLong),
@@ -106,19 +141,18 @@ fn row_at(alloc: Global, o: &Options, time: i64, fields: FieldList) -> Result<Ro
     }
 }
 
-/// Returns the fields that a line says, of which this many are expected.
-fn fields_of_line(alloc: Global, line: &[u8], room: usize) -> Result<FieldList, LineKind>
-    ensures says { IfOk result (λ fields. Says line.now fields) }
-    ensures only { IfOk result (λ fields. (other : List Pair) → Says line.now other → other ≡ fields) }
+/// Returns the fields that a line says, of which this many are expected: all of them, or those of short names.
+fn said_of_line(alloc: Global, line: &[u8], all: bool, room: usize) -> Result<Said, LineKind>
+    ensures says { IfOk result (λ said. (whole : List Pair) × Says line.now whole
+        × AreKnown all whole said.fields said.far) }
     ensures none { IfErr result (λ kind. kind ≢ LineKind.Memory → (other : List Pair) → Says line.now other → ⊥) }
     ensures fault { IfErr result (λ kind. IsLineFault kind line.now) }
 {
     if line.len() > LINE_LIMIT {
         return Err(LineKind::LineLong);
     }
-    let mut fields = FieldList::with_room(alloc, room)?;
-    match fields_of(alloc, line, &mut fields) {
-        Ok(()) => Ok(fields),
+    match said_fields_of(alloc, line, all, room) {
+        Ok(said) => Ok(said),
         Err(JsonFault::NotUtf8 { .. }) => Err(LineKind::NotUtf8),
         Err(JsonFault::NotObject) => Err(LineKind::NotObject),
         Err(JsonFault::TooDeep) => Err(LineKind::TooDeep),
@@ -127,13 +161,12 @@ fn fields_of_line(alloc: Global, line: &[u8], room: usize) -> Result<FieldList, 
     }
 }
 
-/// Removes the fields of these names.
-fn remove_all(fields: &mut FieldList, names: &[Text])
-    ensures { fields.new ≡ fold without fields.old names.now }
+/// Removes the fields that are ignored.
+fn remove_ignored(o: &Options, fields: &mut FieldList)
+    ensures value { fields.new ≡ kept o.now fields.old }
+    ensures before { IsFieldList fields.old }
 {
-    for name in names {
-        fields.remove(name.as_str());
-    }
+    fields.remove_listed(o.ignored());
 }
 
 /// Returns the moment that a text says, where a text that says none stands for `now`.

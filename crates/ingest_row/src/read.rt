@@ -1,11 +1,17 @@
 //! From the arguments of a request to what they ask for.
-ghost use Rattle.std.specs.Prelude.{◌≡◌, map, option_map, IfOk, IfErr, Some, None};
+ghost use Rattle.std.specs.Prelude.{◌≡◌, map, option_map, unwrap_or, codes, IfOk, IfErr, Some, None};
+ghost use Rattle.std.specs.List.{list_all};
+ghost use Rattle.jsonline_in.specs.Near.{is_short};
+ghost use Rattle.ingest_row.specs.Ingest.{have_short_names};
 ghost use Rattle.ingest_row.specs.Asked.{argument, extra_of, extras_of, list_argument, options_of, pieces};
 
 use crate::fault::OptionFault;
 use crate::options::Options;
 use std::alloc::{AllocError, Global};
-use vl_row::{Field, Items, Text};
+use vl_row::{Field, Items, Names, Text};
+
+/// The most bytes of a short name.
+const SHORT: usize = 128;
 
 impl Options {
     /// Returns what the arguments of a request ask for. `_stream_fields`, `_msg_field`, `ignore_fields` and
@@ -27,14 +33,72 @@ impl Options {
         let Some(extra_fields) = extras(alloc, list(pairs, "extra_fields"))? else {
             return Err(OptionFault::BadExtra);
         };
+        let labels = Names::try_of(alloc, stream_fields.as_slice())?;
+        let ignored = Names::try_of(alloc, ignored_fields.as_slice())?;
+        let are_short = names_are_short(
+            &time_field,
+            message_fields.as_slice(),
+            ignored_fields.as_slice(),
+            extra_fields.as_slice(),
+        );
         Ok(Options {
             stream_fields,
             time_field,
             message_fields,
             ignored_fields,
+            labels,
+            ignored,
+            are_short,
             extra_fields,
         })
     }
+}
+
+/// Returns whether none of the names that are asked for has more than 128 bytes.
+fn names_are_short(
+    time_field: &Option<Text>,
+    message_fields: &[Text],
+    ignored_fields: &[Text],
+    extra_fields: &[Field],
+) -> bool
+    ensures { result ≡ have_short_names (unwrap_or time_field.now (codes "_time")) message_fields.now
+        ignored_fields.now extra_fields.now }
+{
+    is_time_field_short(time_field)
+        && all_short(message_fields)
+        && all_short(ignored_fields)
+        && all_short_named(extra_fields)
+}
+
+/// Returns whether the name of the moment's field, which is `_time` unless it is given, has at most 128 bytes.
+fn is_time_field_short(name: &Option<Text>) -> bool
+    ensures { result ≡ is_short (unwrap_or name.now (codes "_time")) }
+{
+    match name {
+        Some(name) => is_short(name.as_str()),
+        None => true,
+    }
+}
+
+/// Returns whether none of these names has more than 128 bytes.
+fn all_short(names: &[Text]) -> bool
+    ensures { result ≡ list_all is_short names.now }
+{
+    names.iter().all(|name| is_short(name.as_str()))
+}
+
+/// Returns whether none of these fields has a name of more than 128 bytes.
+fn all_short_named(fields: &[Field]) -> bool
+    ensures { result ≡ list_all (λ field. is_short field.0) fields.now }
+{
+    fields.iter().all(|field| is_short(field.name()))
+}
+
+/// Returns whether a name has at most 128 bytes.
+fn is_short(name: &str) -> bool
+    ensures { result ≡ is_short name.now }
+{
+    name.len() <= SHORT
 }
 
 /// Returns the value of the first argument of this name, where there is one.

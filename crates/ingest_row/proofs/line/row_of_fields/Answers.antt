@@ -1,6 +1,5 @@
-use Rattle.std.proofs.Common.{◌≡◌, refl, ap, ◌∙◌, fold, arith, FitsSigned, w64}
+use Rattle.std.proofs.Common.{◌≡◌, refl, arith, FitsSigned, w64}
 use Rattle.std.proofs.lemmas.Int.{ints, to_z-of_z}
-use Rattle.log_model.specs.Field.{without}
 use Rattle.ingest_row.specs.Ingest.{kept, row_fields}
 use Rattle.ingest_row.proofs.Rows.{SaysMoment, says_it, is_row, only_row, no_row, has_fault, out_of_memory}
 use Rattle.ingest_row.proofs.line.row_of_fields.Goals as goal
@@ -8,16 +7,14 @@ use Rattle.ingest_row.proofs.line.row_of_fields.Goals as goal
 says : (c : goal.After-row_at) → SaysMoment c.args.o.now c.args.now c.args.fields c.in-Some.time c.complete.new.fields
 says c =
     let fits : FitsSigned w64 c.args.now = c.ranges.now in
-    let kept_is : c.remove_all.new.fields ≡ kept c.args.o.now c.args.fields =
-    c.remove_all.ensures ∙ ap (fold without c.args.fields) c.ignored_fields.ensures in
+    let kept_is : c.remove_ignored.new.fields ≡ kept c.args.o.now c.args.fields = c.remove_ignored.ensures.value in
     says_it _ _ _ _ _ _ _ (to_z-of_z w64 c.args.now fits) (rw (kept_is, c.time_field.ensures) at c.get.ensures)
     (rw kept_is at c.in_ok-complete.ensures) c.in-Some.ensures.some.0 c.in-Some.ensures.only
 
 pub returns-in_err-complete-clause-fault : goal.returns-in_err-complete-clause-fault
 returns-in_err-complete-clause-fault c =
     let fits : FitsSigned w64 c.args.now = c.ranges.now in
-    let kept_is : c.remove_all.new.fields ≡ kept c.args.o.now c.args.fields =
-    c.remove_all.ensures ∙ ap (fold without c.args.fields) c.ignored_fields.ensures in
+    let kept_is : c.remove_ignored.new.fields ≡ kept c.args.o.now c.args.fields = c.remove_ignored.ensures.value in
     out_of_memory c.args.o.now c.args.now c.args.fields _ _ _
     (says_it _ _ _ _ _ _ (row_fields c.args.o.now c.args.fields) (to_z-of_z w64 c.args.now fits)
     (rw (kept_is, c.time_field.ensures) at c.get.ensures) refl c.in-Some.ensures.some.0 c.in-Some.ensures.only)

@@ -1,6 +1,6 @@
 use Rattle.std.proofs.Common.{subst}
 use Rattle.jsonline_in.specs.Faults.{Refuses}
-use Rattle.ingest_row.proofs.line.fields_of_line.Goals as goal
+use Rattle.ingest_row.proofs.line.said_of_line.Goals as goal
 
 pub returns-in-Err-TooDeep-clause-none : goal.returns-in-Err-TooDeep-clause-none
 returns-in-Err-TooDeep-clause-none c = λ _ other says.
