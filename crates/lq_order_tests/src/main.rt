@@ -10,12 +10,14 @@
 
 mod pipe_tests;
 
+use lq_tuple::HashSeed;
 use pipe_tests::answer;
 use std::io;
 
 fn main(rt: HostRuntime) -> io::Result<()> {
+    let seed = HashSeed::random(&rt);
     for case in rt.lines(rt.alloc()) {
-        let answer = answer(rt.alloc(), case?.as_str())?;
+        let answer = answer(rt.alloc(), seed, case?.as_str())?;
         println!(rt; "{answer}")?;
     }
     Ok(())

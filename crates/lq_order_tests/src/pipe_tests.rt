@@ -1,42 +1,43 @@
 //! Pipes and records in a small notation.
 use lq_ast::{SortKey, SortPipe, TopPipe, UniqPipe};
-use lq_order::{Tally, sort_recs, top_recs, uniq_recs};
+use lq_order::{Tally, sort_recs_seeded, top_recs_seeded, uniq_recs_seeded};
+use lq_tuple::HashSeed;
 use std::alloc::{AllocError, Global};
 use vl_row::{FieldList, Items, Recs, Text};
 
 /// Returns the records that the pipe of a case makes of those of the case.
-pub fn answer(alloc: Global, case: &str) -> Result<String, AllocError> {
+pub fn answer(alloc: Global, seed: HashSeed, case: &str) -> Result<String, AllocError> {
     match case.split_once('\t') {
         Some((pipe, records)) => {
             let records = records_of(alloc, records)?;
-            shown(alloc, &applied(alloc, pipe, records)?)
+            shown(alloc, &applied(alloc, seed, pipe, records)?)
         }
-        None => shown(alloc, &applied(alloc, case, Recs::new(alloc))?),
+        None => shown(alloc, &applied(alloc, seed, case, Recs::new(alloc))?),
     }
 }
 
-fn applied(alloc: Global, pipe: &str, records: Recs) -> Result<Recs, AllocError> {
+fn applied(alloc: Global, seed: HashSeed, pipe: &str, records: Recs) -> Result<Recs, AllocError> {
     match pipe.split_once(' ') {
-        Some(("sort", parts)) => sort_recs(alloc, &sort_of(alloc, parts)?, records),
-        Some(("uniq", parts)) => uniq(alloc, parts, records),
-        Some(("top", parts)) => top(alloc, parts, records),
+        Some(("sort", parts)) => sort_recs_seeded(alloc, seed, &sort_of(alloc, parts)?, records),
+        Some(("uniq", parts)) => uniq(alloc, seed, parts, records),
+        Some(("top", parts)) => top(alloc, seed, parts, records),
         _ => Ok(Recs::new(alloc)),
     }
 }
 
-fn uniq(alloc: Global, parts: &str, records: Recs) -> Result<Recs, AllocError> {
+fn uniq(alloc: Global, seed: HashSeed, parts: &str, records: Recs) -> Result<Recs, AllocError> {
     let p = uniq_of(alloc, parts)?;
     match number(parts, "cut=") {
         Some(cut) => tallied(alloc, p.names.as_slice(), &records, cut as usize)?.uniq(alloc, &p),
-        None => uniq_recs(alloc, &p, records),
+        None => uniq_recs_seeded(alloc, seed, &p, records),
     }
 }
 
-fn top(alloc: Global, parts: &str, records: Recs) -> Result<Recs, AllocError> {
+fn top(alloc: Global, seed: HashSeed, parts: &str, records: Recs) -> Result<Recs, AllocError> {
     let p = top_of(alloc, parts)?;
     match number(parts, "cut=") {
         Some(cut) => tallied(alloc, p.names.as_slice(), &records, cut as usize)?.top(alloc, &p),
-        None => top_recs(alloc, &p, records),
+        None => top_recs_seeded(alloc, seed, &p, records),
     }
 }
 

@@ -5,6 +5,7 @@ pub mod Fewer
 pub mod Merged
 pub mod Narrowed
 pub mod Piping
+pub mod Plain
 pub mod Printed
 pub mod Projected
 pub mod Refusing

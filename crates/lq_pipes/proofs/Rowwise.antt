@@ -58,11 +58,15 @@ passes_more stages left later stage old new newer h is (made, none) = record {
 }
 
 -- what stands first, and what after it
+pub head_split : {A : Type 0} (left : List A) (first : A) → 1 ≤ length left → first ≡ get_or left 0 first
+    → left ≡ first ∷ take (length left - 1) (drop 1 left)
+head_split [] first some at = absurd (omega (arith, some))
+head_split (x ∷ xs) first some at =
+    let whole = whole_taken xs (length (x ∷ xs) - 1) (omega arith) in λ i. sym at i ∷ sym whole i
+
 pub head_left : {A B : Type 0} (f : A → B) (left : List A) (first : A) → 1 ≤ length left → first ≡ get_or left 0 first
     → map f left ≡ f first ∷ map f (take (length left - 1) (drop 1 left))
-head_left f [] first some at = absurd (omega (arith, some))
-head_left f (x ∷ xs) first some at =
-    let whole = whole_taken xs (length (x ∷ xs) - 1) (omega arith) in λ i. f (sym at i) ∷ map f (sym whole i)
+head_left f left first some at = ap (map f) (head_split left first some at)
 
 -- ---- rows in the order of some of their fields
 

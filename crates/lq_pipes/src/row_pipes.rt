@@ -10,13 +10,16 @@ use crate::needed::Needs;
 use crate::project::records_of;
 use crate::projector::Projector;
 use lq_ast::{Pipe, SortPipe};
-use lq_order::sorted_places;
+use lq_order::sorted_places_seeded;
+use lq_tuple::HashSeed;
 use std::alloc::{AllocError, Global};
 use vl_row::Row;
 
-/// Runs the first pipes, as long as they leave records as they are, over rows. The pipes after them are the result.
+/// Runs the first pipes, as long as they leave records as they are, over rows, with this seed of the tables of values.
+/// The pipes after them are the result.
 pub(crate) fn pass_rows<'p>(
     alloc: Global,
+    seed: HashSeed,
     pipes: &'p [Pipe],
     rows: &mut Vec<&Row>,
 ) -> Result<&'p [Pipe], AllocError>
@@ -25,7 +28,7 @@ pub(crate) fn pass_rows<'p>(
 {
     let mut left = pipes;
     while let [pipe, later @ ..] = left {
-        if !pass(alloc, pipe, rows)? {
+        if !pass(alloc, seed, pipe, rows)? {
             break;
         }
         left = later;
@@ -34,14 +37,19 @@ pub(crate) fn pass_rows<'p>(
 }
 
 /// Runs a pipe over rows, if it leaves records as they are. Whether it does is the result.
-fn pass(alloc: Global, pipe: &Pipe, rows: &mut Vec<&Row>) -> Result<bool, AllocError>
+fn pass(
+    alloc: Global,
+    seed: HashSeed,
+    pipe: &Pipe,
+    rows: &mut Vec<&Row>,
+) -> Result<bool, AllocError>
     ensures { IfOk result (Keeps (stage pipe.now) (map (λ row. record_of row.now) rows.old.items)
         (map (λ row. record_of row.now) rows.new.items)) }
 {
     match pipe {
         Pipe::Limit(most) => rows.truncate(*most as usize),
         Pipe::Offset(first) => *rows = behind(*first, rows.as_slice()).to_vec(alloc)?,
-        Pipe::Sort(sort) => *rows = sorted_rows(alloc, sort, rows.as_slice())?,
+        Pipe::Sort(sort) => *rows = sorted_rows(alloc, seed, sort, rows.as_slice())?,
         _ => return Ok(false),
     }
     Ok(true)
@@ -57,6 +65,7 @@ fn behind<'a, 'r>(first: u64, rows: &'a [&'r Row]) -> &'a [&'r Row]
 /// Returns the rows whose records `sort` keeps, in its order. Records are made of its keys only.
 fn sorted_rows<'r>(
     alloc: Global,
+    seed: HashSeed,
     sort: &SortPipe,
     rows: &[&'r Row],
 ) -> Result<Vec<&'r Row>, AllocError>
@@ -66,7 +75,7 @@ fn sorted_rows<'r>(
     let needs = Needs::of_sort(alloc, sort)?;
     let mut projector = Projector::new(alloc, &needs)?;
     let records = records_of(alloc, &mut projector, rows)?;
-    let places = sorted_places(alloc, sort, records.as_slice())?;
+    let places = sorted_places_seeded(alloc, seed, sort, records.as_slice())?;
     rows_at(alloc, rows, places.as_slice())
 }
 

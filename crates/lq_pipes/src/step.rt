@@ -1,98 +1,105 @@
 //! One pipe after another.
-ghost use Rattle.std.specs.Prelude.{◌≡◌, ◌+◌, ◌<◌, ◌^◌, [], IfErr, IfOk, IsOk, Ok, length};
+ghost use Rattle.std.specs.Prelude.{◌≡◌, ◌+◌, ◌<◌, ◌^◌, IfErr, IfOk, IsOk, Ok, length, true};
 ghost use Rattle.std.specs.List.{AllByRecursion};
 ghost use Rattle.lq_ast.specs.Patterns.{CanBeRead, patterns_of_stage};
 ghost use Rattle.lq_ast.specs.PipeView.{grouping, stage};
 ghost use Rattle.lq_ast.specs.Pipes.{piped};
 ghost use Rattle.lq_filter.specs.Refusal.{IsRefusal};
 ghost use Rattle.lq_pipes.specs.Faults.{IsMadeFault};
-ghost use Rattle.lq_pipes.specs.Steps.{IsFresh, stage_of};
+ghost use Rattle.lq_pipes.specs.Steps.{IsPlanned, is_plain, stage_of};
 ghost use Rattle.lq_ast.specs.Grouping.{grouped};
-ghost use Rattle.lq_stats.specs.Partial.{StandsFor};
+ghost use Rattle.lq_stats.specs.Plan.{IsPlanOf};
 
 use crate::fault::PipeFault;
 use crate::fields::{copy, delete_fields, keep_fields, rename};
 use crate::kept::{keep, limit, offset};
-use lq_ast::{Pair, Pipe, SortPipe, StatsPipe, TopPipe, UniqPipe};
+use lq_ast::{Pipe, StatsPipe};
 use lq_filter::{Inner, PrepareFault, prepare_inner_numbered};
-use lq_order::{sort_recs, top_recs, uniq_recs};
-use lq_stats::Partial;
-use std::alloc::Global;
-use vl_row::{Recs, Text};
+use lq_order::{sort_recs_seeded, top_recs_seeded, uniq_recs_seeded};
+use lq_stats::Plan;
+use lq_tuple::HashSeed;
+use std::alloc::{AllocError, Global};
+use vl_row::Recs;
 
 /// A pipe whose regular expressions are read.
 #[derive(Drop)]
 pub(crate) enum Step<'p> {
-    Fields(&'p [Text]),
-    Delete(&'p [Text]),
-    Rename(&'p [Pair]),
-    Copy(&'p [Pair]),
-    Limit(u64),
-    Offset(u64),
-    Sort(&'p SortPipe),
-    Uniq(&'p UniqPipe),
-    Stats(&'p StatsPipe, Partial),
+    /// A pipe that has none.
+    Plain(&'p Pipe),
+    Stats(&'p StatsPipe, Plan),
     Keep(Inner),
-    Top(&'p TopPipe),
 }
 
 impl<'p> Step<'p> {
     /// Reads the regular expressions of a pipe, of which the first has the number `nth`, and raises it by how many
-    /// there are.
-    pub(crate) fn of(alloc: Global, pipe: &'p Pipe, nth: &mut u32) -> Result<Step<'p>, PrepareFault>
+    /// there are. Statistics have this seed of their tables.
+    pub(crate) fn of(
+        alloc: Global,
+        seed: HashSeed,
+        pipe: &'p Pipe,
+        nth: &mut u32,
+    ) -> Result<Step<'p>, PrepareFault>
         ensures same { IfOk result (λ step. stage_of step ≡ stage pipe.entry.now) }
-        ensures fresh { IfOk result IsFresh }
+        ensures planned { IfOk result IsPlanned }
         ensures counted { IsOk result → nth.new ≡ nth.old + length (patterns_of_stage (stage pipe.entry.now)) }
         ensures readable { IfOk result (λ _. AllByRecursion CanBeRead (patterns_of_stage (stage pipe.entry.now))) }
         ensures refused { IfErr result (IsRefusal nth.old (patterns_of_stage (stage pipe.entry.now))) }
     {
         match pipe {
-            Pipe::Fields(names) => Ok(Step::Fields(names.as_slice())),
-            Pipe::Delete(names) => Ok(Step::Delete(names.as_slice())),
-            Pipe::Rename(pairs) => Ok(Step::Rename(pairs.as_slice())),
-            Pipe::Copy(pairs) => Ok(Step::Copy(pairs.as_slice())),
-            Pipe::Limit(most) => Ok(Step::Limit(*most)),
-            Pipe::Offset(first) => Ok(Step::Offset(*first)),
-            Pipe::Sort(sort) => Ok(Step::Sort(sort)),
-            Pipe::Uniq(uniq) => Ok(Step::Uniq(uniq)),
-            Pipe::Stats(stats) => Ok(Step::Stats(stats, Partial::of_numbered(alloc, stats, nth)?)),
+            Pipe::Stats(stats) => Ok(Step::Stats(stats, Plan::seeded(alloc, seed, stats, nth)?)),
             Pipe::Keep(filter) => Ok(Step::Keep(prepare_inner_numbered(alloc, filter, nth)?)),
-            Pipe::Top(top) => Ok(Step::Top(top)),
+            _ => Ok(Step::Plain(pipe)),
         }
     }
 
-    /// Returns the records that the pipe makes of others.
-    pub(crate) fn run(self, alloc: Global, r: Recs) -> Result<Recs, PipeFault>
-        requires fresh { IsFresh self }
+    /// Returns the records that the pipe makes of others, with this seed of the tables of values.
+    pub(crate) fn run(&self, alloc: Global, seed: HashSeed, r: Recs) -> Result<Recs, PipeFault>
+        requires planned { IsPlanned self.now }
         requires few { length r < 2 ^ 32 }
-        ensures ok { IfOk result (λ made. piped (stage_of self.entry) r ≡ Ok made) }
-        ensures fault { IfErr result (IsMadeFault (piped (stage_of self.entry) r)) }
+        ensures ok { IfOk result (λ made. piped (stage_of self.now) r ≡ Ok made) }
+        ensures fault { IfErr result (IsMadeFault (piped (stage_of self.now) r)) }
     {
         match self {
-            Step::Fields(names) => Ok(keep_fields(names, r)),
-            Step::Delete(names) => Ok(delete_fields(names, r)),
-            Step::Rename(pairs) => Ok(rename(alloc, pairs, r)?),
-            Step::Copy(pairs) => Ok(copy(alloc, pairs, r)?),
-            Step::Limit(most) => Ok(limit(most, r)),
-            Step::Offset(first) => Ok(offset(first, r)),
-            Step::Sort(sort) => Ok(sort_recs(alloc, sort, r)?),
-            Step::Uniq(uniq) => Ok(uniq_recs(alloc, uniq, r)?),
-            Step::Stats(stats, partial) => statistics(alloc, stats, partial, r),
-            Step::Keep(asked) => Ok(keep(alloc, &asked, r)?),
-            Step::Top(top) => Ok(top_recs(alloc, top, r)?),
+            Step::Plain(pipe) => Ok(run_plain(alloc, seed, pipe, r)?),
+            Step::Stats(stats, plan) => statistics(alloc, stats, plan, r),
+            Step::Keep(asked) => Ok(keep(alloc, asked, r)?),
         }
     }
 }
 
+/// Returns the records that a pipe without regular expressions makes of others, with this seed of the tables of values.
+pub(crate) fn run_plain(
+    alloc: Global,
+    seed: HashSeed,
+    pipe: &Pipe,
+    r: Recs,
+) -> Result<Recs, AllocError>
+    requires { is_plain (stage pipe.now) ≡ true }
+    ensures { IfOk result (λ made. piped (stage pipe.now) r ≡ Ok made) }
+{
+    match pipe {
+        Pipe::Fields(names) => Ok(keep_fields(names.as_slice(), r)),
+        Pipe::Delete(names) => Ok(delete_fields(names.as_slice(), r)),
+        Pipe::Rename(pairs) => rename(alloc, pairs.as_slice(), r),
+        Pipe::Copy(pairs) => copy(alloc, pairs.as_slice(), r),
+        Pipe::Limit(most) => Ok(limit(*most, r)),
+        Pipe::Offset(first) => Ok(offset(*first, r)),
+        Pipe::Sort(sort) => sort_recs_seeded(alloc, seed, sort, r),
+        Pipe::Uniq(uniq) => uniq_recs_seeded(alloc, seed, uniq, r),
+        Pipe::Top(top) => top_recs_seeded(alloc, seed, top, r),
+        Pipe::Stats(_) | Pipe::Keep(_) => unreachable!(),
+    }
+}
+
 /// Returns the statistics of these records.
-fn statistics(alloc: Global, pipe: &StatsPipe, partial: Partial, r: Recs) -> Result<Recs, PipeFault>
-    requires fresh { StandsFor partial (grouping pipe.now) [] }
+fn statistics(alloc: Global, pipe: &StatsPipe, plan: &Plan, r: Recs) -> Result<Recs, PipeFault>
+    requires planned { IsPlanOf plan.now (grouping pipe.now) }
     requires few { length r < 2 ^ 32 }
     ensures ok { IfOk result (λ made. grouped (grouping pipe.now) r ≡ Ok made) }
     ensures fault { IfErr result (IsMadeFault (grouped (grouping pipe.now) r)) }
 {
-    let mut partial = partial;
-    partial.add_all(alloc, r.as_slice())?;
-    let made = partial.finish(alloc)?;
+    let mut gathered = plan.begin(alloc)?;
+    plan.add_all(alloc, &mut gathered, r.as_slice())?;
+    let made = plan.finish(alloc, gathered)?;
     Ok(made)
 }

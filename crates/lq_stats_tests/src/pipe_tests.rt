@@ -1,33 +1,59 @@
 //! Pipes and records in a small notation.
 use lq_ast::{Call, Filter, Func, StatKey, StatsPipe};
 use lq_filter::PrepareFault;
-use lq_stats::{Partial, StatFault};
+use lq_stats::{Partial, Plan, StatFault};
+use lq_tuple::HashSeed;
 use std::alloc::{AllocError, Global};
 use vl_row::{FieldList, Items, Recs, Text};
 
 /// Returns the records that the pipe of a case makes of those of the case.
-pub fn answer(alloc: Global, case: &str) -> Result<String, AllocError> {
+pub fn answer(alloc: Global, seed: HashSeed, case: &str) -> Result<String, AllocError> {
     let (pipe, records) = case.split_once('\t').unwrap_or((case, ""));
     let pipe = pipe_of(alloc, pipe)?;
     let records = records_of(alloc, records)?;
-    if records.len() > 1000 {
-        return String::from_str(alloc, "too many records");
-    }
-    match Partial::of(alloc, &pipe) {
-        Ok(mut partial) => {
-            match records.as_slice() {
-                [record] => partial.add(alloc, record)?,
-                records => partial.add_all(alloc, records)?,
-            }
-            finished(alloc, partial)
-        }
+    let answered = match records.as_slice() {
+        [record] => added(alloc, &pipe, record),
+        records => scanned(alloc, seed, &pipe, records),
+    };
+    match answered {
+        Ok(made) => finished(alloc, made),
         Err(PrepareFault::RegexRefused { nth }) => format!(in alloc; "RegexRefused number {nth}"),
         Err(PrepareFault::Memory) => String::from_str(alloc, "Memory"),
     }
 }
 
-fn finished(alloc: Global, partial: Partial) -> Result<String, AllocError> {
-    match partial.finish(alloc) {
+/// Returns the partial statistics of one record, finished.
+fn added(
+    alloc: Global,
+    pipe: &StatsPipe,
+    record: &FieldList,
+) -> Result<Result<Recs, StatFault>, PrepareFault> {
+    let mut partial = Partial::of(alloc, pipe)?;
+    partial.add(alloc, record)?;
+    Ok(partial.finish(alloc))
+}
+
+/// Returns what a plan makes of these records, which come in two pieces.
+fn scanned(
+    alloc: Global,
+    seed: HashSeed,
+    pipe: &StatsPipe,
+    records: &[FieldList],
+) -> Result<Result<Recs, StatFault>, PrepareFault> {
+    if records.len() > 1000 {
+        return Err(PrepareFault::Memory);
+    }
+    let mut nth = 0;
+    let plan = Plan::seeded(alloc, seed, pipe, &mut nth)?;
+    let (first, others) = records.split_at(records.len() / 2);
+    let mut gathered = plan.begin(alloc)?;
+    plan.add_all(alloc, &mut gathered, first)?;
+    plan.add_all(alloc, &mut gathered, others)?;
+    Ok(plan.finish(alloc, gathered))
+}
+
+fn finished(alloc: Global, made: Result<Recs, StatFault>) -> Result<String, AllocError> {
+    match made {
         Ok(made) => shown(alloc, &made),
         Err(StatFault::Overflow { name }) => format!(in alloc; "Overflow in {}", name.as_str()),
         Err(StatFault::Memory) => String::from_str(alloc, "Memory"),

@@ -9,12 +9,12 @@
 
 mod tuple_tests;
 
-use lq_tuple::{Places, Texts};
+use lq_tuple::{HashSeed, Places, Texts};
 use std::io;
 use tuple_tests::answer;
 
 fn main(rt: HostRuntime) -> io::Result<()> {
-    let mut places = Places::new(rt.alloc());
+    let mut places = Places::seeded(rt.alloc(), HashSeed::random(&rt));
     let mut texts = Texts::new(rt.alloc());
     for case in rt.lines(rt.alloc()) {
         let answer = answer(rt.alloc(), case?.as_str(), &mut places, &mut texts)?;

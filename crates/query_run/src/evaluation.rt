@@ -19,7 +19,8 @@ use crate::search::Search;
 use log_core::Snapshot;
 use lq_ast::Pipe;
 use lq_filter::{Prepared, Scan};
-use lq_pipes::{PipeFault, Printer, apply_rows, lines};
+use lq_pipes::{PipeFault, Printer, apply_rows_seeded, lines};
+use lq_tuple::HashSeed;
 use std::alloc::{AllocError, AllocFailed, Global};
 use vl_row::{Recs, Row, RowList, Text};
 
@@ -58,7 +59,7 @@ impl<T: Drop> From<AllocFailed<T>> for RunFault {
 }
 
 /// Returns the answer to the query at the moment `now`, in nanoseconds since 1970: the lines of the records that its
-/// pipes make of those rows that hold, in the order of the history.
+/// pipes make of those rows that hold, in the order of the history. The seed of the tables of values is the fixed one.
 pub fn answer(
     alloc: Global,
     search: &Search,
@@ -71,9 +72,26 @@ pub fn answer(
     ensures fault { IfErr result (λ fault. (history : History) → Stands (λ rows. rows) snapshot.now history
         → FailsOver (asked_by search.now) now (rows_of history) fault) }
 {
+    answer_seeded(alloc, HashSeed::fixed(), search, now, snapshot)
+}
+
+/// Returns the same, with this seed of the tables of values.
+pub fn answer_seeded(
+    alloc: Global,
+    seed: HashSeed,
+    search: &Search,
+    now: i64,
+    snapshot: &Snapshot<RowList>,
+) -> Result<Text, RunFault>
+    requires { HasReadablePipes search.now }
+    ensures answered { IfOk result (λ text. (history : History) → Stands (λ rows. rows) snapshot.now history
+        → IsAnswerOver (asked_by search.now) now (rows_of history) text) }
+    ensures fault { IfErr result (λ fault. (history : History) → Stands (λ rows. rows) snapshot.now history
+        → FailsOver (asked_by search.now) now (rows_of history) fault) }
+{
     let places = places_in_order(alloc, snapshot)?;
     let rows = held_rows(alloc, &search.filter, now, snapshot, places.as_slice())?;
-    piped_lines(alloc, search.pipes.as_slice(), rows)
+    piped_lines(alloc, seed, search.pipes.as_slice(), rows)
 }
 
 /// Returns the rows that hold at the moment `now`, over the parts at these places, one after another.
@@ -126,7 +144,12 @@ fn push_rows<'s>(
 }
 
 /// Returns the lines of what the pipes make of the records of these rows.
-fn piped_lines(alloc: Global, pipes: &[Pipe], rows: Vec<&Row>) -> Result<Text, RunFault>
+fn piped_lines(
+    alloc: Global,
+    seed: HashSeed,
+    pipes: &[Pipe],
+    rows: Vec<&Row>,
+) -> Result<Text, RunFault>
     requires few { length rows.items < row_limit }
     requires readable { AllByRecursion CanBeRead (flat_map patterns_of_stage (map stage pipes.now)) }
     ensures made { IfOk result (PrintsPiped (map stage pipes.now) (map (λ row. record_of row.now) rows.entry.items)) }
@@ -135,7 +158,7 @@ fn piped_lines(alloc: Global, pipes: &[Pipe], rows: Vec<&Row>) -> Result<Text, R
     if pipes.is_empty() {
         return Ok(lines_of(alloc, rows.as_slice())?);
     }
-    let made = made_of(alloc, pipes, rows)?;
+    let made = made_of(alloc, seed, pipes, rows)?;
     let mut text = Text::new();
     lines(alloc, &made, &mut text)?;
     Ok(text)
@@ -154,14 +177,14 @@ fn lines_of(alloc: Global, rows: &[&Row]) -> Result<Text, AllocError>
 }
 
 /// Returns what the pipes make of the records of these rows.
-fn made_of(alloc: Global, pipes: &[Pipe], rows: Vec<&Row>) -> Result<Recs, RunFault>
+fn made_of(alloc: Global, seed: HashSeed, pipes: &[Pipe], rows: Vec<&Row>) -> Result<Recs, RunFault>
     requires few { length rows.items < row_limit }
     requires readable { AllByRecursion CanBeRead (flat_map patterns_of_stage (map stage pipes.now)) }
     ensures made { IfOk result (λ made.
         all_piped (map stage pipes.now) (map (λ row. record_of row.now) rows.entry.items) ≡ Ok made) }
     ensures fault { IfErr result (FailsPiped (map stage pipes.now) (map (λ row. record_of row.now) rows.entry.items)) }
 {
-    match apply_rows(alloc, pipes, rows) {
+    match apply_rows_seeded(alloc, seed, pipes, rows) {
         Ok(made) => Ok(made),
         Err(PipeFault::RegexRefused { .. }) => unreachable!(),
         Err(PipeFault::Overflow { name }) => Err(RunFault::Overflow { name }),

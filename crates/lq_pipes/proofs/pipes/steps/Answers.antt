@@ -7,7 +7,7 @@ use Rattle.lq_filter.proofs.Refusals.{all_made, all_readable, left_behind, map_o
 use Rattle.lq_filter.proofs.Refusals.{refused_mapped}
 use Rattle.lq_pipes.proofs.Refusing.{handed_on, refused_as}
 use Rattle.lq_pipes.proofs.Walked.{all_more}
-use Rattle.lq_pipes.specs.Steps.{IsFresh, stage_of}
+use Rattle.lq_pipes.specs.Steps.{IsPlanned, stage_of}
 use Rattle.lq_pipes.specs.declared.step.Step.{Step}
 use Rattle.lq_pipes.proofs.pipes.steps.Goals as goal
 
@@ -31,11 +31,11 @@ loop-pipe-preserved c =
     c.loop-pipe.invariant.left c.pipe-item.result c.loop-pipe-test.true c.pipe-item.is (stage_of c.in_ok-of.field-0)
     c.of.new.nth c.in_ok-of.ensures.same (c.in_ok-of.ensures.counted refl) c.in_ok-of.ensures.readable in
     record {
-      fresh = subst (AllByRecursion IsFresh) (sym {A = List Step} c.in_ok-push_back.ensures.items)
-          (all_more IsFresh c.loop-pipe.steps.items (c.in_ok-of.field-0 ∷ []) c.loop-pipe.invariant.fresh
-          (c.in_ok-of.ensures.fresh, tt));
-      left = rw (map_one_more stage_of c.loop-pipe.steps.items c.push_back.new.self.items c.in_ok-of.field-0
-          c.in_ok-push_back.ensures.items) behind;
+      planned = subst (AllByRecursion IsPlanned) (sym {A = List Step} c.in_ok-push.ensures.items)
+          (all_more IsPlanned c.loop-pipe.steps.items (c.in_ok-of.field-0 ∷ []) c.loop-pipe.invariant.planned
+          (c.in_ok-of.ensures.planned, tt));
+      left = rw (map_one_more stage_of c.loop-pipe.steps.items c.push.new.self.items c.in_ok-of.field-0
+          c.in_ok-push.ensures.items) behind;
     }
 
 pub returns-clause-same : goal.returns-clause-same

@@ -6,5 +6,5 @@ use Rattle.lq_pipes.proofs.rows.run_rows.Goals as goal
 
 pub run_all-requires-clause-few : goal.run_all-requires-clause-few
 run_all-requires-clause-few c =
-    fewer (stage_of c.in-Some.first) (records_left c.args.rows) c.in_ok-records-in-Some.records (2 ^ 32) (lit< tt)
+    fewer (stage_of c.in-Some.first.now) (records_left c.args.rows) c.in_ok-records-in-Some.records (2 ^ 32) (lit< tt)
     c.requires.few c.in_ok-records-in-Some.ensures.ok

@@ -1,4 +1,4 @@
-use Rattle.std.proofs.Common.{rules, ◌≡◌, ◌++◌, [], sym, subst, ap, ◌∙◌}
+use Rattle.std.proofs.Common.{rules, ◌≡◌, ◌++◌, [], refl, sym, subst, ap, ◌∙◌}
 use Rattle.lq_ast.specs.Grouping.{grouped}
 use Rattle.lq_ast.specs.PipeView.{grouping}
 use Rattle.lq_pipes.specs.RowRecords.{records_left}
@@ -8,17 +8,28 @@ use Rattle.lq_pipes.proofs.Refusing.{handed_on, made_fault}
 use Rattle.lq_pipes.proofs.Rowwise.{pieces_end, pieces_more}
 use Rattle.lq_pipes.proofs.rows.statistics_of.Goals as goal
 
+pub loop-rows-init : goal.loop-rows-init
+loop-rows-init c =
+    let g = grouping c.args.pipe.now in
+    record {
+      done = [];
+      taken = c.in_ok-gathered.ensures.same g c.requires.planned;
+      split = refl;
+      few = c.requires.few;
+    }
+
 pub loop-rows-preserved : goal.loop-rows-preserved
 loop-rows-preserved c =
+    let g = grouping c.args.pipe.now in
     let here = c.loop-rows.invariant in
     let whole = records_left c.args.rows in
     let left = records_left c.loop-rows.rows in
     let rest = records_left c.next.new.self in
     let gives = rw c.in-Some.is at c.in_ok-records.ensures in
-    let taken = rw c.as_slice.ensures at c.in_ok-add_all.ensures in
+    let taken = rw c.as_slice.ensures at c.in_ok-add_all.ensures.taken in
     record {
       done = here.done ++ c.in-Some.records;
-      stands = taken (grouping c.args.pipe.now) here.done here.stands;
+      taken = taken g here.done c.requires.planned here.taken;
       split = pieces_more whole here.done c.in-Some.records left rest here.split gives.0;
       few = here.few;
     }
@@ -31,7 +42,7 @@ returns-in_err-made-clause-fault c =
     let none : records_left c.loop-rows.rows ≡ [] = search rules in
     let all = pieces_end (records_left c.args.rows) here.done (records_left c.loop-rows.rows) here.split none in
     let failed = subst (λ records. IsFault (grouped g records) fault) all
-    (c.in_err-made.ensures.fault g here.done here.stands) in
+    (c.in_err-made.ensures.fault g here.done c.requires.planned here.taken) in
     handed_on c.from_residual-in_err-made.result (IsMadeFault (grouped g (records_left c.args.rows)))
     (of_statistics fault) c.from_residual-in_err-made.ensures.1
     (made_fault (grouped g (records_left c.args.rows)) fault failed)
@@ -42,4 +53,4 @@ returns-clause-ok c =
     let here = c.loop-rows.invariant in
     let none : records_left c.loop-rows.rows ≡ [] = search rules in
     let all = pieces_end (records_left c.args.rows) here.done (records_left c.loop-rows.rows) here.split none in
-    ap (grouped g) (sym all) ∙ c.in_ok-made.ensures.made g here.done here.stands
+    ap (grouped g) (sym all) ∙ c.in_ok-made.ensures.made g here.done c.requires.planned here.taken

@@ -2,13 +2,13 @@ use Rattle.std.proofs.Common.{◌≡◌, ◌<◌, ◌^◌, ◌++◌, List, lengt
 use Rattle.lq_ast.specs.PipeView.{grouping}
 use Rattle.lq_ast.specs.Records.{Record}
 use Rattle.lq_pipes.specs.RowRecords.{records_left}
-use Rattle.lq_stats.specs.Partial.{StandsFor}
+use Rattle.lq_stats.specs.Plan.{IsGathered}
 use Rattle.lq_pipes.proofs.rows.statistics_of.Given as goal
 
 abbrev pub invariant-loop-rows : goal.invariant-loop-rows
 invariant-loop-rows l = record {
   done : List Record;
-  stands : StandsFor l.partial (grouping l.pipe) done;
+  taken : IsGathered l.gathered (grouping l.pipe) done;
   split : records_left l.initial.rows ≡ done ++ records_left l.rows;
   few : length (records_left l.initial.rows) < 2 ^ 32;
 }

@@ -9,7 +9,7 @@ use Rattle.query_run.specs.Asked.{asked_by}
 use Rattle.query_run.specs.Order.{part_at}
 use Rattle.query_run.proofs.AnswerLemmas.{answers, err_so, fails, fails-gathering, if_err, ok_so}
 use Rattle.query_run.proofs.OrderLaws.{in_order}
-use Rattle.query_run.proofs.evaluation.answer.Goals as goal
+use Rattle.query_run.proofs.evaluation.answer_seeded.Goals as goal
 
 pub returns-clause-answered : goal.returns-clause-answered
 returns-clause-answered c =
