@@ -3,6 +3,7 @@ ghost use Rattle.vl_io.specs.Moments.{IsMoment};
 
 use std::alloc::{AllocError, AllocGlobal, Global};
 use std::fmt::Write;
+use std::random::RandomSource;
 use std::sync::Wait;
 use std::thread::Threads;
 use vl_io::{MemClock, MemDoors, MemSink, MemSource};
@@ -34,7 +35,7 @@ impl Setting {
 }
 
 /// Runs `pipe QUERY`. Returns the lines of its output, the lines of its error text, and its status unless that is 0.
-pub fn ask<R: AllocGlobal + Threads + Wait + Sync>(
+pub fn ask<R: AllocGlobal + Threads + Wait + RandomSource + Sync>(
     rt: &R,
     setting: &Setting,
     query: &str,
@@ -61,7 +62,7 @@ fn clock_at(alloc: Global, now: i64) -> Result<MemClock, AllocError>
 }
 
 /// What a run with these words prints, and its status unless that is 0.
-fn run_words<R: AllocGlobal + Threads + Wait + Sync>(
+fn run_words<R: AllocGlobal + Threads + Wait + RandomSource + Sync>(
     rt: &R,
     words: &[&str],
     input: &str,

@@ -1,6 +1,7 @@
 //! Reads the format of the cases.
 use crate::program_tests::{Setting, ask};
 use std::alloc::{AllocError, AllocGlobal, Global};
+use std::random::RandomSource;
 use std::sync::Wait;
 use std::thread::Threads;
 use time_text::read_moment;
@@ -35,7 +36,7 @@ impl Reader {
 
     /// Reads a line, and returns what is to be printed for it: the line, or nothing for a wanted line. After `----`
     /// comes what the program printed.
-    pub fn read<R: AllocGlobal + Threads + Wait + Sync>(
+    pub fn read<R: AllocGlobal + Threads + Wait + RandomSource + Sync>(
         &mut self,
         rt: &R,
         line: &str,
@@ -99,7 +100,7 @@ impl Reader {
         shown(alloc, line)
     }
 
-    fn read_query<R: AllocGlobal + Threads + Wait + Sync>(
+    fn read_query<R: AllocGlobal + Threads + Wait + RandomSource + Sync>(
         &mut self,
         rt: &R,
         line: &str,

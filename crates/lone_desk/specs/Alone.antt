@@ -4,7 +4,8 @@ use Rattle.log_model.specs.Row.{Batch}
 use Rattle.ingest_row.specs.Ingest.{Options}
 use Rattle.log_desk.specs.Seen.{Caller, Follows, Gains, Seen}
 use Rattle.vl_session.specs.Insertion.{IsInsertion, RefusesLines}
-use Rattle.vl_session.specs.declared.insert.Insertion.{Insertion}
+pub use Rattle.vl_session.specs.Seen.{Has, IsFull, batches_of_rows}
+pub use Rattle.vl_session.specs.declared.insert.Insertion.{Insertion}
 use Rattle.vl_session.specs.declared.insert.InsertionFault.{InsertionFault}
 
 -- Its desk is made for one pass, which is the first.

@@ -1,2 +1,15 @@
 pub mod Alone
 pub use Rattle.log_desk.specs.Seen
+pub use Rattle.vl_session.specs.Answer
+pub use Rattle.vl_session.specs.Asked
+pub use Rattle.vl_session.specs.Evaluation
+pub use Rattle.vl_session.specs.Faults
+pub use Rattle.vl_session.specs.Insert
+pub use Rattle.vl_session.specs.Insertion
+pub use Rattle.vl_session.specs.Query
+pub use Rattle.vl_session.specs.QueryFault
+pub use Rattle.vl_session.specs.Question
+pub use Rattle.vl_session.specs.Records
+pub use Rattle.vl_session.specs.QueryRefusal
+pub use Rattle.vl_session.specs.RunFault
+pub use Rattle.vl_session.specs.declared.insert.InsertionFault

@@ -1,8 +1,10 @@
 //! The desk and its calls.
 ghost use Rattle.std.specs.Prelude.{◌≡◌, ◌≤ℤ◌, [], IfErr, IfOk, List, OnErr, OnOk, Some, length, pos, unsigned_abs};
 ghost use Rattle.ingest_row.specs.Intake.{Outcome};
-ghost use Rattle.vl_session.specs.Asked.{IsReadableQuery};
-ghost use Rattle.vl_session.specs.Answer.{FailsQuery, HasRecords, IsOfEvaluation, IsQueryAnswer};
+ghost use Rattle.log_model.specs.History.{rows_of};
+ghost use Rattle.vl_session.specs.Asked.{HasReadablePipes, IsReadableQuery, asked_by};
+ghost use Rattle.vl_session.specs.Answer.{FailsOver, FailsQuery, HasRecords, IsOfEvaluation, IsQueryAnswer};
+ghost use Rattle.vl_session.specs.Answer.{IsSearchAnswer};
 ghost use Rattle.vl_session.specs.Insert.{CanBeBatch};
 ghost use Rattle.vl_session.specs.Seen.{HasRoom};
 ghost use Rattle.log_desk.specs.Faults.{Refuses};
@@ -12,9 +14,13 @@ use ingest_row::Options;
 use log_desk::{Desk, InsertFault, Pass};
 use std::alloc::{AllocError, Global};
 use std::marker::Model;
+use std::random::RandomSource;
 use std::sync::Wait;
 use vl_row::Batch;
-use vl_session::{Answer, AnswerFault, Insertion, InsertionFault, answer_query, insert_lines};
+use vl_session::{
+    Answer, AnswerFault, Insertion, InsertionFault, RunFault, Search, answer_query, answer_search,
+    insert_lines,
+};
 
 /// A desk that is made for one pass, with that pass, so that no one else inserts.
 ///
@@ -93,7 +99,9 @@ impl<'d, R: Wait> LoneDesk<'d, R> {
             body,
         )
     }
+}
 
+impl<R: Wait + RandomSource> LoneDesk<'_, R> {
     /// Answers a query over all batches, at the moment `now`.
     pub fn answer_query(&mut self, text: &str, now: i64) -> Result<Answer, AnswerFault>
         requires moment { pos 0 ≤ℤ now }
@@ -106,5 +114,16 @@ impl<'d, R: Wait> LoneDesk<'d, R> {
         ensures mark { self.new.settled ≡ self.old.settled }
     {
         answer_query(self.rt, self.alloc, &self.desk, &mut self.pass, text, now)
+    }
+
+    /// Answers a query that was read, over all batches, at the moment `now`.
+    pub fn answer(&mut self, search: &Search, now: i64) -> Result<Answer, RunFault>
+        requires { HasReadablePipes search.now }
+        ensures answered { IfOk result (IsSearchAnswer (asked_by search.now) now self.old.history) }
+        ensures refused { IfErr result (FailsOver (asked_by search.now) now (rows_of self.old.history)) }
+        ensures same { self.new.history ≡ self.old.history }
+        ensures mark { self.new.settled ≡ self.old.settled }
+    {
+        answer_search(self.rt, self.alloc, &self.desk, &mut self.pass, search, now)
     }
 }

@@ -4,3 +4,6 @@
 mod desk;
 
 pub use desk::LoneDesk;
+pub use vl_session::{
+    Answer, AnswerFault, Insertion, InsertionFault, QueryRefusal, RunFault, Search, read_query,
+};

@@ -3,7 +3,7 @@ use Rattle.std.proofs.Common.{◌≡◌, ◌⊎◌, inl, inr, ℕ, suc, ◌+◌,
 use Rattle.std.proofs.lemmas.Grind.{flat_map-append}
 use Rattle.std.specs.List.{AllByRecursion, AllZip}
 use Rattle.ingest_row.specs.Intake.{Outcome, passed_over, read, refused, rows_read}
-use Rattle.vl_session.specs.Seen.{batches_of_rows}
+use Rattle.lone_desk.specs.Alone.{batches_of_rows}
 use Rattle.vl_pipe.specs.Groups.{Arrival, AreGroups, EndsLine, HasOutcome, HaveOutcomes, batches_of, outcomes_in}
 use Rattle.vl_pipe.specs.Groups.{refusals_from, refusals_of, refusal_text}
 use Rattle.log_model.specs.Line.{lines_of}

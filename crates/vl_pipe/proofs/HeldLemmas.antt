@@ -1,31 +1,40 @@
 -- What has been seen, as a history of batches.
 use Rattle.std.proofs.Common.{◌≡◌, ℕ, ◌+◌, ◌≤◌, List, [], ◌∷◌, ◌++◌, length, refl, sym, ap, subst, ◌∙◌, arith}
+use Rattle.std.proofs.Common.{append_assoc, length-append}
 use Rattle.std.proofs.lemmas.List.{length-map}
 use Rattle.log_model.specs.Core.{held_limit}
 use Rattle.log_model.specs.History.{batches_in, entry_rows}
 use Rattle.log_model.specs.Row.{Batch, Row, batch_limit, batch_weight}
 use Rattle.ingest_row.specs.Ingest.{Options}
 use Rattle.ingest_row.specs.Intake.{Outcome, rows_read}
-use Rattle.vl_session.specs.Insert.{HasInsertOutcome, insert_effect}
-use Rattle.vl_session.specs.Insertion.{accepted}
+use Rattle.lone_desk.specs.Insert.{HasInsertOutcome, insert_effect}
+use Rattle.lone_desk.specs.Insertion.{accepted}
 use Rattle.lone_desk.specs.Seen.{Caller, Gains, Seen}
-use Rattle.vl_session.specs.Seen.{Has}
-use Rattle.vl_session.specs.declared.insert.Insertion.{Insertion}
+use Rattle.lone_desk.specs.Alone.{Has}
+use Rattle.lone_desk.specs.Alone.{Insertion}
 use Rattle.lone_desk.proofs.Laws.{batches-gained}
 use Rattle.lone_desk.specs.Alone.{InsertsAlone, IsAlone}
 use Rattle.vl_pipe.specs.Groups.{Arrival}
 use Rattle.vl_pipe.specs.Load.{AddsRows, IsHeld, TakesGroup}
 use Rattle.vl_pipe.proofs.GroupLemmas.{append_nil}
 
-as_many : (seen : Seen) (batches : List Batch) → IsHeld seen batches → length batches ≡ length seen.history
-as_many seen batches held = sym (ap length held.entered) ∙ length-map seen.history entry_rows
+as_many : (opened : List Batch) (seen : Seen) (batches : List Batch) → IsHeld opened seen batches
+    → length seen.history ≡ seen.settled + length batches
+as_many opened seen batches held =
+    omega (
+      arith,
+      held.settled,
+      ap length held.entered,
+      length-map seen.history entry_rows,
+      length-append opened batches,
+    )
 
-pub held_few : (seen : Seen) (batches : List Batch) → IsHeld seen batches → length seen.history ≤ held_limit
-held_few seen batches held = omega (arith, held.few, as_many seen batches held)
+pub held_few : (seen : Seen) (batches : List Batch) → IsHeld [] seen batches → length seen.history ≤ held_limit
+held_few seen batches held = omega (arith, held.few, held.settled, as_many [] seen batches held)
 
-pub held_all : (seen : Seen) (batches : List Batch) → IsHeld seen batches
+pub held_all : (opened : List Batch) (seen : Seen) (batches : List Batch) → IsHeld opened seen batches
     → length seen.history ≡ seen.settled + held_limit → length batches ≡ held_limit
-held_all seen batches held full = omega (arith, held.settled, full, as_many seen batches held)
+held_all opened seen batches held full = omega (arith, full, as_many opened seen batches held)
 
 module _ (caller : Caller) (alone : IsAlone caller) (options : Options) (now : ℕ) (body : List ℕ)
     (outcomes : List Outcome) (old new : Seen) where
@@ -34,16 +43,17 @@ module _ (caller : Caller) (alone : IsAlone caller) (options : Options) (now : �
       → Has caller old new (insert_effect (accepted rows outcomes)) → AddsRows old new rows
   adds [] none comes stays = (
     omega arith,
-    λ batches held. subst (λ seen. IsHeld seen (batches ++ [])) (sym stays)
-        (subst (IsHeld old) (sym (append_nil batches)) held),
+    λ opened batches held. subst (λ seen. IsHeld opened seen (batches ++ [])) (sym stays)
+        (subst (IsHeld opened old) (sym (append_nil batches)) held),
   )
   adds (row ∷ rows) are comes gains = (
     subst (λ rows. batch_weight rows ≤ batch_limit) are comes.0.light,
-    λ batches held.
+    λ opened batches held.
         let gained : Gains caller old new (row ∷ rows) = subst (Gains caller old new) are gains in
-        let entered : batches_in new.history ≡ batches ++ (row ∷ rows) ∷ [] =
-        batches-gained caller old new (row ∷ rows) alone gained ∙ ap (λ bs. bs ++ (row ∷ rows) ∷ []) held.entered in
-        let settled : new.settled ≡ 0 = gained.stays (omega (arith, alone.settles)) ∙ held.settled in
+        let entered : batches_in new.history ≡ opened ++ (batches ++ (row ∷ rows) ∷ []) =
+        batches-gained caller old new (row ∷ rows) alone gained ∙ ap (λ bs. bs ++ (row ∷ rows) ∷ []) held.entered
+        ∙ append_assoc opened batches ((row ∷ rows) ∷ []) in
+        let settled : new.settled ≡ length opened = gained.stays (omega (arith, alone.settles)) ∙ held.settled in
         record {
           entered = entered;
           few = omega (
@@ -52,6 +62,7 @@ module _ (caller : Caller) (alone : IsAlone caller) (options : Options) (now : �
             settled,
             ap length entered,
             length-map new.history entry_rows,
+            length-append opened (batches ++ (row ∷ rows) ∷ []),
           );
           settled = settled;
         },

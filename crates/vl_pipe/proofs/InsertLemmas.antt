@@ -1,14 +1,14 @@
 -- Why a group is not loaded.
-use Rattle.std.proofs.Common.{◌≡◌, ℕ, ◌+◌, ◌-◌, ◌^◌, ◌<◌, ◌≤◌, List, length, min, ap, arith}
+use Rattle.std.proofs.Common.{◌≡◌, ℕ, ◌+◌, ◌-◌, ◌^◌, ◌<◌, ◌≤◌, List, [], length, min, ap, arith}
 use Rattle.log_model.specs.Core.{held_limit}
 use Rattle.log_model.specs.Line.{lines_of}
 use Rattle.log_model.specs.Row.{Batch, Row, batch_weight}
 use Rattle.ingest_row.specs.Intake.{rows_read}
 use Rattle.lone_desk.specs.Seen.{Caller, Seen}
-use Rattle.vl_session.specs.Insert.{full, large, spent}
-use Rattle.vl_session.specs.Insertion.{IsRefusal}
-use Rattle.vl_session.specs.Seen.{IsFull}
-use Rattle.vl_session.specs.declared.insert.InsertionFault.TheVariants as faults
+use Rattle.lone_desk.specs.Insert.{full, large, spent}
+use Rattle.lone_desk.specs.Insertion.{IsRefusal}
+use Rattle.lone_desk.specs.Alone.{IsFull}
+use Rattle.lone_desk.specs.InsertionFault.TheVariants as faults
 use Rattle.lone_desk.specs.Alone.{IsAlone, RefusesAlone}
 use Rattle.vl_pipe.specs.Groups.{Arrival}
 use Rattle.vl_pipe.specs.Load.{IsHeld, RefusesGroup}
@@ -53,7 +53,8 @@ module _ (caller : Caller) (alone : IsAlone caller) (arrival : Arrival) (body : 
       )
 
   -- There is always a number for a batch that may wait.
-  never_spent : (batches : List Batch) → IsHeld old batches → IsRefusal caller arrival.options arrival.moment body old new spent → ⊥
+  never_spent : (batches : List Batch) → IsHeld [] old batches
+      → IsRefusal caller arrival.options arrival.moment body old new spent → ⊥
   never_spent batches held refusal =
       omega (arith, held_few old batches held, ap length (same_history caller alone old new refusal.0.0), refusal.1.3)
 
@@ -67,7 +68,7 @@ pub full_group : (arrival : Arrival) (body : List ℕ) (old new : Seen) (held : 
     → RefusesAlone arrival.options arrival.moment body old new (faults.Full held) → RefusesGroup arrival body old (Beyond limits.Full)
 full_group arrival body old new held (caller, alone, refusal) = refuses_full caller alone arrival body old new refusal.1
 
-pub never_last : (arrival : Arrival) (body : List ℕ) (old new : Seen) (batches : List Batch) → IsHeld old batches
+pub never_last : (arrival : Arrival) (body : List ℕ) (old new : Seen) (batches : List Batch) → IsHeld [] old batches
     → RefusesAlone arrival.options arrival.moment body old new faults.Spent → ⊥
 never_last arrival body old new batches held (caller, alone, refusal) =
     never_spent caller alone arrival body old new batches held refusal

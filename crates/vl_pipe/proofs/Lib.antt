@@ -1,3 +1,4 @@
+pub mod AnswerLemmas
 pub mod GroupLemmas
 pub mod HeldLemmas
 pub mod InsertLemmas

@@ -13,7 +13,8 @@ use Rattle.log_model.specs.Row.{batch_limit, batch_weight}
 use Rattle.log_model.proofs.Lines.{lines_le, lines_of-none}
 use Rattle.ingest_row.specs.Intake.{Outcome, rows_read}
 use Rattle.lone_desk.specs.Seen.{Seen}
-use Rattle.vl_pipe.specs.Groups.{Arrival, AreGroups, BeginsWith, CanBeHeld, EndsLine, HasOutcome, HaveOutcomes, batches_of, outcomes_in, refusals_from, refusals_of}
+use Rattle.vl_pipe.specs.Groups.{Arrival, AreGroups, AreLight, BeginsWith, CanWait, EndsLine, HasOutcome}
+use Rattle.vl_pipe.specs.Groups.{HaveOutcomes, batches_of, outcomes_in, refusals_from, refusals_of}
 use Rattle.vl_pipe.specs.Program as model
 use Rattle.vl_pipe.specs.Program.{AreFew, HaveNoGroup, IsBeyond}
 use Rattle.vl_pipe.specs.Groups.{input_limit}
@@ -51,8 +52,8 @@ pub record Loading (arrival : Arrival) (source errors : Change) (reader : Readin
   pub open_lines : reader.ended ≡ false → lines ≡ length (outcomes_in groups)
   pub over : reader.ended ≡ true → IsSpent source × (reader.ahead ≡ [])
   pub few : lines ≤ length taken + 1000
-  pub fits : CanBeHeld groups
-  pub held : IsHeld shelf (batches_of groups)
+  pub light : AreLight groups
+  pub held : IsHeld [] shelf (batches_of groups)
   pub named : Took errors (refusals_of groups)
   pub source_stays : source.faults_before ≤ source.faults_after
   pub errors_stay : errors.faults_before ≤ errors.faults_after
@@ -60,7 +61,7 @@ pub record Loading (arrival : Arrival) (source errors : Change) (reader : Readin
 pub loading_starts : (arrival : Arrival) (left : Option (List ℕ)) (s : ℕ) (err : Option (List ℕ)) (f : ℕ) (reader : Reading)
     (shelf : Seen)
     → reader ≡ record { lines = 1000; limit = input_limit; passed = 0; group = []; ahead = []; ended = false }
-    → IsHeld shelf []
+    → IsHeld [] shelf []
     → Loading arrival (change left left s s) (change err err f f) reader shelf 0
 loading_starts arrival left s err f reader shelf fresh held =
     subst (λ r. Loading arrival (change left left s s) (change err err f f) r shelf 0) (sym fresh) (record {
@@ -79,7 +80,7 @@ loading_starts arrival left s err f reader shelf fresh held =
       open_lines = λ _. refl;
       over = λ e. cc;
       few = omega arith;
-      fits = record { few = omega arith; light = tt };
+      light = tt;
       held = held;
       named = Appends-nil err;
       source_stays = omega arith;
@@ -166,13 +167,10 @@ pub lines_at_most : (next : Reading) → next.lines ≡ 1000 → IsGroup next �
 lines_at_most next lines (inl whole) = omega (arith, length-lines_of next.lines next.group whole, lines)
 lines_at_most next lines (inr short) = omega (arith, lines_few next.group, short.1, lines)
 
-fits_more : (shelf : Seen) (groups : List (List Outcome)) (group : List Outcome)
-    → CanBeHeld groups → batch_weight (rows_read group) ≤ batch_limit
-    → IsHeld shelf (batches_of (groups ++ group ∷ [])) → CanBeHeld (groups ++ group ∷ [])
-fits_more shelf groups group fits light held = record {
-  few = held.few;
-  light = AllByRecursion-more (λ g. batch_weight (rows_read g) ≤ batch_limit) groups group fits.light light;
-}
+light_more : (groups : List (List Outcome)) (group : List Outcome) → AreLight groups
+    → batch_weight (rows_read group) ≤ batch_limit → AreLight (groups ++ group ∷ [])
+light_more groups group all light =
+    AllByRecursion-more (λ g. batch_weight (rows_read g) ≤ batch_limit) groups group all light
 
 -- whole groups, and whatever comes after them
 begins_whole : (arrival : Arrival) (source : Change) (taken rest : List ℕ) (groups : List (List Outcome)) → Gave source
@@ -210,10 +208,10 @@ module _ (arrival : Arrival) (left0 left1 left2 : Option (List ℕ)) (s0 s1 s2 :
   gave_group l advanced = subst (Consumes left0 left2) (sym (append_assoc l.taken next.group next.ahead))
       (gave_more l advanced)
 
-  held_group : (groups : List (List Outcome)) (group : List Outcome) → IsHeld old (batches_of groups)
-      → TakesGroup arrival next.group group old new → IsHeld new (batches_of (groups ++ group ∷ []))
-  held_group groups group held takes = subst (IsHeld new) (sym (batches-more groups group))
-      (takes.adds.1 (batches_of groups) held)
+  held_group : (groups : List (List Outcome)) (group : List Outcome) → IsHeld [] old (batches_of groups)
+      → TakesGroup arrival next.group group old new → IsHeld [] new (batches_of (groups ++ group ∷ []))
+  held_group groups group held takes = subst (IsHeld [] new) (sym (batches-more groups group))
+      (takes.adds.1 [] (batches_of groups) held)
 
   ahead_more : (l : Before) → length next.ahead ≤ max (length reader.ahead) piece_len → length next.ahead ≤ piece_len
   ahead_more l few = omega (arith, l.ahead)
@@ -255,7 +253,7 @@ module _ (arrival : Arrival) (left0 left1 left2 : Option (List ℕ)) (s0 s1 s2 :
         );
         over = at_end;
         few = omega (arith, before, taken_lines, lines_le l.taken, length-append l.taken next.group);
-        fits = fits_more new l.groups group l.fits takes.adds.0 held;
+        light = light_more l.groups group l.light takes.adds.0;
         held = held;
         named = subst (Appends err0 err2) (sym (refusals-more l.groups group lines before))
             (Appends-trans err0 err1 err2 _ _ l.named named);
@@ -306,10 +304,10 @@ module _ (arrival : Arrival) (left0 left1 left2 : Option (List ℕ)) (s0 s1 s2 :
       last (inl full) = inl full
       last (inr e) = inr ((at_end e).1, (at_end e).0)
 
-  few_behind : (l : Before) → Advanced left1 left2 reader next → length next.ahead ≤ piece_len → IsGroup next → AreFew
-      (next.group ++ next.ahead)
+  few_behind : (l : Before) → Advanced left1 left2 reader next → length next.ahead ≤ piece_len → IsGroup next
+      → AreFew 1 (next.group ++ next.ahead)
   few_behind l advanced short is_group = record {
-    group = next.group;
+    grouped = next.group;
     ahead = next.ahead;
     parts = refl;
     lines = feeds is_group;
@@ -336,7 +334,8 @@ module _ (arrival : Arrival) (left0 left1 left2 : Option (List ℕ)) (s0 s1 s2 :
         groups = l.groups;
         group = group;
         begins = begins_with l goes_on advanced is_group at_end group takes.intake;
-        fits = fits_more new l.groups group l.fits takes.adds.0 held;
+        light = light_more l.groups group l.light takes.adds.0;
+        wait = held.few;
         short = ahead_more l few;
         named = subst (λ n. IsCut (change err0 err2 f0 f2) (refusals_of l.groups)
             (refusals_from (n + 1) group)) before (record {
@@ -350,7 +349,8 @@ module _ (arrival : Arrival) (left0 left1 left2 : Option (List ℕ)) (s0 s1 s2 :
     groups = l.groups;
     behind = record {
       begins = begins_before l goes_on advanced;
-      fits = l.fits;
+      light = l.light;
+      wait = l.held.few;
       few = few_behind l advanced (ahead_more l few) is_group;
       cause = beyond limit much (begins_with l goes_on advanced is_group at_end group given);
     };
@@ -362,12 +362,13 @@ module _ (arrival : Arrival) (left0 left1 left2 : Option (List ℕ)) (s0 s1 s2 :
           → IsBeyond arrival (change left0 left2 s0 s2) l.groups (begins_before l goes_on advanced) (limit_of limit)
       beyond Long h begins = absurd h
       beyond (Large weight) h begins = (group, begins, h.0, h.1)
-      beyond Full h begins = (group, begins, held_all old (batches_of l.groups) l.held h.0, h.1, h.2)
+      beyond Full h begins = (group, begins, held_all [] old (batches_of l.groups) l.held h.0, h.1, h.2)
   stops_at_group l goes_on advanced few is_group at_end NoMemory same = record {
     groups = l.groups;
     behind = record {
       begins = begins_before l goes_on advanced;
-      fits = l.fits;
+      light = l.light;
+      wait = l.held.few;
       few = few_behind l advanced (ahead_more l few) is_group;
       cause = tt;
     };
@@ -395,10 +396,10 @@ module _ (arrival : Arrival) (left0 left1 left2 : Option (List ℕ)) (s0 s1 s2 :
       (reader.ahead ++ piece)
   no_group l piece fewer = omega (arith, fewer, l.group_lines)
 
-  few_short : (l : Until) → (piece : List ℕ) → AreFewer reader.lines (reader.ahead ++ piece) → AreFew
-      (reader.ahead ++ piece)
+  few_short : (l : Until) → (piece : List ℕ) → AreFewer reader.lines (reader.ahead ++ piece)
+      → AreFew 1 (reader.ahead ++ piece)
   few_short l piece fewer = record {
-    group = reader.ahead ++ piece;
+    grouped = reader.ahead ++ piece;
     ahead = [];
     parts = sym (append_nil (reader.ahead ++ piece));
     lines = inl (no_group l piece fewer);
@@ -406,9 +407,9 @@ module _ (arrival : Arrival) (left0 left1 left2 : Option (List ℕ)) (s0 s1 s2 :
   }
 
   few_long : (l : Until) → (piece more : List ℕ) → length more ≡ 1 → AreFewer reader.lines (reader.ahead ++ piece)
-      → AreFew (reader.ahead ++ (piece ++ more))
+      → AreFew 1 (reader.ahead ++ (piece ++ more))
   few_long l piece more one fewer = record {
-    group = reader.ahead ++ piece;
+    grouped = reader.ahead ++ piece;
     ahead = more;
     parts = sym (append_assoc reader.ahead piece more);
     lines = inl (no_group l piece fewer);
@@ -437,7 +438,8 @@ module _ (arrival : Arrival) (left0 left1 left2 : Option (List ℕ)) (s0 s1 s2 :
         groups = l.groups;
         behind = record {
           begins = begins_until l goes_on (too.piece ++ too.more) too.consumed;
-          fits = l.fits;
+          light = l.light;
+          wait = l.held.few;
           few = few_long l too.piece too.more too.one too.fewer;
           cause = (
             omega (
@@ -461,7 +463,8 @@ module _ (arrival : Arrival) (left0 left1 left2 : Option (List ℕ)) (s0 s1 s2 :
         groups = l.groups;
         behind = record {
           begins = begins_until l goes_on few.piece few.consumed;
-          fits = l.fits;
+          light = l.light;
+          wait = l.held.few;
           few = few_short l few.piece few.fewer;
           cause = (Rose-earlier s0 s1 s2 l.source_stays (failed refl), no_group l few.piece few.fewer);
         };
@@ -473,7 +476,8 @@ module _ (arrival : Arrival) (left0 left1 left2 : Option (List ℕ)) (s0 s1 s2 :
         groups = l.groups;
         behind = record {
           begins = begins_until l goes_on few.piece few.consumed;
-          fits = l.fits;
+          light = l.light;
+          wait = l.held.few;
           few = few_short l few.piece few.fewer;
           cause = tt;
         };
@@ -521,7 +525,8 @@ module _ (arrival : Arrival) (left0 left1 left2 : Option (List ℕ)) (s0 s1 s2 :
         };
         all = refl;
         spent = end;
-        fits = l.fits;
+        light = l.light;
+        wait = l.held.few;
         holding = l.held;
         named = l.named;
       }
@@ -541,8 +546,9 @@ stops_unread arrival left s0 s1 err f0 f1 = record {
       given = subst (λ ls. AllZip (HasOutcome arrival) ls []) (sym lines_of-none) tt;
       grouped = tt;
     };
-    fits = record { few = omega arith; light = tt };
-    few = record { group = []; ahead = []; parts = refl; lines = inl (let none : count_by is_feed [] < 1000 = omega arith in none); short = omega arith };
+    light = tt;
+    wait = omega arith;
+    few = record { grouped = []; ahead = []; parts = refl; lines = inl (let none : count_by is_feed [] < 1000 = omega arith in none); short = omega arith };
     cause = tt;
   };
   named = Appends-nil err;

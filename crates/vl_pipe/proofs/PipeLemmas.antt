@@ -1,24 +1,24 @@
 -- From the input to the answer.
-use Rattle.std.proofs.Common.{◌<◌, ◌≡◌, inl, inr, ℕ, pos, ◌≤◌, List, [], ◌++◌, take, Option, refl, sym, subst, arith}
+use Rattle.std.proofs.Common.{◌<◌, ◌≡◌, inl, inr, ℕ, ℤ, pos, ◌≤◌, List, [], ◌++◌, take, Option, refl, sym, subst, arith}
 use Rattle.vl_io.specs.Bytes.{Appends}
 use Rattle.vl_io.specs.Change.{Change, Gave, IsCut, IsTold, Took}
 use Rattle.vl_io.specs.Lines.{is_feed}
 use Rattle.std.specs.Prelude.{count_by}
 use Rattle.vl_io.proofs.Laws.{Appends-trans, Rose-earlier}
 use Rattle.log_model.specs.History.{rows_of}
-use Rattle.query_run.specs.Question.{Question}
-use Rattle.query_run.specs.Evaluation as evaluation
-use Rattle.query_run.specs.Evaluation.{evaluate}
-use Rattle.query_run.specs.Asked.{IsReadableQuery}
+use Rattle.lone_desk.specs.Question.{Question}
+use Rattle.lone_desk.specs.Evaluation as evaluation
+use Rattle.lone_desk.specs.Evaluation.{evaluate}
+use Rattle.lone_desk.specs.Answer.{IsAnswerOver}
 use Rattle.lone_desk.specs.Seen.{Seen}
-use Rattle.vl_session.proofs.QueryLemmas.{history_rows}
-use Rattle.vl_session.specs.Query.{batch_list_rows}
+use Rattle.lone_desk.proofs.QueryLemmas.{history_rows}
+use Rattle.lone_desk.specs.Query.{batch_list_rows}
 use Rattle.vl_pipe.specs.Groups.{Arrival, batches_of, refusals_of}
 use Rattle.vl_pipe.specs.Program as model
 use Rattle.vl_pipe.specs.Program.{AreFew, IsAnswer, IsTakenIn, overflow_text, overflowing, said_of_query, stop_text}
 use Rattle.vl_pipe.specs.Load.{IsLoaded, StopsLoad, StopsUntold}
 use Rattle.vl_pipe.specs.Interrupt.{limit_of, overflow_of}
-use Rattle.vl_pipe.specs.Pipe.{EndsPipe, ForText, HasLines, HasNoLines, OverflowsUntold, ReportsInterrupt, StopsPipe}
+use Rattle.vl_pipe.specs.Pipe.{EndsPipe, OverflowsUntold, ReportsInterrupt, StopsAnswer, StopsPipe, WritesAnswer}
 use Rattle.vl_pipe.specs.Ended.{IsAnswered, IsStopped}
 use Rattle.vl_status.specs.declared.status.Status.{Status}
 use Rattle.vl_status.specs.declared.status.Status.TheVariants as statuses
@@ -34,9 +34,10 @@ stops_loaded arrival source errors seen l = record {
   groups = l.groups;
   behind = record {
     begins = l.begins;
-    fits = l.fits;
-    few = subst AreFew (sym l.all)
-        (record { group = []; ahead = []; parts = refl; lines = inl (let none : count_by is_feed [] < 1000 = omega arith in none); short = omega arith });
+    light = l.light;
+    wait = l.wait;
+    few = subst (AreFew 1) (sym l.all)
+        (record { grouped = []; ahead = []; parts = refl; lines = inl (let none : count_by is_feed [] < 1000 = omega arith in none); short = omega arith });
     cause = tt;
   };
   named = l.named;
@@ -52,100 +53,84 @@ stops_load query arrival source errors written f0 f1 (Beyond limit) stops = stop
 stops_load query arrival source errors written f0 f1 (NoAnswer overflow) stops = absurd stops
 stops_load query arrival source errors written f0 f1 NoMemory stops = stops
 
-module _ (text : List ℕ) (arrival : Arrival) (source output errors : Change) (seen : Seen) where
+module _ (query : Question) (arrival : Arrival) (now : ℤ) (at : now ≡ pos arrival.moment) (source output errors : Change)
+    (seen : Seen) (l : IsLoaded arrival source errors seen) where
   -- what the input becomes
-  taken : (l : IsLoaded arrival source errors seen)
-      → IsTakenIn arrival l.begins.taken (refusals_of l.groups) (batches_of l.groups)
-  taken l = record {
+  taken : IsTakenIn arrival l.begins.taken (refusals_of l.groups) (batches_of l.groups)
+  taken = record {
     within = l.begins.within;
     groups = l.groups;
     intake = l.begins.given;
     grouped = AreGroups-weaken l.groups _ (Unit {0}) (λ _. tt) l.begins.grouped;
-    held = l.fits;
+    light = l.light;
+    wait = l.wait;
     are = refl;
     named = refl;
   }
 
-  gave_all : (l : IsLoaded arrival source errors seen) → Gave source l.begins.taken
-  gave_all l =
+  gave_all : Gave source l.begins.taken
+  gave_all =
       subst (Gave source) (append_nil l.begins.taken)
       (subst (λ rest. Gave source (l.begins.taken ++ rest)) l.all l.begins.gave)
 
-  module _ (l : IsLoaded arrival source errors seen) where
-    -- what is evaluated over what has been seen is evaluated over the rows of the batches
-    over : (query : Question) (outcome : evaluation.Outcome)
-        → evaluate query (pos arrival.moment) (rows_of seen.history) ≡ outcome
-        → evaluate query (pos arrival.moment) (batch_list_rows (batches_of l.groups)) ≡ outcome
-    over query outcome is =
-        subst (λ rows. evaluate query (pos arrival.moment) rows ≡ outcome)
-        (history_rows seen.history (batches_of l.groups) l.holding.entered) is
+  -- what is evaluated over what has been seen is evaluated over the rows of the batches
+  over : (outcome : evaluation.Outcome) → evaluate query now (rows_of seen.history) ≡ outcome
+      → evaluate query (pos arrival.moment) (batch_list_rows (batches_of l.groups)) ≡ outcome
+  over outcome is =
+      subst (λ moment. evaluate query moment (batch_list_rows (batches_of l.groups)) ≡ outcome) at
+      (subst (λ rows. evaluate query now rows ≡ outcome)
+      (history_rows seen.history (batches_of l.groups) l.holding.entered) is)
 
-    module _ (lines : List ℕ) (has : HasLines text arrival.moment seen.history lines) where
-      answer : IsAnswer has.1.query arrival l.begins.taken lines (refusals_of l.groups)
-      answer = record {
-        batches = batches_of l.groups;
-        taken = taken l;
-        found = has.0;
-        evaluated = over has.1.query _ has.1.evaluated;
-        answered = has.2;
-      }
+  answer : (lines : List ℕ) → IsAnswerOver query now (rows_of seen.history) lines
+      → IsAnswer query arrival l.begins.taken lines (refusals_of l.groups)
+  answer lines is = record {
+    batches = batches_of l.groups;
+    taken = taken;
+    found = is.found;
+    evaluated = over _ is.evaluated;
+    answered = is.printed;
+  }
 
-      pub answered : Took output lines → ForText text (λ query. IsAnswered query arrival source output errors)
-      answered written = (
-        has.1.query,
-        has.1.spelled,
-        record {
-          input = l.begins.taken;
-          answer = lines;
-          refusals = refusals_of l.groups;
-          gave = gave_all l;
-          spent = l.spent;
-          answered = answer;
-          written = written;
-          named = l.named;
-        },
-      )
+  pub answered : WritesAnswer query now (rows_of seen.history) output → IsAnswered query arrival source output errors
+  answered (lines, is, written) = record {
+    input = l.begins.taken;
+    answer = lines;
+    refusals = refusals_of l.groups;
+    gave = gave_all;
+    spent = l.spent;
+    answered = answer lines is;
+    written = written;
+    named = l.named;
+  }
 
-      pub answer_cut : IsCut output [] lines
-          → ForText text (λ query. StopsPipe query arrival source output errors Unwritable)
-      answer_cut cut = (
-        has.1.query,
-        has.1.spelled,
-        inl (record {
-          input = l.begins.taken;
-          answer = lines;
-          refusals = refusals_of l.groups;
-          gave = gave_all l;
-          spent = l.spent;
-          answered = answer;
-          written = cut;
-          named = l.named;
-        }),
-      )
+  untold : (cause : model.Overflow) → evaluate query now (rows_of seen.history) ≡ overflowing cause
+      → OverflowsUntold query arrival source errors cause
+  untold cause is = record {
+    input = l.begins.taken;
+    refusals = refusals_of l.groups;
+    gave = gave_all;
+    spent = l.spent;
+    overflows = record { batches = batches_of l.groups; taken = taken; evaluated = over _ is };
+    named = l.named;
+  }
 
-    untold : (query : Question) (cause : model.Overflow) → evaluate query (pos arrival.moment) (rows_of seen.history) ≡ overflowing cause
-        → OverflowsUntold query arrival source errors cause
-    untold query cause is = record {
-      input = l.begins.taken;
-      refusals = refusals_of l.groups;
-      gave = gave_all l;
-      spent = l.spent;
-      overflows = record { batches = batches_of l.groups; taken = taken l; evaluated = over query _ is };
-      named = l.named;
-    }
-
-    -- why the answer is missing
-    pub unanswered : IsReadableQuery text → (interrupt : Interrupt) → HasNoLines text arrival.moment seen.history interrupt
-        → ForText text (λ query. StopsPipe query arrival source output errors interrupt)
-    unanswered readable Unreadable h = absurd h
-    unanswered readable Unwritable h = absurd h
-    unanswered readable (Beyond limit) h = absurd h
-    unanswered readable (NoAnswer overflow) h = (
-      h.query,
-      h.spelled,
-      (untold h.query (overflow_of overflow) h.evaluated, stops_loaded arrival source errors seen l),
-    )
-    unanswered readable NoMemory h = (readable.0, readable.1, stops_loaded arrival source errors seen l)
+  -- why the answer is not written
+  pub unanswered : (interrupt : Interrupt) → StopsAnswer query now (rows_of seen.history) output interrupt
+      → StopsPipe query arrival source output errors interrupt
+  unanswered Unreadable h = absurd h
+  unanswered Unwritable (lines, is, cut) = inl (record {
+    input = l.begins.taken;
+    answer = lines;
+    refusals = refusals_of l.groups;
+    gave = gave_all;
+    spent = l.spent;
+    answered = answer lines is;
+    written = cut;
+    named = l.named;
+  })
+  unanswered (Beyond limit) h = absurd h
+  unanswered (NoAnswer overflow) h = (untold (overflow_of overflow) h, stops_loaded arrival source errors seen l)
+  unanswered NoMemory h = stops_loaded arrival source errors seen l
 
 module _ (arrival : Arrival) (source : Change) (err0 err1 err2 : Option (List ℕ)) (f0 f1 f2 : ℕ) where
   -- what is reported after the names
@@ -175,7 +160,13 @@ module _ (arrival : Arrival) (source : Change) (err0 err1 err2 : Option (List �
       (change err0 err1 f0 f1) model.no_memory
   without_memory stop h = record {
     groups = h.groups;
-    behind = record { begins = h.behind.begins; fits = h.behind.fits; few = h.behind.few; cause = tt };
+    behind = record {
+      begins = h.behind.begins;
+      light = h.behind.light;
+      wait = h.behind.wait;
+      few = h.behind.few;
+      cause = tt;
+    };
     named = h.named;
   }
 

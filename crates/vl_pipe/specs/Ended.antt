@@ -2,9 +2,9 @@
 use Rattle.std.specs.Prelude.{ℕ, ◌+◌, ◌≤◌, List, [], ◌∷◌, ◌++◌, length}
 use Rattle.vl_io.specs.Change.{Change, Gave, IsCut, IsSpent, IsTold, IsUntold, Took}
 use Rattle.vl_io.specs.Lines.{piece_len}
-use Rattle.query_run.specs.Question.{Question}
+use Rattle.lone_desk.specs.Question.{Question}
 use Rattle.ingest_row.specs.Intake.{Outcome}
-use Rattle.vl_pipe.specs.Groups.{Arrival, BeginsWith, CanBeHeld, outcomes_in, refusals_from, refusals_of}
+use Rattle.vl_pipe.specs.Groups.{Arrival, AreLight, BeginsWith, CanWait, outcomes_in, refusals_from, refusals_of}
 use Rattle.vl_pipe.specs.Program.{IsAnswer, Overflow, Overflows, Stop, StopsBehind}
 use Rattle.vl_pipe.specs.Program.{overflow_text, said_of_query, stop_text}
 
@@ -47,7 +47,8 @@ pub record IsNamingFault (arrival : Arrival) (source errors : Change) : Type 0 w
   pub groups : List (List Outcome)
   pub group : List Outcome
   pub begins : BeginsWith arrival source (groups ++ group ∷ [])
-  pub fits : CanBeHeld (groups ++ group ∷ [])
+  pub light : AreLight (groups ++ group ∷ [])
+  pub wait : CanWait (groups ++ group ∷ [])
   pub short : length begins.rest ≤ piece_len
   pub named : IsCut errors (refusals_of groups) (refusals_from (length (outcomes_in groups) + 1) group)
 

@@ -12,7 +12,7 @@ use Rattle.ingest_row.specs.Intake.{Outcome, IsOutcome, refused_from, rows_read}
 use Rattle.ingest_row.specs.Refusal.{kind_text}
 use Rattle.ingest_row.specs.declared.body.LineFault.{LineFault}
 use Rattle.ingest_row.specs.declared.kind.LineKind.{LineKind}
-use Rattle.vl_session.specs.Seen.{batches_of_rows}
+use Rattle.lone_desk.specs.Alone.{batches_of_rows}
 
 -- how lines come in: what is asked for them, and the moment
 pub record Arrival : Type 0 where
@@ -60,10 +60,13 @@ refusals_of groups = refusals_from 1 (outcomes_in groups)
 abbrev pub batches_of : List (List Outcome) → List Batch
 batches_of groups = flat_map (λ group. batches_of_rows (rows_read group)) groups
 
--- the batches of these groups can be held
-pub record CanBeHeld (groups : List (List Outcome)) : Type 0 where
-  pub few : length (batches_of groups) ≤ held_limit
-  pub light : AllByRecursion (λ group. batch_weight (rows_read group) ≤ batch_limit) groups
+-- the rows of no group weigh too much for a batch
+abbrev pub AreLight : List (List Outcome) → Type 0
+AreLight groups = AllByRecursion (λ group. batch_weight (rows_read group) ≤ batch_limit) groups
+
+-- the batches of these groups are no more than may wait to be settled
+abbrev pub CanWait : List (List Outcome) → Type 0
+CanWait groups = length (batches_of groups) ≤ held_limit
 
 -- how many bytes an input may have
 abbrev pub input_limit : ℕ

@@ -1,5 +1,7 @@
 -- Why a run ends before all is done, as the program keeps it.
 use Rattle.vl_pipe.specs.Program as model
+use Rattle.lone_desk.specs.RunFault.{RunFault}
+use Rattle.lone_desk.specs.RunFault.TheVariants as running
 use Rattle.vl_io.specs.declared.transfer.ReadFault.{ReadFault}
 use Rattle.vl_io.specs.declared.transfer.ReadFault.TheVariants as faults
 use Rattle.vl_pipe.specs.declared.interrupt.Overflow.{Overflow}
@@ -7,7 +9,7 @@ use Rattle.vl_pipe.specs.declared.interrupt.Overflow.TheVariants.{ManyRows, Tota
 use Rattle.vl_pipe.specs.declared.interrupt.Limit.{Limit}
 use Rattle.vl_pipe.specs.declared.interrupt.Limit.TheVariants.{Long, Large, Full}
 use Rattle.vl_pipe.specs.declared.interrupt.Interrupt.{Interrupt}
-use Rattle.vl_pipe.specs.declared.interrupt.Interrupt.TheVariants.{Unreadable, Beyond, NoMemory}
+use Rattle.vl_pipe.specs.declared.interrupt.Interrupt.TheVariants.{Unreadable, Beyond, NoAnswer, NoMemory}
 
 abbrev pub limit_of : Limit → model.Limit
 limit_of Long = model.long
@@ -23,3 +25,9 @@ abbrev pub interrupt_at : ReadFault → Interrupt
 interrupt_at faults.Failed = Unreadable
 interrupt_at faults.Long = Beyond Long
 interrupt_at faults.Memory = NoMemory
+
+-- what a fault of the evaluation means for the run
+abbrev pub interrupt_of : RunFault → Interrupt
+interrupt_of running.ManyRows = NoAnswer ManyRows
+interrupt_of (running.Overflow name) = NoAnswer (Total name)
+interrupt_of running.Memory = NoMemory

@@ -5,7 +5,7 @@ pub mod Load
 pub mod Pipe
 pub mod Program
 pub mod Refused
-pub use Rattle.query_run.specs.Asked
-pub use Rattle.query_run.specs.Query
-pub use Rattle.query_run.specs.declared.query.QueryRefusal
-pub use Rattle.query_run.specs.Question
+pub use Rattle.lone_desk.specs.Asked
+pub use Rattle.lone_desk.specs.Query
+pub use Rattle.lone_desk.specs.QueryRefusal
+pub use Rattle.lone_desk.specs.Question

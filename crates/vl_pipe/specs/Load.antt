@@ -6,8 +6,9 @@ use Rattle.log_model.specs.History.{batches_in}
 use Rattle.log_model.specs.Row.{Batch, Row, batch_limit, batch_weight}
 use Rattle.ingest_row.specs.Intake.{Outcome, rows_read}
 use Rattle.lone_desk.specs.Seen.{Seen}
-use Rattle.vl_session.specs.Seen.{batches_of_rows}
-use Rattle.vl_pipe.specs.Groups.{Arrival, BeginsWith, CanBeHeld, HaveOutcomes, batches_of, refusals_from, refusals_of}
+use Rattle.lone_desk.specs.Alone.{batches_of_rows}
+use Rattle.vl_pipe.specs.Groups.{Arrival, AreLight, BeginsWith, CanWait, HaveOutcomes, batches_of, refusals_from}
+use Rattle.vl_pipe.specs.Groups.{refusals_of}
 use Rattle.vl_pipe.specs.Program as model
 use Rattle.vl_pipe.specs.Program.{StopsBehind}
 use Rattle.vl_pipe.specs.Ended.{IsNamingFault}
@@ -17,11 +18,12 @@ use Rattle.vl_pipe.specs.declared.interrupt.Limit.TheVariants.{Long, Large, Full
 use Rattle.vl_pipe.specs.declared.interrupt.Interrupt.{Interrupt}
 use Rattle.vl_pipe.specs.declared.interrupt.Interrupt.TheVariants.{Unreadable, Unwritable, Beyond, NoAnswer, NoMemory}
 
--- What has been seen is a history of these batches, no more than may wait to be settled, and none is settled.
-pub record IsHeld (seen : Seen) (batches : List Batch) : Type 0 where
-  pub entered : batches_in seen.history ≡ batches
+-- What has been seen is a history of the opened batches, which are settled, and then of these. None of these is
+-- settled, and they are no more than may wait for that.
+pub record IsHeld (opened : List Batch) (seen : Seen) (batches : List Batch) : Type 0 where
+  pub entered : batches_in seen.history ≡ opened ++ batches
+  pub settled : seen.settled ≡ length opened
   pub few : length batches ≤ held_limit
-  pub settled : seen.settled ≡ 0
 
 -- why these rows are not loaded, by what has been seen then
 abbrev pub IsTooMuch : Seen → List Row → Limit → Type 0
@@ -43,7 +45,8 @@ RefusesGroup arrival body seen NoMemory = Unit {0}
 abbrev pub AddsRows : Seen → Seen → List Row → Type 0
 AddsRows old new rows =
     (batch_weight rows ≤ batch_limit)
-    × ((batches : List Batch) → IsHeld old batches → IsHeld new (batches ++ batches_of_rows rows))
+    × ((opened batches : List Batch) → IsHeld opened old batches
+    → IsHeld opened new (batches ++ batches_of_rows rows))
 
 -- a group whose lines have these outcomes was loaded
 pub record TakesGroup (arrival : Arrival) (body : List ℕ) (group : List Outcome)
@@ -61,14 +64,15 @@ StopsGroup arrival body before old new errors (Beyond limit) =
 StopsGroup arrival body before old new errors (NoAnswer overflow) = ⊥
 StopsGroup arrival body before old new errors NoMemory = IsUntold errors
 
--- The source gave all its input, the batches of its groups are held, and its refused lines are named.
+-- The source gave all its input, the batches of its groups are all that is held, and its refused lines are named.
 pub record IsLoaded (arrival : Arrival) (source errors : Change) (seen : Seen) : Type 0 where
   pub groups : List (List Outcome)
   pub begins : BeginsWith arrival source groups
   pub all : begins.rest ≡ []
   pub spent : IsSpent source
-  pub fits : CanBeHeld groups
-  pub holding : IsHeld seen (batches_of groups)
+  pub light : AreLight groups
+  pub wait : CanWait groups
+  pub holding : IsHeld [] seen (batches_of groups)
   pub named : Took errors (refusals_of groups)
 
 -- Groups were loaded and their refused lines named. Then the run stopped, and did not say yet why.

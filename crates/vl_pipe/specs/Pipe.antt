@@ -1,15 +1,14 @@
 -- How a query ends.
-use Rattle.std.specs.Prelude.{◌≡◌, ◌⊎◌, ℕ, List, []}
-use Rattle.vl_io.specs.Change.{Change, Gave, IsSpent, IsTold, IsUntold, Took}
-use Rattle.log_model.specs.History.{History}
-use Rattle.log_model.specs.Print.{lines_text}
-use Rattle.query_run.specs.Question.{Question}
-use Rattle.query_run.specs.Records.{Record}
-use Rattle.query_run.specs.Query.{IsQueryText}
-use Rattle.query_run.specs.Asked.{IsNoReadableQuery, IsReadableQuery, Refuses}
-use Rattle.query_run.specs.declared.query.QueryRefusal.{QueryRefusal}
-use Rattle.query_run.specs.declared.query.QueryRefusal.TheVariants.{Memory}
-use Rattle.vl_session.specs.Query.{Evaluates, HasQueryOutcome, found}
+use Rattle.std.specs.Prelude.{◌≡◌, ◌⊎◌, ℕ, ℤ, List, []}
+use Rattle.vl_io.specs.Change.{Change, Gave, IsCut, IsSpent, IsTold, IsUntold, Took}
+use Rattle.log_model.specs.Row.{Row}
+use Rattle.lone_desk.specs.Question.{Question}
+use Rattle.lone_desk.specs.Answer.{IsAnswerOver}
+use Rattle.lone_desk.specs.Evaluation.{evaluate}
+use Rattle.lone_desk.specs.Query.{IsQueryText}
+use Rattle.lone_desk.specs.Asked.{IsNoReadableQuery, IsReadableQuery, Refuses}
+use Rattle.lone_desk.specs.QueryRefusal.{QueryRefusal}
+use Rattle.lone_desk.specs.QueryRefusal.TheVariants.{Memory}
 use Rattle.vl_pipe.specs.Groups.{Arrival}
 use Rattle.vl_pipe.specs.declared.pipe.Pipe.{Pipe}
 use Rattle.vl_pipe.specs.Program as model
@@ -23,22 +22,18 @@ use Rattle.vl_status.specs.declared.status.Status.TheVariants as statuses
 use Rattle.vl_pipe.specs.declared.interrupt.Interrupt.{Interrupt}
 use Rattle.vl_pipe.specs.declared.interrupt.Interrupt.TheVariants.{Unreadable, Unwritable, Beyond, NoAnswer, NoMemory}
 
--- the text spells a query for which this holds
-abbrev pub ForText : List ℕ → (Question → Type 0) → Type 0
-ForText text holds = (query : Question) × IsQueryText text query × holds query
+-- The answer to the query over these rows was written.
+abbrev pub WritesAnswer : Question → ℤ → List Row → Change → Type 0
+WritesAnswer query now rows output = (lines : List ℕ) × IsAnswerOver query now rows lines × Took output lines
 
--- The query of this text has an answer over the history, and these are its lines.
-abbrev pub HasLines : List ℕ → ℕ → History → List ℕ → Type 0
-HasLines text now history lines =
-    (records : List Record) × HasQueryOutcome text now history (found records) × (lines ≡ lines_text records)
-
--- It has none, for this reason. `Memory` may always be returned.
-abbrev pub HasNoLines : List ℕ → ℕ → History → Interrupt → Type 0
-HasNoLines text now history Unreadable = ⊥
-HasNoLines text now history Unwritable = ⊥
-HasNoLines text now history (Beyond limit) = ⊥
-HasNoLines text now history (NoAnswer overflow) = Evaluates text now history (overflowing (overflow_of overflow))
-HasNoLines text now history NoMemory = Unit {0}
+-- It was not, for this reason. `Memory` may always be returned.
+abbrev pub StopsAnswer : Question → ℤ → List Row → Change → Interrupt → Type 0
+StopsAnswer query now rows output Unreadable = ⊥
+StopsAnswer query now rows output Unwritable =
+    (lines : List ℕ) × IsAnswerOver query now rows lines × IsCut output [] lines
+StopsAnswer query now rows output (Beyond limit) = ⊥
+StopsAnswer query now rows output (NoAnswer overflow) = evaluate query now rows ≡ overflowing (overflow_of overflow)
+StopsAnswer query now rows output NoMemory = Unit {0}
 
 -- The source gave an input to its end, and its refused lines are named. The evaluation over it overflows, and nothing
 -- is written about that yet.

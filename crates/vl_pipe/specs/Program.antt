@@ -1,5 +1,5 @@
 -- The result of a query over an input: its answer, and the texts that are written where there is none.
-use Rattle.std.specs.Prelude.{◌≡◌, ℕ, ◌-◌, ◌⊎◌, ◌<◌, ◌≤◌, List, [], ◌∷◌, ◌++◌, length, take, codes, pos}
+use Rattle.std.specs.Prelude.{◌≡◌, ℕ, ◌-◌, ◌*◌, ◌⊎◌, ◌<◌, ◌≤◌, List, [], ◌∷◌, ◌++◌, length, take, codes, pos}
 use Rattle.std.specs.Prelude.{decimal}
 use Rattle.vl_io.specs.Change.{Change, HasFailed}
 use Rattle.vl_io.specs.Lines.{AreFewer, AreLines, piece_len}
@@ -7,17 +7,17 @@ use Rattle.log_model.specs.Core.{held_limit}
 use Rattle.log_model.specs.Field.{Field}
 use Rattle.log_model.specs.Print.{lines_text}
 use Rattle.log_model.specs.Row.{Batch, batch_limit, batch_weight}
-use Rattle.query_run.specs.Evaluation as evaluation
-use Rattle.query_run.specs.Evaluation.{evaluate, records}
-use Rattle.query_run.specs.Question.{Question}
-use Rattle.query_run.specs.Faults.{fault_text}
-use Rattle.query_run.specs.QueryFault.{QueryFault}
+use Rattle.lone_desk.specs.Evaluation as evaluation
+use Rattle.lone_desk.specs.Evaluation.{evaluate, records}
+use Rattle.lone_desk.specs.Question.{Question}
+use Rattle.lone_desk.specs.Faults.{fault_text}
+use Rattle.lone_desk.specs.QueryFault.{QueryFault}
 use Rattle.ingest_row.specs.Intake.{Outcome, rows_read}
-use Rattle.query_run.specs.Asked.{HasUnreadablePattern, IsUnspelled}
-use Rattle.vl_session.specs.Query.{batch_list_rows}
+use Rattle.lone_desk.specs.Asked.{HasUnreadablePattern, IsUnspelled}
+use Rattle.lone_desk.specs.Query.{batch_list_rows}
 use Rattle.vl_status.specs.Status.{no_memory_text}
-use Rattle.vl_pipe.specs.Groups.{Arrival, AreGroups, BeginsWith, CanBeHeld, HaveOutcomes, batches_of, input_limit}
-use Rattle.vl_pipe.specs.Groups.{outcomes_in, refusals_of}
+use Rattle.vl_pipe.specs.Groups.{Arrival, AreGroups, AreLight, BeginsWith, CanWait, HaveOutcomes, batches_of}
+use Rattle.vl_pipe.specs.Groups.{input_limit, outcomes_in, refusals_of}
 
 -- The lines of the input become these batches, and `refusals` names the lines that are not rows.
 pub record IsTakenIn (arrival : Arrival) (input refusals : List ℕ) (batches : List Batch) : Type 0 where
@@ -25,7 +25,8 @@ pub record IsTakenIn (arrival : Arrival) (input refusals : List ℕ) (batches : 
   pub groups : List (List Outcome)
   pub intake : HaveOutcomes arrival input (outcomes_in groups)
   pub grouped : AreGroups groups (Unit {0})
-  pub held : CanBeHeld groups
+  pub light : AreLight groups
+  pub wait : CanWait groups
   pub are : batches ≡ batches_of groups
   pub named : refusals ≡ refusals_of groups
 
@@ -73,12 +74,13 @@ pub data Stop : Type 0 where
 abbrev pub HaveNoGroup : List ℕ → Type 0
 HaveNoGroup bytes = AreFewer 1000 bytes
 
--- These bytes are at most a group and what one read gives.
-pub record AreFew (bytes : List ℕ) : Type 0 where
-  pub group : List ℕ
+-- These bytes are at most so many groups and what one read gives.
+pub record AreFew (groups : ℕ) (bytes : List ℕ) : Type 0 where
+  -- the bytes of the groups
+  pub grouped : List ℕ
   pub ahead : List ℕ
-  pub parts : bytes ≡ group ++ ahead
-  pub lines : HaveNoGroup group ⊎ AreLines 1000 group
+  pub parts : bytes ≡ grouped ++ ahead
+  pub lines : AreFewer (groups * 1000) grouped ⊎ AreLines (groups * 1000) grouped
   pub short : length ahead ≤ piece_len
 
 -- The limit is met after these groups, which are the first ones of the input. Of an input that is too long they are
@@ -107,8 +109,9 @@ IsCause arrival source groups begins no_memory = Unit {0}
 -- after them than one group and what one read gives.
 pub record StopsBehind (arrival : Arrival) (source : Change) (groups : List (List Outcome)) (stop : Stop) : Type 0 where
   pub begins : BeginsWith arrival source groups
-  pub fits : CanBeHeld groups
-  pub few : AreFew begins.rest
+  pub light : AreLight groups
+  pub wait : CanWait groups
+  pub few : AreFew 1 begins.rest
   pub cause : IsCause arrival source groups begins stop
 
 abbrev pub limit_text : Limit → List ℕ

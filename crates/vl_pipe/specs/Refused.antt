@@ -1,8 +1,8 @@
 -- The error text of a query that is not run.
 use Rattle.std.specs.Prelude.{◌≡◌, ◌≢◌, ◌⊎◌, ℕ, List, []}
 use Rattle.vl_io.specs.Change.{Change, IsTold}
-use Rattle.query_run.specs.declared.query.QueryRefusal.{QueryRefusal}
-use Rattle.query_run.specs.declared.query.QueryRefusal.TheVariants as refusals
+use Rattle.lone_desk.specs.QueryRefusal.{QueryRefusal}
+use Rattle.lone_desk.specs.QueryRefusal.TheVariants as refusals
 use Rattle.vl_pipe.specs.Program.{no_memory, refusal_text, said_of_query, stop_text, unreadable_pattern, unspelled}
 use Rattle.vl_status.specs.declared.status.Status.{Status}
 use Rattle.vl_status.specs.declared.status.Status.TheVariants as statuses

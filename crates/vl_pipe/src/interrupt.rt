@@ -1,6 +1,7 @@
 ghost use Rattle.std.specs.Prelude.{◌≡◌, ◌++◌, ◌∷◌, [], IfOk, string_bytes};
 ghost use Rattle.vl_pipe.specs.Program.{limit_text, overflow_text, said_of_query};
 
+use lone_desk::RunFault;
 use std::alloc::{AllocError, Global};
 use vl_io::ReadFault;
 use vl_row::Text;
@@ -92,6 +93,20 @@ impl From<ReadFault> for Interrupt {
             ReadFault::Failed => Interrupt::Unreadable,
             ReadFault::Long => Interrupt::Beyond(Limit::Long),
             ReadFault::Memory => Interrupt::NoMemory,
+        }
+    }
+}
+
+impl From<RunFault> for Interrupt {
+    ghost use Rattle.vl_pipe.specs.Interrupt.{interrupt_of};
+
+    ghost from_gives = { λ fault interrupt. interrupt ≡ interrupt_of fault };
+
+    fn from(fault: RunFault) -> Interrupt {
+        match fault {
+            RunFault::ManyRows => Interrupt::NoAnswer(Overflow::ManyRows),
+            RunFault::Overflow { name } => Interrupt::NoAnswer(Overflow::Total(name)),
+            RunFault::Memory => Interrupt::NoMemory,
         }
     }
 }

@@ -10,11 +10,10 @@ ghost use Rattle.vl_pipe.specs.Load.{IsHeld, IsLoaded, RefusesGroup, StopsGroup,
 use crate::arrival::Arrival;
 use crate::interrupt::{Interrupt, Limit};
 use crate::names::names_after;
-use lone_desk::LoneDesk;
-use std::alloc::Global;
+use lone_desk::{Insertion, InsertionFault, LoneDesk};
+use std::alloc::AllocGlobal;
 use std::sync::Wait;
 use vl_io::{Failed, GroupReader, Sink, Source, put_all};
-use vl_session::{Insertion, InsertionFault};
 
 /// How many lines form a group.
 const GROUP_LINES: usize = 1_000;
@@ -22,28 +21,28 @@ const GROUP_LINES: usize = 1_000;
 /// The most bytes that an input may have.
 const INPUT_LIMIT: usize = 4_294_967_296;
 
-/// Takes the input in, group by group: the rows of a group become one batch, and then its refused lines are named.
-pub(crate) fn load<R: Wait, S: Source, E: Sink>(
-    desk: &mut LoneDesk<'_, R>,
-    alloc: Global,
+/// Returns a desk with the input, which is taken in group by group: the rows of a group become one batch, and then its
+/// refused lines are named.
+pub(crate) fn load<'r, R: AllocGlobal + Wait, S: Source, E: Sink>(
+    rt: &'r R,
     arrival: &Arrival,
     src: &mut S,
     err: &mut E,
-) -> Result<(), Interrupt>
-    requires fresh { IsHeld desk.old [] }
-    ensures loaded { OnOk result (IsLoaded arrival.now (change_of S.left S.faults src.old src.new)
-        (change_of E.written E.faults err.old err.new) desk.new) }
+) -> Result<LoneDesk<'r, R>, Interrupt>
+    ensures loaded { IfOk result (IsLoaded arrival.now (change_of S.left S.faults src.old src.new)
+        (change_of E.written E.faults err.old err.new)) }
     ensures stopped { IfErr result (StopsLoad arrival.now (change_of S.left S.faults src.old src.new)
         (change_of E.written E.faults err.old err.new)) }
     ensures faults { E.faults err.old ≤ E.faults err.new }
 {
-    let mut reader = GroupReader::of(alloc, GROUP_LINES, INPUT_LIMIT)?;
+    let mut desk = LoneDesk::fresh(rt, rt.alloc())?;
+    let mut reader = GroupReader::of(rt.alloc(), GROUP_LINES, INPUT_LIMIT)?;
     let mut lines: u64 = 0;
     while reader.advance(src)? {
-        take_group(desk, arrival, reader.group(), lines, err)?;
+        take_group(&mut desk, arrival, reader.group(), lines, err)?;
         lines += GROUP_LINES as u64;
     }
-    Ok(())
+    Ok(desk)
 }
 
 /// Takes one group in, where this many lines came before it.
@@ -56,7 +55,7 @@ fn take_group<R: Wait, E: Sink>(
 ) -> Result<(), Interrupt>
     requires numbers { lines_before + length body.now < 2 ^ 64 }
     requires lines { length (lines_of body.now) ≤ 1000 }
-    requires held { (batches : List Rows) × IsHeld desk.old batches }
+    requires held { (batches : List Rows) × IsHeld [] desk.old batches }
     ensures taken { OnOk result ((group : List Outcome)
         × TakesGroup arrival.now body.now group desk.old desk.new
         × Took (change_of E.written E.faults err.old err.new) (refusals_from (lines_before + 1) group)) }
@@ -80,7 +79,7 @@ fn insert_group<R: Wait>(
     body: &[u8],
 ) -> Result<Insertion, Interrupt>
     requires lines { length (lines_of body.now) ≤ 1000 }
-    requires held { (batches : List Rows) × IsHeld desk.old batches }
+    requires held { (batches : List Rows) × IsHeld [] desk.old batches }
     ensures taken { IfOk result (λ insertion. (group : List Outcome)
         × TakesGroup arrival.now body.now group desk.old desk.new
         × (insertion.refused ≡ refused_from 1 group)) }

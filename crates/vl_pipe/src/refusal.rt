@@ -2,7 +2,7 @@
 ghost use Rattle.std.specs.Prelude.{◌≡◌, IfOk, string_bytes};
 ghost use Rattle.vl_pipe.specs.Refused.{said_of};
 
-use query_run::QueryRefusal;
+use lone_desk::QueryRefusal;
 use std::alloc::{AllocError, Global};
 
 /// Writes the line for the error stream.

@@ -5,7 +5,7 @@ ghost use Rattle.vl_pipe.specs.Refused.{ReportsRefused};
 
 use crate::interrupt::Interrupt;
 use crate::refusal::said_of;
-use query_run::QueryRefusal;
+use lone_desk::QueryRefusal;
 use std::alloc::Global;
 use vl_io::Sink;
 use vl_status::{Status, report_no_memory, say};

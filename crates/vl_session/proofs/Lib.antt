@@ -11,6 +11,7 @@ mod InsertionLemmas
 mod InsertLaws
 mod AnswerLemmas
 pub mod QueryLemmas
+mod ReportLemmas
 mod ResultLemmas
 mod SelectLemmas
 mod SyslogLists

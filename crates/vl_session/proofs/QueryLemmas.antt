@@ -57,6 +57,12 @@ refused_text text now history (refusals.Unspelled fault) refuses lasting =
 refused_text text now history (refusals.Pattern nth) refuses lasting = refuses
 refused_text text now history refusals.Memory refuses lasting = tt
 
+pub refused_as : (text : List ℕ) (now : ℕ) (history : History) (refusal : QueryRefusal) (fault : AnswerFault)
+    → fault ≡ fault_of_refusal refusal → Refuses text refusal → refusal ≢ refusals.Unspelled spelling.Memory
+    → FailsQuery text now history fault
+refused_as text now history refusal fault is refuses lasting =
+    subst (FailsQuery text now history) (sym is) (refused_text text now history refusal refuses lasting)
+
 -- why a query has no answer
 pub failed_run : (text : List ℕ) (now : ℤ) (query : Question) (rows : List Row) (history : History) (fault : RunFault)
     → pos 0 ≤ℤ now → rows_of history ≡ rows → IsQueryText text query
@@ -68,6 +74,13 @@ failed_run text now query rows history ManyRows from are spelled readable fails 
 failed_run text now query rows history (Overflow name) from are spelled readable fails =
     evaluates text now query rows history (evaluation.overflow name) from are spelled readable fails
 failed_run text now query rows history Memory from are spelled readable fails = tt
+
+pub failed_as : (text : List ℕ) (now : ℤ) (query : Question) (history : History) (run : RunFault) (fault : AnswerFault)
+    → fault ≡ fault_of_run run → pos 0 ≤ℤ now → IsQueryText text query → AllByRecursion CanBeRead (all_patterns query)
+    → FailsOver query now (rows_of history) run → FailsQuery text (unsigned_abs now) history fault
+failed_as text now query history run fault is from spelled readable fails =
+    subst (FailsQuery text (unsigned_abs now) history) (sym is)
+    (failed_run text now query (rows_of history) history run from refl spelled readable fails)
 
 -- the answer to a query
 pub answered_run : (text : List ℕ) (now : ℤ) (query : Question) (rows : List Row) (history : History) (answer : Answer)

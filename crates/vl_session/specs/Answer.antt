@@ -1,8 +1,10 @@
 -- The answer to a query over the shared state, and why there is none.
-use Rattle.std.specs.Prelude.{◌≡◌, ◌≢◌, ℕ, List, length, Option, None, Some}
-use Rattle.log_model.specs.History.{History}
+use Rattle.std.specs.Prelude.{◌≡◌, ◌≢◌, ℕ, ℤ, List, length, Option, None, Some}
+use Rattle.log_model.specs.History.{History, rows_of}
 use Rattle.log_model.specs.Print.{lines_text}
+pub use Rattle.query_run.specs.Answer.{FailsOver, IsAnswerOver}
 use Rattle.query_run.specs.Evaluation as evaluation
+use Rattle.query_run.specs.Question.{Question}
 use Rattle.query_run.specs.Records.{Record}
 use Rattle.query_run.specs.QueryFault.TheVariants as spelling
 use Rattle.query_run.specs.declared.evaluation.RunFault.{RunFault}
@@ -21,6 +23,11 @@ pub record IsQueryAnswer (text : List ℕ) (now : ℕ) (history : History) (answ
   pub records : List Record
   pub evaluated : Evaluates text now history (evaluation.records records)
   pub lines : answer.lines ≡ lines_text records
+  pub front : answer.front ≡ length history
+
+-- The answer is that to this query over all rows of the history.
+pub record IsSearchAnswer (query : Question) (now : ℤ) (history : History) (answer : Answer) : Type 0 where
+  pub over : IsAnswerOver query now (rows_of history) answer.lines
   pub front : answer.front ≡ length history
 
 -- Why there is none. `Memory` may always be returned.

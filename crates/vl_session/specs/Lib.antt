@@ -17,3 +17,10 @@ pub mod SyslogSession
 pub mod SyslogTaking
 pub mod Laws
 pub use Rattle.query_run.specs.Asked
+pub use Rattle.query_run.specs.Evaluation
+pub use Rattle.query_run.specs.Faults
+pub use Rattle.query_run.specs.QueryFault
+pub use Rattle.query_run.specs.Question
+pub use Rattle.query_run.specs.Records
+pub use Rattle.query_run.specs.declared.evaluation.RunFault
+pub use Rattle.query_run.specs.declared.query.QueryRefusal

@@ -13,7 +13,7 @@ use Rattle.query_run.specs.Patterns.{CanBeRead, all_patterns}
 use Rattle.query_run.specs.Question.{Question}
 use Rattle.query_run.specs.Records.{Record}
 use Rattle.query_run.specs.Faults.{fault_text}
-use Rattle.query_run.specs.Query.{IsQueryText}
+pub use Rattle.query_run.specs.Query.{IsQueryText}
 use Rattle.query_run.specs.QueryFault.{QueryFault}
 use Rattle.query_run.specs.Asked.{HasUnreadablePattern, IsUnspelled}
 use Rattle.vl_session.specs.Seen.{Effect, looks, nothing}

@@ -2,15 +2,19 @@
 ghost use Rattle.std.specs.Prelude.{◌≡◌, ◌≤ℤ◌, IfErr, IfOk, OnOk, pos, unsigned_abs};
 ghost use Rattle.log_desk.specs.Passes.{IsPassOf};
 ghost use Rattle.log_desk.specs.Seen.{caller_of, seen_of};
-ghost use Rattle.query_run.specs.Asked.{IsReadableQuery};
-ghost use Rattle.vl_session.specs.Answer.{FailsQuery, HasRecords, IsOfEvaluation, IsQueryAnswer, fault_effect};
+ghost use Rattle.log_model.specs.History.{rows_of};
+ghost use Rattle.query_run.specs.Answer.{FailsOver};
+ghost use Rattle.query_run.specs.Asked.{HasReadablePipes, IsReadableQuery, asked_by};
+ghost use Rattle.vl_session.specs.Answer.{FailsQuery, HasRecords, IsOfEvaluation, IsQueryAnswer, IsSearchAnswer};
+ghost use Rattle.vl_session.specs.Answer.{fault_effect};
 ghost use Rattle.vl_session.specs.Seen.{Has, Looks};
 
 use crate::access::Access;
 use crate::law::select_law;
 use log_desk::{Desk, Pass};
-use query_run::{QueryFault, QueryRefusal, RunFault, answer, read_query};
+use query_run::{HashSeed, QueryFault, QueryRefusal, RunFault, Search, answer_seeded, read_query};
 use std::alloc::{AllocError, Global};
+use std::random::RandomSource;
 use std::sync::Wait;
 use vl_row::Text;
 
@@ -71,7 +75,7 @@ impl From<RunFault> for AnswerFault {
 /// the pass has then seen.
 ///
 /// A text that spells no query, or has a pattern that cannot be read, is refused without a look at the log.
-pub fn answer_query<R: Wait>(
+pub fn answer_query<R: Wait + RandomSource>(
     rt: &R,
     alloc: Global,
     desk: &Desk,
@@ -98,38 +102,42 @@ pub fn answer_query<R: Wait>(
     ensures caller { caller_of pass.new ≡ caller_of pass.old }
 {
     select_law();
-    let access = Access { rt, alloc, desk };
-    answer_text(&access, pass, text, now)
-}
-
-/// Returns the answer to a query, or why there is none.
-pub(crate) fn answer_text<R: Wait>(
-    access: &Access<'_, R>,
-    pass: &mut Pass,
-    text: &str,
-    now: i64,
-) -> Result<Answer, AnswerFault>
-    requires pass { IsPassOf access.now.desk.now pass.old }
-    requires moment { pos 0 ≤ℤ now }
-    ensures answered { IfOk result (IsQueryAnswer text.now (unsigned_abs now) (seen_of pass.new).history) }
-    ensures refused { IfErr result (FailsQuery text.now (unsigned_abs now) (seen_of pass.new).history) }
-    ensures looks { OnOk result (Looks (caller_of pass.old) (seen_of pass.old) (seen_of pass.new)) }
-    ensures effect { IfErr result (λ fault. Has (caller_of pass.old) (seen_of pass.old) (seen_of pass.new)
-        (fault_effect fault)) }
-    ensures pass { IsPassOf access.now.desk.now pass.new }
-    ensures caller { caller_of pass.new ≡ caller_of pass.old }
-{
-    let search = match read_query(access.alloc, text) {
+    let search = match read_query(alloc, text) {
         Ok(search) => search,
         Err(refusal) => return Err(AnswerFault::from(refusal)),
     };
+    match answer_search(rt, alloc, desk, pass, &search, now) {
+        Ok(answer) => Ok(answer),
+        Err(fault) => Err(AnswerFault::from(fault)),
+    }
+}
+
+/// Answers a query that was read, as [`answer_query`] does. A look at the log takes one turn.
+pub fn answer_search<R: Wait + RandomSource>(
+    rt: &R,
+    alloc: Global,
+    desk: &Desk,
+    pass: &mut Pass,
+    search: &Search,
+    now: i64,
+) -> Result<Answer, RunFault>
+    requires pass { IsPassOf desk.now pass.old }
+    requires readable { HasReadablePipes search.now }
+    ensures answered { IfOk result (IsSearchAnswer (asked_by search.now) now (seen_of pass.new).history) }
+    ensures refused { IfErr result (FailsOver (asked_by search.now) now (rows_of (seen_of pass.new).history)) }
+    ensures looks { Looks (caller_of pass.old) (seen_of pass.old) (seen_of pass.new) }
+    ensures pass { IsPassOf desk.now pass.new }
+    ensures caller { caller_of pass.new ≡ caller_of pass.old }
+{
+    let access = Access { rt, alloc, desk };
     let snapshot = match access.look(pass) {
         Ok(snapshot) => snapshot,
-        Err(AllocError) => return Err(AnswerFault::Memory),
+        Err(AllocError) => return Err(RunFault::Memory),
     };
     let front = snapshot.front();
-    match answer(access.alloc, &search, now, &snapshot) {
+    let seed = HashSeed::random(rt);
+    match answer_seeded(alloc, seed, search, now, &snapshot) {
         Ok(lines) => Ok(Answer { front, lines }),
-        Err(fault) => Err(AnswerFault::from(fault)),
+        Err(fault) => Err(fault),
     }
 }

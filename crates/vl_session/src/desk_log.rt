@@ -8,7 +8,7 @@ ghost use Rattle.vl_session.specs.Answering.{Answered, SaysOutcome, TakesIn};
 ghost use Rattle.vl_session.specs.Sent.{bytes_of};
 
 use crate::access::Access;
-use crate::answer::answer_text;
+use crate::answer::answer_query;
 use crate::insert::Incoming;
 use crate::insert_reply::refusal_reply;
 use crate::log::{Log, Reply};
@@ -20,6 +20,7 @@ use http_reply::{Delivery, no_memory};
 use http_route::{WantFault, Wanted, delivery_to};
 use log_desk::Pass;
 use std::alloc::AllocError;
+use std::random::RandomSource;
 use std::sync::Wait;
 
 /// The desk, and the pass of a caller.
@@ -29,7 +30,7 @@ pub(crate) struct DeskLog<'s, R> {
     pub(crate) pass: &'s mut Pass,
 }
 
-impl<R: Wait> Log for DeskLog<'_, R> {
+impl<R: Wait + RandomSource> Log for DeskLog<'_, R> {
     ghost use Rattle.log_desk.specs.Passes.{IsPassOf};
     ghost use Rattle.log_desk.specs.Seen.{caller_of, seen_of};
 
@@ -59,7 +60,7 @@ impl<R: Wait> Log for DeskLog<'_, R> {
 }
 
 /// Returns the reply to a request. Where memory runs out there is none, and nothing was added.
-fn reply_to<R: Wait>(
+fn reply_to<R: Wait + RandomSource>(
     access: &Access<'_, R>,
     pass: &mut Pass,
     request: &Request,
@@ -127,7 +128,7 @@ fn take_in<R: Wait>(
 }
 
 /// Returns the reply to a query.
-fn query_reply<R: Wait>(
+fn query_reply<R: Wait + RandomSource>(
     access: &Access<'_, R>,
     pass: &mut Pass,
     text: &str,
@@ -142,7 +143,7 @@ fn query_reply<R: Wait>(
     ensures pass { IsPassOf access.now.desk.now pass.new }
     ensures caller { caller_of pass.new ≡ caller_of pass.old }
 {
-    match answer_text(access, pass, text, now) {
+    match answer_query(access.rt, access.alloc, access.desk, pass, text, now) {
         Ok(answer) => {
             let reply = lines_reply(access.alloc, answer.lines, delivery)?;
             Ok(reply)

@@ -11,6 +11,7 @@ use crate::report::Report;
 use crate::session::serve_requests;
 use log_desk::{Desk, Pass};
 use std::alloc::Global;
+use std::random::RandomSource;
 use std::sync::Wait;
 use vl_io::{Clock, Sink, Source};
 
@@ -21,7 +22,7 @@ use vl_io::{Clock, Sink, Source};
 /// over a front of it, which holds all that the pass had seen before, or says that memory ran out. A query's reply is
 /// the lines of its evaluation over all rows of that front. The entries that the pass adds to the history are the
 /// batches of the inserts that were accepted, in their order.
-pub fn serve_session<R: Wait, S: Source, K: Sink, C: Clock>(
+pub fn serve_session<R: Wait + RandomSource, S: Source, K: Sink, C: Clock>(
     rt: &R,
     alloc: Global,
     desk: &Desk,

@@ -29,54 +29,29 @@ pub(crate) fn serve_requests<L: Log, S: Source, K: Sink, C: Clock>(
     ensures same { L.caller log.new ≡ L.caller log.old }
     ensures lent { L.name log.new ≡ L.name log.old }
 {
-    let Served { turns, end } = serve_turns(alloc, log, src, sink, clock);
-    Report {
-        turns: Items::of(turns),
-        end,
-    }
-}
-
-/// The turns that were served, and why no more.
-#[derive(Drop)]
-struct Served {
-    turns: Vec<Done>,
-    end: End,
-}
-
-fn serve_turns<L: Log, S: Source, K: Sink, C: Clock>(
-    alloc: Global,
-    log: &mut L,
-    src: &mut S,
-    sink: &mut K,
-    clock: &mut C,
-) -> Served
-    requires { L.may_ask log.old }
-    ensures session { IsSession (connection (L.caller log.old) (L.seen log.old) (L.seen log.new)
-        (change_of S.left S.faults src.old src.new) (change_of K.written K.faults sink.old sink.new)
-        (C.moments clock.old) (C.moments clock.new) result.turns.items result.end) }
-    ensures may_ask { L.may_ask log.new }
-    ensures same { L.caller log.new ≡ L.caller log.old }
-    ensures lent { L.name log.new ≡ L.name log.old }
-{
     let mut reader = Reader::new(alloc);
     let mut turns = Vec::new(alloc);
     'turns: while turns.len() < TURN_LIMIT {
         match turns.reserve(1) {
             Ok(()) => {}
-            Err(AllocError) => return Served {
-                turns,
-                end: End::Memory,
-            },
+            Err(AllocError) => return report(turns, End::Memory),
         }
         let request = match next_request(&mut reader, src, sink) {
             Ok(request) => request,
-            Err(end) => return Served { turns, end },
+            Err(end) => return report(turns, end),
         };
         match take_turn(log, &request, &mut turns, sink, clock) {
             Ok(()) => {}
-            Err(end) => return Served { turns, end },
+            Err(end) => return report(turns, end),
         }
     }
-    let end = End::Limit;
-    Served { turns, end }
+    report(turns, End::Limit)
+}
+
+fn report(turns: Vec<Done>, end: End) -> Report
+    ensures turns { result.turns ≡ turns.items }
+    ensures end { result.end ≡ end }
+{
+    let turns = Items::of(turns);
+    Report { turns, end }
 }

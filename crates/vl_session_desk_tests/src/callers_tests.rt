@@ -6,6 +6,7 @@ use crate::connection_tests::{Told, push_found, push_insert, push_inserted, push
 use log_desk::{Desk, Pass};
 use std::alloc::{AllocError, Global};
 use std::fmt::Write;
+use std::random::RandomSource;
 use std::sync::Wait;
 use std::thread::{Threads, join};
 use vl_session::End;
@@ -55,7 +56,7 @@ fn grows(told: &Told) -> bool {
 }
 
 /// Serves a session. Whether all was as it should be.
-fn is_served<R: Wait>(
+fn is_served<R: Wait + RandomSource>(
     rt: &R,
     alloc: Global,
     desk: &Desk,
@@ -74,7 +75,13 @@ fn is_served<R: Wait>(
 }
 
 /// One session. The pass comes back where all was as it should be.
-fn one<R: Wait>(rt: &R, alloc: Global, desk: &Desk, mut pass: Pass, caller: u64) -> Option<Pass>
+fn one<R: Wait + RandomSource>(
+    rt: &R,
+    alloc: Global,
+    desk: &Desk,
+    mut pass: Pass,
+    caller: u64,
+) -> Option<Pass>
     requires { IsPassOf desk.now pass }
     ensures { IfSome result (λ p. IsPassOf desk.now p) }
 {
@@ -85,7 +92,7 @@ fn one<R: Wait>(rt: &R, alloc: Global, desk: &Desk, mut pass: Pass, caller: u64)
 }
 
 /// Two sessions at once. The pass has then both.
-fn two<R: Threads + Wait + Sync>(
+fn two<R: Threads + Wait + RandomSource + Sync>(
     rt: &R,
     alloc: Global,
     desk: &Desk,
@@ -114,7 +121,7 @@ fn two<R: Threads + Wait + Sync>(
 }
 
 /// Four sessions at once. The pass has then all four.
-fn four<R: Threads + Wait + Sync>(
+fn four<R: Threads + Wait + RandomSource + Sync>(
     rt: &R,
     alloc: Global,
     desk: &Desk,
@@ -143,7 +150,7 @@ fn four<R: Threads + Wait + Sync>(
 }
 
 /// Eight sessions at once. The pass has then all eight.
-pub(crate) fn eight<R: Threads + Wait + Sync>(
+pub(crate) fn eight<R: Threads + Wait + RandomSource + Sync>(
     rt: &R,
     alloc: Global,
     desk: &Desk,

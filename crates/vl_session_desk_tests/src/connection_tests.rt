@@ -4,6 +4,7 @@ ghost use Rattle.turn_lock.specs.Passes.{IsPassOf};
 use log_desk::{Desk, Pass};
 use std::alloc::{AllocError, Global};
 use std::fmt::Write;
+use std::random::RandomSource;
 use std::sync::Wait;
 use vl_io::{MemClock, MemSink, MemSource};
 use vl_session::{Report, serve_session};
@@ -16,7 +17,7 @@ pub(crate) struct Told {
 }
 
 /// Returns a session over these bytes.
-pub(crate) fn tell<R: Wait>(
+pub(crate) fn tell<R: Wait + RandomSource>(
     rt: &R,
     alloc: Global,
     desk: &Desk,

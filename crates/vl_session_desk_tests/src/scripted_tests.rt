@@ -7,6 +7,7 @@ use crate::connection_tests::tell;
 use log_desk::{Desk, Pass};
 use std::alloc::Global;
 use std::marker::Model;
+use std::random::RandomSource;
 use std::sync::Wait;
 use vl_io::{Failed, Source};
 
@@ -32,7 +33,7 @@ impl<'d, R> Model for Scripted<'d, R> {
     ghost invariant = { λ s. IsPassOf s.desk.now s.pass };
 }
 
-impl<R: Wait> Source for Scripted<'_, R> {
+impl<R: Wait + RandomSource> Source for Scripted<'_, R> {
     ghost left = { λ _. None };
 
     ghost faults = { λ _. 0 };

@@ -6,6 +6,7 @@ use crate::connection_tests::{push_found, push_inserted, push_select, tell};
 use crate::scripted_tests::Scripted;
 use log_desk::{Desk, Pass};
 use std::alloc::{AllocError, Global};
+use std::random::RandomSource;
 use std::sync::Wait;
 use std::test::Fail;
 use vl_io::{MemClock, MemSink};
@@ -35,7 +36,7 @@ fn has_fronts(report: &Report, fronts: &[u64]) -> bool {
 }
 
 /// Two sessions of one desk, of which the second runs inside the third read of the first one.
-fn two<R: Wait>(rt: &R, alloc: Global) -> Result<bool, AllocError> {
+fn two<R: Wait + RandomSource>(rt: &R, alloc: Global) -> Result<bool, AllocError> {
     let (desk, mut pass) = Desk::fresh(rt, alloc, 2)?;
     let Ok(other) = desk.split(&mut pass) else {
         return Ok(false);
@@ -69,7 +70,7 @@ fn two_sessions(rt: HostRuntime) -> Result<(), Fail> {
 }
 
 /// Returns whether all rows of all sessions are there, and each once.
-fn holds_all<R: Wait>(
+fn holds_all<R: Wait + RandomSource>(
     rt: &R,
     alloc: Global,
     desk: &Desk,

@@ -3,13 +3,17 @@ use crate::sessions_tests::{Setting, Told, tell};
 use crate::spelling_tests::bytes_of;
 use std::alloc::{AllocError, AllocGlobal, Global};
 use std::fmt::Write;
+use std::random::RandomSource;
 use std::sync::Wait;
 use vl_session::SyslogEnd;
 
 /// The longest input that is also cut and of which each read fails.
 const SHORT: usize = 200;
 
-pub fn answer<R: AllocGlobal + Wait>(rt: &R, line: &str) -> Result<String, AllocError> {
+pub fn answer<R: AllocGlobal + Wait + RandomSource>(
+    rt: &R,
+    line: &str,
+) -> Result<String, AllocError> {
     let (name, rest) = line.split_once(" / ").unwrap_or((line, ""));
     let (query, rest) = rest.split_once(" / ").unwrap_or((rest, ""));
     let (piece, case) = rest.split_once(" / ").unwrap_or((rest, ""));
@@ -53,7 +57,7 @@ fn input(alloc: Global, case: &str) -> Result<Vec<u8>, AllocError> {
 }
 
 /// Reads a byte at a time.
-fn push_cut<R: AllocGlobal + Wait>(
+fn push_cut<R: AllocGlobal + Wait + RandomSource>(
     rt: &R,
     bytes: &[u8],
     query: &str,
@@ -75,7 +79,7 @@ fn push_cut<R: AllocGlobal + Wait>(
 
 /// Lets each read fail in turn. The session is then the one whose input ended there, but for how it ends, and for a
 /// message that the end would make.
-fn push_reads<R: AllocGlobal + Wait>(
+fn push_reads<R: AllocGlobal + Wait + RandomSource>(
     rt: &R,
     bytes: &[u8],
     query: &str,

@@ -5,6 +5,7 @@ ghost use Rattle.vl_io.specs.Faults.{HasCause};
 
 use log_desk::Desk;
 use std::alloc::{AllocError, AllocGlobal};
+use std::random::RandomSource;
 use std::sync::Wait;
 use vl_io::{Failed, MemClock, Source};
 use vl_session::syslog_session;
@@ -33,7 +34,7 @@ impl Source for SameLine {
 }
 
 /// Returns a session over it.
-pub fn endless_input<R: AllocGlobal + Wait>(rt: &R) -> Result<String, AllocError> {
+pub fn endless_input<R: AllocGlobal + Wait + RandomSource>(rt: &R) -> Result<String, AllocError> {
     let alloc = rt.alloc();
     let mut clock = MemClock::of(alloc, &[5])?;
     let (desk, mut pass) = Desk::fresh(rt, alloc, 1)?;

@@ -5,6 +5,7 @@ ghost use Rattle.std.specs.Prelude.{◌<◌, All, IfOk};
 use log_desk::{Desk, Pass};
 use std::alloc::{AllocError, AllocGlobal, Global};
 use std::fmt::Write;
+use std::random::RandomSource;
 use std::sync::Wait;
 use vl_io::{MemClock, MemSource};
 use vl_session::{SyslogReport, answer_query, syslog_session};
@@ -25,7 +26,7 @@ pub struct Told {
     pub lines: String,
 }
 
-pub fn tell<R: AllocGlobal + Wait>(
+pub fn tell<R: AllocGlobal + Wait + RandomSource>(
     rt: &R,
     bytes: &[u8],
     query: &str,
@@ -48,7 +49,7 @@ pub fn tell<R: AllocGlobal + Wait>(
 }
 
 /// The lines that answer the query, each after a blank.
-fn push_lines<R: AllocGlobal + Wait>(
+fn push_lines<R: AllocGlobal + Wait + RandomSource>(
     rt: &R,
     desk: &Desk,
     pass: &mut Pass,

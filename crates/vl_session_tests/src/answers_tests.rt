@@ -2,6 +2,7 @@
 use crate::sessions_tests::{Setting, Told, tell};
 use crate::spelling_tests::bytes_of;
 use std::alloc::{AllocError, AllocGlobal, Global};
+use std::random::RandomSource;
 use std::sync::Wait;
 use vl_session::End;
 
@@ -11,7 +12,10 @@ const SHORT: usize = 200;
 /// More writes than any case has.
 const WRITES: u64 = 8;
 
-pub fn answer<R: AllocGlobal + Wait>(rt: &R, line: &str) -> Result<String, AllocError> {
+pub fn answer<R: AllocGlobal + Wait + RandomSource>(
+    rt: &R,
+    line: &str,
+) -> Result<String, AllocError> {
     let (name, case) = line.split_once(" | ").unwrap_or((line, ""));
     let bytes = connection(rt.alloc(), case)?;
     let whole = tell(rt, &bytes, Setting::default())?;
@@ -39,7 +43,7 @@ fn connection(alloc: Global, case: &str) -> Result<Vec<u8>, AllocError> {
 }
 
 /// Reads a byte at a time.
-fn push_cut<R: AllocGlobal + Wait>(
+fn push_cut<R: AllocGlobal + Wait + RandomSource>(
     rt: &R,
     bytes: &[u8],
     whole: &Told,
@@ -58,7 +62,7 @@ fn push_cut<R: AllocGlobal + Wait>(
 }
 
 /// Lets each read fail in turn. The session ends there, as it would where the input ended there, but for how it ends.
-fn push_reads<R: AllocGlobal + Wait>(
+fn push_reads<R: AllocGlobal + Wait + RandomSource>(
     rt: &R,
     bytes: &[u8],
     whole: &Told,
@@ -80,7 +84,7 @@ fn push_reads<R: AllocGlobal + Wait>(
 }
 
 /// Returns whether a session is the one whose source failed after these bytes, or ended before that.
-fn is_stopped<R: AllocGlobal + Wait>(
+fn is_stopped<R: AllocGlobal + Wait + RandomSource>(
     rt: &R,
     read: &[u8],
     whole: &Told,
@@ -95,7 +99,7 @@ fn is_stopped<R: AllocGlobal + Wait>(
 }
 
 /// Lets each write fail in turn.
-fn push_writes<R: AllocGlobal + Wait>(
+fn push_writes<R: AllocGlobal + Wait + RandomSource>(
     rt: &R,
     bytes: &[u8],
     whole: &Told,

@@ -5,6 +5,7 @@ ghost use Rattle.turn_lock.specs.Passes.{IsPassOf};
 use ingest_row::Options;
 use log_desk::{Desk, Pass};
 use std::alloc::{AllocError, AllocGlobal, Global};
+use std::random::RandomSource;
 use std::sync::Wait;
 use std::test::Fail;
 use vl_io::{MemClock, MemSink, MemSource};
@@ -42,7 +43,7 @@ fn lines_become_one_batch(rt: HostRuntime) -> Result<(), Fail> {
 }
 
 /// Returns whether the query has these lines over this many batches.
-fn has_lines<R: AllocGlobal + Wait>(
+fn has_lines<R: AllocGlobal + Wait + RandomSource>(
     rt: &R,
     desk: &Desk,
     pass: &mut Pass,
@@ -76,7 +77,7 @@ fn a_query_sees_all_batches(rt: HostRuntime) -> Result<(), Fail> {
 }
 
 /// Returns why a query over the desk has no answer, as a word with its number or name.
-fn refusal<R: AllocGlobal + Wait>(
+fn refusal<R: AllocGlobal + Wait + RandomSource>(
     rt: &R,
     desk: &Desk,
     pass: &mut Pass,
@@ -124,7 +125,7 @@ fn fill<R: AllocGlobal + Wait>(rt: &R, desk: &Desk, pass: &mut Pass, count: u64)
 }
 
 /// Returns what is written to these bytes, and whether the session had one turn and then its input ended.
-fn written_to<R: AllocGlobal + Wait>(
+fn written_to<R: AllocGlobal + Wait + RandomSource>(
     rt: &R,
     desk: &Desk,
     pass: &mut Pass,

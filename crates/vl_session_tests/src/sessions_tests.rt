@@ -5,6 +5,7 @@ use crate::spelling_tests::push_spelled;
 use log_desk::Desk;
 use std::alloc::{AllocError, AllocGlobal, Global};
 use std::fmt::Write;
+use std::random::RandomSource;
 use std::sync::Wait;
 use vl_io::{MemClock, MemSink, MemSource};
 use vl_session::{End, Report, serve_session};
@@ -28,7 +29,7 @@ pub struct Told {
     pub end: End,
 }
 
-pub fn tell<R: AllocGlobal + Wait>(
+pub fn tell<R: AllocGlobal + Wait + RandomSource>(
     rt: &R,
     bytes: &[u8],
     setting: Setting,

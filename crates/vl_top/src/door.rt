@@ -7,11 +7,12 @@ ghost use Rattle.vl_top.specs.Doors.{GoesOn, IsServed, door_change};
 use crate::visit::serve_visit;
 use log_desk::{Desk, Pass};
 use std::alloc::Global;
+use std::random::RandomSource;
 use std::sync::Wait;
 use vl_io::{Doors, Failed};
 
 /// Serves the visits of a door one after another, until none is left or the door fails. It answers whether it failed.
-pub(crate) fn serve_door<R: Wait, D: Doors>(
+pub(crate) fn serve_door<R: Wait + RandomSource, D: Doors>(
     rt: &R,
     alloc: Global,
     desk: &Desk,

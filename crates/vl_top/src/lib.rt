@@ -21,6 +21,7 @@ pub use report::report_usage;
 use server::run_server;
 pub use serving::{ServeEnd, serve};
 use std::alloc::AllocGlobal;
+use std::random::RandomSource;
 use std::sync::Wait;
 use std::thread::Threads;
 use trial::{Trial, run_trial};
@@ -36,7 +37,7 @@ pub use words::read_words;
 /// queries over them. `serve` serves the doors, each as often as it has visits; whoever calls opens them at the
 /// addresses that the words say.
 pub fn run<
-    R: AllocGlobal + Threads + Wait + Sync,
+    R: AllocGlobal + Threads + Wait + RandomSource + Sync,
     S: Source,
     O: Sink,
     E: Sink,

@@ -8,6 +8,7 @@ use crate::report::report_end;
 use crate::serving::serve;
 use log_desk::Desk;
 use std::alloc::AllocGlobal;
+use std::random::RandomSource;
 use std::sync::Wait;
 use std::thread::Threads;
 use vl_io::{Clock, Doors, Sink};
@@ -15,7 +16,7 @@ use vl_status::{Status, report_no_memory};
 
 /// Serves the doors over a new desk, and says how that ended.
 pub(crate) fn run_server<
-    R: AllocGlobal + Threads + Wait + Sync,
+    R: AllocGlobal + Threads + Wait + RandomSource + Sync,
     E: Sink,
     D: Doors + Send + Drop,
     C: Clock,

@@ -10,6 +10,7 @@ use crate::door::serve_door;
 use crate::worker::Worker;
 use log_desk::{Desk, Pass};
 use std::alloc::Global;
+use std::random::RandomSource;
 use std::sync::Wait;
 use std::thread::Threads;
 use std::{mem, thread};
@@ -32,7 +33,7 @@ pub struct ServeEnd {
 ///
 /// The tests show, and no clause says, that each door for which there is a pass has a worker of its own with it, so
 /// that doors are served side by side, and that in the end `pass` has seen all that the workers' passes had seen.
-pub fn serve<R: Threads + Wait + Sync, D: Doors + Send + Drop, C: Clock>(
+pub fn serve<R: Threads + Wait + RandomSource + Sync, D: Doors + Send + Drop, C: Clock>(
     rt: &R,
     alloc: Global,
     desk: &Desk,
@@ -109,7 +110,7 @@ fn assign_workers<D: Doors + Drop>(
 }
 
 /// Has all workers work, each in a thread of its own where there can be one.
-fn work_side_by_side<R: Threads + Wait + Sync, D: Doors + Send + Drop>(
+fn work_side_by_side<R: Threads + Wait + RandomSource + Sync, D: Doors + Send + Drop>(
     rt: &R,
     alloc: Global,
     desk: &Desk,
@@ -138,7 +139,7 @@ where
 
 /// Puts the doors of the workers back, for whom there is room, and their passes into this one. It answers how many
 /// doors ended at a fault. The doors of workers without a pass are served now.
-fn join_workers<R: Wait, D: Doors + Drop>(
+fn join_workers<R: Wait + RandomSource, D: Doors + Drop>(
     rt: &R,
     desk: &Desk,
     pass: &mut Pass,
@@ -167,7 +168,7 @@ fn join_workers<R: Wait, D: Doors + Drop>(
 }
 
 /// Serves the doors one after another, and answers how many of them ended at a fault.
-fn serve_in_turn<R: Wait, D: Doors>(
+fn serve_in_turn<R: Wait + RandomSource, D: Doors>(
     rt: &R,
     alloc: Global,
     desk: &Desk,

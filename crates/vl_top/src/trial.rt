@@ -5,6 +5,7 @@ ghost use Rattle.vl_io.specs.Moments.{FirstTold};
 ghost use Rattle.vl_top.specs.Trial.{EndsTrial};
 
 use std::alloc::AllocGlobal;
+use std::random::RandomSource;
 use std::sync::Wait;
 use vl_io::{Clock, Failed, Sink, put_all};
 use vl_status::{Status, report_no_memory};
@@ -20,7 +21,7 @@ pub(crate) struct Trial {
 }
 
 /// Makes the rows, and writes the answers to the queries over them.
-pub(crate) fn run_trial<R: AllocGlobal + Wait, O: Sink, E: Sink, C: Clock>(
+pub(crate) fn run_trial<R: AllocGlobal + Wait + RandomSource, O: Sink, E: Sink, C: Clock>(
     rt: &R,
     asked: Trial,
     out: &mut O,

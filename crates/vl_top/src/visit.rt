@@ -8,12 +8,13 @@ ghost use Rattle.vl_top.specs.Visit.{IsVisit};
 
 use log_desk::{Desk, Pass};
 use std::alloc::Global;
+use std::random::RandomSource;
 use std::sync::Wait;
 use vl_io::{Clock, Sink, Source, Visit, VisitKind};
 use vl_session::{serve_session, session_law, syslog_law, syslog_session};
 
 /// Serves a visit as one session, by what the visitor speaks. What the session reports is for the visitor only.
-pub(crate) fn serve_visit<R: Wait, S: Source, K: Sink, C: Clock>(
+pub(crate) fn serve_visit<R: Wait + RandomSource, S: Source, K: Sink, C: Clock>(
     rt: &R,
     alloc: Global,
     desk: &Desk,

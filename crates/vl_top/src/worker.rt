@@ -8,6 +8,7 @@ ghost use Rattle.vl_top.specs.Workers.{EndsAs, HasWorked, IsOfDesk};
 use crate::door::serve_door;
 use log_desk::{Desk, Pass};
 use std::alloc::Global;
+use std::random::RandomSource;
 use std::sync::Wait;
 use vl_io::Doors;
 
@@ -23,7 +24,7 @@ pub(crate) struct Worker<D> {
 
 impl<D: Doors + Drop> Worker<D> {
     /// Serves the door with the worker's own pass, if it has one.
-    pub(crate) fn work<R: Wait>(&mut self, rt: &R, alloc: Global, desk: &Desk)
+    pub(crate) fn work<R: Wait + RandomSource>(&mut self, rt: &R, alloc: Global, desk: &Desk)
         requires { IsOfDesk desk.now self.old }
         ensures worked { HasWorked (door_change D.left D.faults) self.old self.new }
         ensures desk { IsOfDesk desk.now self.new }
@@ -35,7 +36,7 @@ impl<D: Doors + Drop> Worker<D> {
 
     /// Puts the worker's pass into this one, and gives its door, and whether that ended at a fault. The door of a
     /// worker without a pass is served now.
-    pub(crate) fn finish<R: Wait>(
+    pub(crate) fn finish<R: Wait + RandomSource>(
         self,
         rt: &R,
         alloc: Global,

@@ -4,6 +4,7 @@ ghost use Rattle.std.specs.Prelude.{◌≤◌, length};
 use crate::tests::{TestDoors, crossing_doors, door_for};
 use crate::visitors_tests::Replies;
 use std::alloc::{AllocError, AllocGlobal};
+use std::random::RandomSource;
 use std::rt::Clock as SystemTimer;
 use std::sync::atomic::{AtomicU64, Ordering};
 use std::sync::{Arc, Wait};
@@ -16,12 +17,9 @@ use vl_top::run;
 const SERVER: &[&str] = &["serve", "--http", "x"];
 
 /// Returns whether a server over the doors ends with the status, and says this.
-fn server_ends<R: AllocGlobal + Threads + Wait + Sync + SystemTimer + Copy + Drop + Send>(
-    rt: &R,
-    doors: &mut Vec<TestDoors<R>>,
-    status: u8,
-    said: &str,
-) -> Result<bool, AllocError>
+fn server_ends<
+    R: AllocGlobal + Threads + Wait + RandomSource + Sync + SystemTimer + Copy + Drop + Send,
+>(rt: &R, doors: &mut Vec<TestDoors<R>>, status: u8, said: &str) -> Result<bool, AllocError>
     requires few { length doors.old.items ≤ 64 }
 {
     let alloc = rt.alloc();

@@ -5,6 +5,7 @@ ghost use Rattle.turn_lock.specs.Passes.{IsPassOf};
 use crate::visitors_tests::{CountingSink, Replies, WaitingSource};
 use log_desk::{Desk, Pass};
 use std::alloc::{AllocError, AllocGlobal, Global};
+use std::random::RandomSource;
 use std::rt::Clock as SystemTimer;
 use std::sync::atomic::{AtomicU64, Ordering};
 use std::sync::{Arc, Wait};
@@ -76,7 +77,7 @@ pub(crate) fn crossing_doors<R: SystemTimer + Copy + Drop>(
 }
 
 /// Returns the result of serving: how it ends, how many replies are written, and the front that the pass has seen then.
-fn serve_all<R: Threads + Wait + Sync + SystemTimer + Copy + Drop + Send>(
+fn serve_all<R: Threads + Wait + RandomSource + Sync + SystemTimer + Copy + Drop + Send>(
     rt: &R,
     alloc: Global,
     passes: u32,

@@ -1,5 +1,6 @@
 //! The program over objects in memory. The expected texts are worked by hand from the rules in `docs/`.
 use std::alloc::{AllocError, AllocGlobal, Global};
+use std::random::RandomSource;
 use std::sync::Wait;
 use std::test::Fail;
 use std::thread::Threads;
@@ -33,7 +34,7 @@ pub(crate) struct Wanted<'a> {
 
 /// Returns whether a run ends so, on a clock that stands at 5 ns, and then at 7, and a source that gives its input in
 /// small pieces first.
-pub(crate) fn ends<R: AllocGlobal + Threads + Wait + Sync>(
+pub(crate) fn ends<R: AllocGlobal + Threads + Wait + RandomSource + Sync>(
     rt: &R,
     words: &[&str],
     input: &[u8],
@@ -198,7 +199,7 @@ fn printed(alloc: Global, messages: &str) -> Result<String, AllocError> {
     Ok(text)
 }
 
-fn selects<R: AllocGlobal + Threads + Wait + Sync>(
+fn selects<R: AllocGlobal + Threads + Wait + RandomSource + Sync>(
     rt: &R,
     query: &str,
     messages: &str,
@@ -422,7 +423,7 @@ fn surrounded(alloc: Global, line: &[u8]) -> Result<Vec<u8>, AllocError> {
 }
 
 /// Returns whether such a line between two good ones is refused so, and nothing else is lost.
-fn is_named<R: AllocGlobal + Threads + Wait + Sync>(
+fn is_named<R: AllocGlobal + Threads + Wait + RandomSource + Sync>(
     rt: &R,
     line: &[u8],
     named: &str,
@@ -445,7 +446,7 @@ fn a_line_that_is_no_row_is_named_and_nothing_else_is_lost(rt: HostRuntime) -> R
 }
 
 /// Returns whether a line of this many brackets is refused so.
-fn brackets_are_named<R: AllocGlobal + Threads + Wait + Sync>(
+fn brackets_are_named<R: AllocGlobal + Threads + Wait + RandomSource + Sync>(
     rt: &R,
     bracket: u8,
     named: &str,
@@ -572,7 +573,7 @@ fn spread(alloc: Global, first: &str, feeds: usize, last: &str) -> Result<Vec<u8
 
 /// Returns whether a source that fails at this read, after a whole group, has the refused lines of the group named
 /// before the fault is told.
-fn names_first<R: AllocGlobal + Threads + Wait + Sync>(
+fn names_first<R: AllocGlobal + Threads + Wait + RandomSource + Sync>(
     rt: &R,
     read: u64,
 ) -> Result<bool, AllocError> {
@@ -605,7 +606,7 @@ fn repeated(alloc: Global, text: &str, times: usize) -> Result<Vec<u8>, AllocErr
 }
 
 /// Returns whether this many lines `{"_msg":"error"}` give as many rows, and nothing else.
-fn all_are_answered<R: AllocGlobal + Threads + Wait + Sync>(
+fn all_are_answered<R: AllocGlobal + Threads + Wait + RandomSource + Sync>(
     rt: &R,
     lines: usize,
 ) -> Result<bool, AllocError> {
@@ -618,7 +619,7 @@ fn all_are_answered<R: AllocGlobal + Threads + Wait + Sync>(
 }
 
 /// Returns whether the rows with the word `error` of this input are these, and nothing else is written.
-fn is_answered<R: AllocGlobal + Threads + Wait + Sync>(
+fn is_answered<R: AllocGlobal + Threads + Wait + RandomSource + Sync>(
     rt: &R,
     input: &[u8],
     out: &[u8],
@@ -641,7 +642,7 @@ fn groups_are_answered_in_their_order(rt: HostRuntime) -> Result<(), Fail> {
 }
 
 /// Groups with a row each, this many, and whether the run ends with this status and this text.
-fn held<R: AllocGlobal + Threads + Wait + Sync>(
+fn held<R: AllocGlobal + Threads + Wait + RandomSource + Sync>(
     rt: &R,
     groups: usize,
     wanted: Wanted<'_>,
@@ -672,7 +673,7 @@ fn a_4097th_batch_is_refused(rt: HostRuntime) -> Result<(), Fail> {
 }
 
 /// Lines with one field of 262,144 bytes, its name counted, this many, and whether the run ends so.
-fn weighs<R: AllocGlobal + Threads + Wait + Sync>(
+fn weighs<R: AllocGlobal + Threads + Wait + RandomSource + Sync>(
     rt: &R,
     lines: usize,
     wanted: Wanted<'_>,

@@ -9,7 +9,7 @@ use Rattle.lq_ast.specs.Question.{Question}
 use Rattle.lq_grammar.specs.Query.{IsQueryText}
 use Rattle.vl_trial.specs.Safety.{AlwaysEvaluates}
 use Rattle.vl_trial.specs.Trial.{trial_rows}
-use Rattle.vl_session.specs.Answer.{HasRecords}
+use Rattle.lone_desk.specs.Answer.{HasRecords}
 
 pub has_records : (text : List ℕ) (asked : Question) (now seed rows : ℕ) (history : History) → IsQueryText text asked
     → all_patterns asked ≡ [] → AlwaysEvaluates asked → rows ≤ 1_000_000 → rows_of history ≡ trial_rows seed rows

@@ -10,7 +10,7 @@ use Rattle.log_desk.specs.Seen.{Seen}
 use Rattle.log_desk.specs.declared.fault.InsertFault.TheVariants.{Full, Spent}
 use Rattle.lone_desk.proofs.Laws.{batches-with, same-alone, settled-alone}
 use Rattle.lone_desk.specs.Alone.{FollowsAlone, GainsAlone}
-use Rattle.vl_session.proofs.QueryLemmas.{history_rows}
+use Rattle.lone_desk.proofs.QueryLemmas.{history_rows}
 
 -- one batch more
 pub one_more : (old new : Seen) (batch : Batch) (left all : List Batch) → GainsAlone old new batch

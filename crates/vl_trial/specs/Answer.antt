@@ -4,7 +4,7 @@ use Rattle.log_model.specs.Print.{lines_text}
 use Rattle.log_model.specs.Row.{Row}
 use Rattle.lq_ast.specs.Evaluation as evaluation
 use Rattle.lq_ast.specs.Records.{Record}
-use Rattle.vl_session.specs.Query.{EvaluatesOver, batch_list_rows}
+use Rattle.lone_desk.specs.Query.{EvaluatesOver, batch_list_rows}
 use Rattle.vl_trial.specs.QueryTexts.{count_text, errors_text, slow_text}
 use Rattle.vl_trial.specs.Trial.{trial_batches}
 

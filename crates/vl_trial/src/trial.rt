@@ -3,17 +3,17 @@ ghost use Rattle.std.specs.Prelude.{◌≡◌, ◌≤◌, ◌≤ℤ◌, ◌++◌
 ghost use Rattle.log_model.specs.History.{batches_in, rows_of};
 ghost use Rattle.vl_trial.specs.QueryTexts.{count_text, errors_text, slow_text};
 ghost use Rattle.vl_trial.specs.Trial.{trial_batches, trial_rows};
-ghost use Rattle.vl_session.specs.Answer.{HasRecords};
+ghost use Rattle.lone_desk.specs.Answer.{HasRecords};
 ghost use Rattle.vl_trial.specs.Answer.{AreLines, IsTrialAnswer};
 
 use crate::batches::TrialBatches;
 use crate::laws::{trial_law, trial_queries_law};
 use log_desk::InsertFault;
-use lone_desk::LoneDesk;
+use lone_desk::{AnswerFault, LoneDesk};
 use std::alloc::{AllocError, Global};
+use std::random::RandomSource;
 use std::sync::Wait;
 use vl_row::Text;
-use vl_session::AnswerFault;
 
 /// Counts all rows.
 const COUNTED: &str = "* | stats count() as n";
@@ -26,7 +26,7 @@ const SLOW: &str = "_time:2024-05-01Z {app=\"db\"} ms:>500 | stats count() as n"
 
 /// Inserts `rows` rows made from `seed`, batch by batch, and returns the lines of the three queries over them, one
 /// query after another. `now` is in nanoseconds since 1970.
-pub fn trial_lines<R: Wait>(
+pub fn trial_lines<R: Wait + RandomSource>(
     rt: &R,
     alloc: Global,
     seed: u64,
@@ -80,7 +80,11 @@ fn insert_rows<R: Wait>(
 }
 
 /// Returns the lines of a query that has records.
-fn lines_of<R: Wait>(desk: &mut LoneDesk<'_, R>, text: &str, now: i64) -> Result<Text, AllocError>
+fn lines_of<R: Wait + RandomSource>(
+    desk: &mut LoneDesk<'_, R>,
+    text: &str,
+    now: i64,
+) -> Result<Text, AllocError>
     requires has { HasRecords text.now (unsigned_abs now) desk.old.history }
     requires moment { pos 0 ≤ℤ now }
     ensures lines { IfOk result (AreLines text.now (unsigned_abs now) (rows_of desk.old.history)) }

@@ -1,20 +1,32 @@
-use Rattle.std.proofs.Common.{◌≤◌, length, Ok, Err, ap, sym, subst, ◌∙◌}
+use Rattle.std.proofs.Common.{◌≤◌, length, Ok, Err, ap, arith, sym, subst, ◌∙◌}
+use Rattle.log_model.specs.History.{batches_in}
 use Rattle.log_model.specs.Line.{lines_of}
 use Rattle.vl_pipe.specs.Load.{StopsLoad}
 use Rattle.vl_pipe.proofs.LoadLemmas.{if_err, less_left, lines_at_most, loaded, loading_more, loading_starts, still_open, stops_at_group, stops_reading, stops_unread}
 use Rattle.vl_pipe.proofs.load.load.Goals as goal
 
+pub returns-in_err-desk-clause-stopped : goal.returns-in_err-desk-clause-stopped
+returns-in_err-desk-clause-stopped g c =
+    if_err c.from_residual.result _ _ c.from_residual.ensures.1
+    (λ interrupt is. subst (StopsLoad _ _ _) (sym is)
+    (stops_unread c.args.arrival.now (g.S.Source.left c.args.src.now) _ _
+    (g.E.Sink.written c.args.err.now) _ _))
+
 pub returns-in_err-reader-clause-stopped : goal.returns-in_err-reader-clause-stopped
 returns-in_err-reader-clause-stopped g c =
-    if_err c.from_residual.result _ _ c.from_residual.ensures.1
+    if_err c.from_residual-in_err-reader.result _ _ c.from_residual-in_err-reader.ensures.1
     (λ interrupt is. subst (StopsLoad _ _ _) (sym is)
     (stops_unread c.args.arrival.now (g.S.Source.left c.args.src.now) _ _
     (g.E.Sink.written c.args.err.now) _ _))
 
 pub loop-reader-init : goal.loop-reader-init
 loop-reader-init g c =
-    (loading_starts
-    c.args.arrival.now _ _ _ _ c.in_ok-reader.reader c.args.desk.now c.in_ok-reader.ensures c.requires.fresh)
+    loading_starts c.args.arrival.now _ _ _ _ c.in_ok-reader.reader c.in_ok-desk.desk c.in_ok-reader.ensures
+    (record {
+      entered = ap batches_in c.in_ok-desk.ensures.nothing;
+      settled = c.in_ok-desk.ensures.unsettled;
+      few = omega arith;
+    })
 
 pub returns-in_err-advance-clause-stopped : goal.returns-in_err-advance-clause-stopped
 returns-in_err-advance-clause-stopped g c =

@@ -6,7 +6,7 @@ use Rattle.vl_trial.specs.QueryTexts.{count_text, errors_text, slow_text}
 use Rattle.vl_trial.specs.Answer.{AreLines}
 use Rattle.vl_trial.specs.Trial.{trial_batches}
 use Rattle.vl_trial.proofs.Asked.{has_records, if_ok}
-use Rattle.vl_session.proofs.QueryLemmas.{history_rows}
+use Rattle.lone_desk.proofs.QueryLemmas.{history_rows}
 use Rattle.vl_trial.proofs.trial.trial_lines.Goals as goal
 
 pub lines_of-requires-clause-has : goal.lines_of-requires-clause-has

@@ -1,8 +1,11 @@
 use Rattle.std.proofs.Common.{◌≡◌, ◌<◌, ◌≤◌, ◌∷◌, [], length, refl, ap, ◌∙◌, arith, length-append}
 use Rattle.vl_session.proofs.Going.{ends_limit, ends_memory, ends_reading, ends_turn, going_first, going_more}
 use Rattle.vl_session.proofs.Going.{going_moved}
+use Rattle.vl_session.proofs.ReportLemmas.{reported}
 use Rattle.vl_session.proofs.TurnLemmas.{serves_as}
-use Rattle.vl_session.proofs.session.serve_turns.Goals as goal
+use Rattle.vl_io.specs.Change.{change_of}
+use Rattle.vl_session.specs.Session.{IsSession, connection}
+use Rattle.vl_session.proofs.session.serve_requests.Goals as goal
 
 pub turns-init : goal.turns-init
 turns-init g c = record {
@@ -21,17 +24,27 @@ returns-in-Err-clause-session g c =
     let before = c.turns.invariant in
     let few : length c.reserve.new.self.items < 1000 =
     omega (arith, c.turns-test.true, c.len.ensures, c.turns.turns.ok.0, ap length c.in-Err.ensures.items) in
-    ends_memory _ _ _ _ _ _ _ _ _ few
-    (going_moved _ _ _ _ _ _ _ _ _ _ _ _ _ _ _ c.in-Err.ensures.items refl before.going)
+    reported (λ turns end. IsSession (connection (g.L.Log.caller c.args.log.now) (g.L.Log.seen c.args.log.now)
+    (g.L.Log.seen c.turns.log) (change_of g.S.Source.left g.S.Source.faults c.args.src.now c.turns.src)
+    (change_of g.K.Sink.written g.K.Sink.faults c.args.sink.now c.turns.sink) (g.C.Clock.moments c.args.clock.now)
+    (g.C.Clock.moments c.turns.clock) turns end)) c.report.result c.report.ensures.turns
+    c.report.ensures.end
+    (ends_memory _ _ _ _ _ _ _ _ _ few
+    (going_moved _ _ _ _ _ _ _ _ _ _ _ _ _ _ _ c.in-Err.ensures.items refl before.going))
 
 pub returns-in-Err-next_request-clause-session : goal.returns-in-Err-next_request-clause-session
 returns-in-Err-next_request-clause-session g c =
     let before = c.turns.invariant in
     let few : length c.reserve.new.self.items < 1000 =
     omega (arith, c.turns-test.true, c.len.ensures, c.turns.turns.ok.0, ap length c.in-Ok.ensures.items) in
-    ends_reading _ _ _ _ _ _ _ _ _ _ _ _ _ _ _ _ _ _ _ _ before.src_stays before.sink_stays few
+    reported (λ turns end. IsSession (connection (g.L.Log.caller c.args.log.now) (g.L.Log.seen c.args.log.now)
+    (g.L.Log.seen c.turns.log) (change_of g.S.Source.left g.S.Source.faults c.args.src.now c.next_request.new.src)
+    (change_of g.K.Sink.written g.K.Sink.faults c.args.sink.now c.next_request.new.sink) (g.C.Clock.moments c.args.clock.now)
+    (g.C.Clock.moments c.turns.clock) turns end)) c.report-in-Err-next_request.result c.report-in-Err-next_request.ensures.turns
+    c.report-in-Err-next_request.ensures.end
+    (ends_reading _ _ _ _ _ _ _ _ _ _ _ _ _ _ _ _ _ _ _ _ before.src_stays before.sink_stays few
     (going_moved _ _ _ _ _ _ _ _ _ _ _ _ _ _ _ c.in-Ok.ensures.items refl before.going)
-    c.in-Err-next_request.ensures.ended
+    c.in-Err-next_request.ensures.ended)
 
 pub returns-in-Err-take_turn-clause-session : goal.returns-in-Err-take_turn-clause-session
 returns-in-Err-take_turn-clause-session g c =
@@ -42,9 +55,14 @@ returns-in-Err-take_turn-clause-session g c =
     omega (arith, before.sink_stays, found.sink_faults) in
     let few : length c.reserve.new.self.items < 1000 =
     omega (arith, c.turns-test.true, c.len.ensures, c.turns.turns.ok.0, ap length c.in-Ok.ensures.items) in
-    ends_turn _ _ _ _ _ _ _ _ _ _ _ _ _ _ _ _ _ _ _ _ _ _ _ t.0 _ _ stays few
+    reported (λ turns end. IsSession (connection (g.L.Log.caller c.args.log.now) (g.L.Log.seen c.args.log.now)
+    (g.L.Log.seen c.take_turn.new.log) (change_of g.S.Source.left g.S.Source.faults c.args.src.now c.next_request.new.src)
+    (change_of g.K.Sink.written g.K.Sink.faults c.args.sink.now c.take_turn.new.sink) (g.C.Clock.moments c.args.clock.now)
+    (g.C.Clock.moments c.take_turn.new.clock) turns end)) c.report-in-Err-take_turn.result c.report-in-Err-take_turn.ensures.turns
+    c.report-in-Err-take_turn.ensures.end
+    (ends_turn _ _ _ _ _ _ _ _ _ _ _ _ _ _ _ _ _ _ _ _ _ _ _ t.0 _ _ stays few
     (going_moved _ _ _ _ _ _ _ _ _ _ _ _ _ _ _ c.in-Ok.ensures.items found.silent before.going) found.found
-    (serves_as _ _ _ _ _ _ _ _ before.same t.1) t.2 t.3
+    (serves_as _ _ _ _ _ _ _ _ before.same t.1) t.2 t.3)
 
 pub turns-preserved : goal.turns-preserved
 turns-preserved g c =
@@ -78,4 +96,9 @@ returns-clause-session g c =
     let before = c.turns.invariant in
     let full : length c.turns.turns.items ≡ 1000 =
     omega (arith, c.turns-test.false, c.len.ensures, c.turns.turns.ok.0, before.few) in
-    ends_limit _ _ _ _ _ _ _ _ _ full before.going
+    reported (λ turns end. IsSession (connection (g.L.Log.caller c.args.log.now) (g.L.Log.seen c.args.log.now)
+    (g.L.Log.seen c.turns.log) (change_of g.S.Source.left g.S.Source.faults c.args.src.now c.turns.src)
+    (change_of g.K.Sink.written g.K.Sink.faults c.args.sink.now c.turns.sink) (g.C.Clock.moments c.args.clock.now)
+    (g.C.Clock.moments c.turns.clock) turns end)) c.report-2.result c.report-2.ensures.turns
+    c.report-2.ensures.end
+    (ends_limit _ _ _ _ _ _ _ _ _ full before.going)

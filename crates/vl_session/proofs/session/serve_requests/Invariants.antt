@@ -1,6 +1,6 @@
 use Rattle.std.proofs.Common.{◌≡◌, ◌-◌, ◌≤◌, None, vec_len}
 use Rattle.vl_session.proofs.Going.{Going, change}
-use Rattle.vl_session.proofs.session.serve_turns.Given as goal
+use Rattle.vl_session.proofs.session.serve_requests.Given as goal
 
 abbrev pub invariant-turns : goal.invariant-turns
 invariant-turns g l = record {
