@@ -1,13 +1,13 @@
 #!/usr/bin/env bash
 # Tries the vault over a directory: against the vault in memory, under strace, with system calls that fail, on a full
-# disk, and beside a second program. Without strace it skips what needs it, and says so.
+# disk, and beside a second program. Where strace is missing or cannot trace, it skips what needs it, and says so.
 # usage: tests/vault.sh [CALLS]     (2000 calls)
 set -u
 export LC_ALL=C.UTF-8
 top=$(cd "$(dirname "$0")/.." && pwd)
 vault=$top/crates/vault_stdio/out/vault_stdio
 calls=${1:-2000}
-[ -x "$vault" ] || { echo "vault.sh: $vault is not built: run rt run in its crate first" >&2; exit 2; }
+[ -x "$vault" ] || { echo "vault.sh: $vault is not built: run rt ci vault_stdio first" >&2; exit 2; }
 work=$(mktemp -d) || exit 2
 trap 'rm -rf "$work"' EXIT
 passed=0 failed=0
@@ -25,7 +25,10 @@ for _ in range(int(sys.argv[1])):
     print(random.choice([f"length {file}", f"read {file} {at} {size}", f"read {file} {at} {size}",
                          f"write {file} {at} {size} {random.randrange(251)}", f"write {file} {at} {size} 7",
                          f"write {file} 0 {size} 3", f"cut {file} {at}", f"sync {file}", f"remove {file}"]))
+# A long write, and more files than are kept open.
 print("write 5 0 3000000 1\nread 5 0 4000000\nsync 5")
+for call in ("write {} 0 3 1", "length {}", "sync {}", "read {} 0 4"):
+    for file in range(100, 180): print(call.format(file))
 PYTHON
 "$vault" memory <"$work/calls" >"$work/memory" 2>"$work/err"
 "$vault" write "$work/same" <"$work/calls" >"$work/directory" 2>>"$work/err"
@@ -37,18 +40,20 @@ printf 'length %s\n' 0 1 2 3 7 9223372036854775807 18446744073709551615 5 >"$wor
 "$vault" write "$work/same" <"$work/lengths" >"$work/again"
 chmod -w "$work/same" && "$vault" read "$work/same" <"$work/lengths" >"$work/read_only"; chmod +w "$work/same"
 check "a reader reads the same" "$(cat "$work/again")" "$(cat "$work/read_only")"
+printf 'length 3\nread 3 0 1\nsync 3\ncut 3 0\nremove 3\n' | "$vault" write "$work/empty" >"$work/out"
+check "only a write creates a file" "0 files, faults 0" "$(ls -A "$work/empty" | wc -l) files, $(tail -1 "$work/out")"
 
 under_strace() {
 # What is not durable yet when a sync is answered.
-head -400 "$work/calls" >"$work/few"
+{ head -400 "$work/calls"; tail -323 "$work/calls"; } >"$work/few"
 strace -o "$work/trace" -e trace=openat,open,pwrite64,ftruncate,unlink,unlinkat,fsync,fdatasync,mkdir,mkdirat,write,close \
-  "$vault" write "$work/traced" <"$work/few" >/dev/null 2>"$work/err"
+  "$vault" write "$work/traced" <"$work/few" >/dev/null
 check "each change is synced before the answer" "nothing pending" "$(python3 - "$work/trace" "$work/few" "$work/traced" <<'PYTHON'
 import re, sys
 trace, lines, directory = sys.argv[1:]
 names, answers, dirty, entry = {}, 0, set(), False     # entry: a name was made or removed and the directory is not synced
 wanted = [line.split() for line in open(lines)]
-made, parent_synced, seen_change = False, False, 0
+made, parent_synced, seen_change, longest = False, False, 0, 0
 for event in open(trace):
     m = re.match(r'(\w+)\((.*)\)\s+= (-?\d+)', event)
     if not m or int(m[3]) < 0: continue
@@ -60,6 +65,9 @@ for event in open(trace):
     elif call in ("mkdir", "mkdirat"): made = True
     elif call in ("pwrite64", "ftruncate"):
         dirty.add(names[int(words.split(",")[0])]); seen_change += 1
+        if call == "pwrite64": longest = max(longest, int(words.split(", ")[-2]))
+    elif call == "close":
+        if names.pop(int(words), None) in dirty: sys.exit(print(f"closed before it was synced: {event}"))
     elif call in ("unlink", "unlinkat"):
         path = re.search(r'"([^"]*)"', words)[1]
         dirty.discard(path); entry = True; seen_change += 1
@@ -75,9 +83,20 @@ for event in open(trace):
                 if path in dirty or entry: sys.exit(print(f"pending at line {answers + 1}: {wanted[answers]}"))
             answers += 1
 if not (made and parent_synced): sys.exit(print("the directory is not synced into its parent"))
+if longest != 2 ** 20: sys.exit(print(f"the longest piece has {longest} bytes"))
 print("nothing pending" if answers > len(wanted) and seen_change > 50 else f"only {answers} answers, {seen_change} changes")
 PYTHON
 )"
+
+strace -o "$work/trace" "$vault" read "$work/same" <"$work/lengths" >/dev/null
+check "a reader opens for reading only" "" \
+  "$(grep -E 'O_RDWR|O_WRONLY|O_CREAT|mkdir|pwrite|truncate|unlink' "$work/trace")"
+
+printf 'length 3\nsync 3\n' | strace -o "$work/trace" -e trace=fsync "$vault" read "$work/same" >"$work/out"
+check "a reader syncs nothing" "" "$(grep fsync "$work/trace")"
+check "a reader's sync" "done, faults 0" "$(tail -2 "$work/out" | paste -sd, | sed 's/,/, /')"
+strace -y -o "$work/trace" -e trace=fsync "$vault" write "$work/same" </dev/null >/dev/null
+check "a directory that was there is synced into its parent" "1" "$(grep -c "fsync([0-9]*<$work>)" "$work/trace")"
 
 # One system call that fails counts one fault, and the first says why. A signal counts none.
 fail() { # NAME PATH SYSTEM_CALL WHEN ERROR LINES WANTED_FAULTS WANTED_REASON
@@ -85,11 +104,14 @@ fail() { # NAME PATH SYSTEM_CALL WHEN ERROR LINES WANTED_FAULTS WANTED_REASON
     "$vault" write "$work/broken" >"$work/out" 2>"$work/err"
   check "$1: a system call that failed" "yes" "$(grep -q INJECTED "$work/trace" && echo yes)"
   check "$1: faults" "faults $7" "$(tail -1 "$work/out")"
+  check "$1: answers that failed" "$7" "$(grep -c '^failed$' "$work/out")"
   check "$1: reason" "$8" "$(cat "$work/err")"
 }
 io='Input/output error (os error 5)' space='No space left on device (os error 28)'
 file=$work/broken/3 directory=$work/broken
 fail "a length" "$file" statx 1 EIO 'length 3\nlength 3\n' 1 "$file: $io"
+fail "a length and a signal" "$file" statx 1 EINTR 'length 3\nlength 3\n' 0 ""
+fail "a length of an open file and a signal" "$file" statx 2 EINTR 'write 3 0 5 1\nlength 3\n' 0 ""
 fail "a write" "$file" pwrite64 1 EIO 'write 3 0 5 1\nlength 3\n' 1 "$file: $io"
 fail "a write without space" "$file" pwrite64 1 ENOSPC 'write 3 0 5 1\nlength 3\n' 1 "$file: $space"
 fail "a write and a signal" "$file" pwrite64 1 EINTR 'write 3 0 5 1\nlength 3\n' 0 ""
@@ -98,6 +120,7 @@ fail "a read and a signal" "$file" pread64 1 EINTR 'read 3 0 5\nlength 3\n' 0 ""
 fail "a cut" "$file" ftruncate 1 EIO 'cut 3 1\nlength 3\n' 1 "$file: $io"
 fail "a cut and a signal" "$file" ftruncate 1 EINTR 'cut 3 1\nwrite 3 1 4 2\nlength 3\n' 0 ""
 fail "a removal" "$file" unlink 1 EIO 'remove 3\nlength 3\n' 1 "$file: $io"
+fail "a removal and a signal" "$file" unlink 1 EINTR 'write 3 0 5 1\nremove 3\nlength 3\n' 0 ""
 fail "a sync" "$file" fsync 1 EIO 'write 3 0 5 1\nsync 3\nlength 3\n' 1 "$file: $io"
 fail "a sync and a signal" "$file" fsync 1 EINTR 'write 3 0 5 1\nsync 3\nlength 3\n' 0 ""
 fail "a sync of the directory" "$directory" fsync 1 EIO 'write 3 0 5 1\nsync 3\nsync 3\n' 1 "$file: $io"
@@ -109,12 +132,15 @@ fail "an opening of the directory" "$directory" openat 1 EIO 'length 3\n' 1 "$di
 fail "a lock" "$directory" flock 1 EIO 'length 3\nsync 3\n' 2 "$directory: $io"
 fail "a lock and a signal" "$directory" flock 1 EINTR 'length 3\nsync 3\n' 0 ""
 fail "the directory's creation" "$directory" mkdir 1 EIO 'length 3\n' 1 "$directory: $io"
+fail "the directory's creation and a signal" "$directory" mkdir 1 EINTR 'length 3\n' 0 ""
 }
 printf 'write 3 0 5 1\nsync 3\n' | "$vault" write "$work/broken" >/dev/null
-if command -v strace >/dev/null; then
-  under_strace
-else
+if ! command -v strace >/dev/null; then
   echo "skipped: strace is missing, so no call was traced and no system call failed"
+elif ! strace -o "$work/trace" true 2>/dev/null; then
+  echo "skipped: strace cannot trace a program here, so no call was traced and no system call failed"
+else
+  under_strace
 fi
 
 # A full disk: the write that passes the limit is torn, and the next one is refused.
@@ -139,8 +165,16 @@ wait
 missing=$(printf 'length 3\nread 3 0 1\n' | "$vault" read "$work/none" 2>"$work/err")
 check "a missing directory" "$(printf 'failed\nfailed\nfaults 2')" "$missing"
 check "a missing directory: line" "$work/none: No such file or directory (os error 2)" "$(cat "$work/err")"
+# Readers share a directory with each other, and with no writer.
+"$vault" read "$work/broken" <"$work/held" >/dev/null &
+exec 3>"$work/held"
+sleep 0.5
+writer=$(echo 'length 3' | "$vault" write "$work/broken" 2>/dev/null)
+check "a writer beside a reader" "$(printf 'failed\nfaults 1')" "$writer"
 changed=$(printf 'write 3 0 1 1\nremove 3\ncut 3 0\nlength 3\nsync 3\n' | "$vault" read "$work/broken" 2>/dev/null)
 check "a reader changes nothing" "$(printf 'failed\nfailed\nfailed\n5\ndone\nfaults 3')" "$changed"
+exec 3>&-
+wait
 
 echo "$passed passed, $failed failed"
 [ "$failed" = 0 ]

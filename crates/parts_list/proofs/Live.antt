@@ -10,7 +10,7 @@ use Rattle.parts_list.specs.Listing.{is_list}
 use Rattle.parts_list.specs.Format.{body_of}
 use Rattle.parts_list.specs.Slots.{Slot, Closed, Broken, Open, is_open, slot_of, live, found_in, IsOldOrNew}
 use Rattle.parts_list.specs.Slots.{IsClosedOrOld}
-use Rattle.parts_list.specs.Writing.{IsSlot, AreSlotsDurable, ComesNext, HasOld, HasOldOr}
+use Rattle.parts_list.specs.Writing.{IsSlotOf, AreSlotsDurable, ComesNext, HasOld, HasOldOr}
 use Rattle.vl_vault.proofs.Runs.{weaken}
 use Rattle.parts_list.proofs.SlotLemmas.{HasParity, slot_of-closed, slot_of-written, slot_of-parity}
 
@@ -192,21 +192,21 @@ module _ (l : Listing) (good : is_list l ≡ true) where
 
     pub list_moments : (new : Past) → ComesNext (found_in (content old)) l
         → Always (ChangesFile (l.generation % 2) (IsOldOrNew (content old (l.generation % 2)) (body_of l)) old) old
-        new → Always (ChangesFiles IsSlot (HasOldOr old l) old) old new
+        new → Always (ChangesFiles (IsSlotOf l) (HasOldOr old l) old) old new
     list_moments new next run = let s = l.generation % 2 in weaken (λ p w. record {
       image = each_image s slot_below refl (next_of s refl next slot_below) p w;
-      others = λ f no. w.others f (λ is. no (subst IsSlot (sym is) slot_below));
-      others_read = λ f no. w.others_read f (λ is. no (subst IsSlot (sym is) slot_below));
+      others = w.others;
+      others_read = w.others_read;
     }) run
 
     -- while the gate is closed and the body is written
     pub old_moments : (new : Past) → ComesNext (found_in (content old)) l
         → Always (ChangesFile (l.generation % 2) (IsClosedOrOld (content old (l.generation % 2))) old) old new
-        → Always (ChangesFiles IsSlot (HasOld old) old) old new
+        → Always (ChangesFiles (IsSlotOf l) (HasOld old) old) old new
     old_moments new next run = let s = l.generation % 2 in weaken (λ p w. record {
       image = each_old s slot_below (next_of s refl next slot_below) p w;
-      others = λ f no. w.others f (λ is. no (subst IsSlot (sym is) slot_below));
-      others_read = λ f no. w.others_read f (λ is. no (subst IsSlot (sym is) slot_below));
+      others = w.others;
+      others_read = w.others_read;
     }) run
 
     written_in : {P : List ℕ → Type 0} (s : ℕ) (new : Past) → s < 2 → l.generation % 2 ≡ s
@@ -243,7 +243,7 @@ both_read old image durable may =
     ∙ ap (λ b. live (slot_of 0 (content old 0)) (slot_of 1 b)) (durable 1 (omega arith) (image 1) (may 1))
 
 pub list_begun : (l : Listing) (old : Past) → AreSlotsDurable old
-    → Always (ChangesFiles IsSlot (HasOldOr old l) old) old old
+    → Always (ChangesFiles (IsSlotOf l) (HasOldOr old l) old) old old
 list_begun l old durable = now (record {
   image = λ image may. inl (both_read old image durable may);
   others = λ f no c left. left;

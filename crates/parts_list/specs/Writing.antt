@@ -11,6 +11,10 @@ use Rattle.parts_list.specs.Slots.{found_in}
 abbrev pub IsSlot : ℕ → Type 0
 IsSlot file = file < 2
 
+-- the slot into which a list is written
+abbrev pub IsSlotOf : Listing → ℕ → Type 0
+IsSlotOf l file = file ≡ l.generation % 2
+
 -- nothing is pending in the slots
 abbrev pub AreSlotsDurable : Past → Type 0
 AreSlotsDurable past = (file : ℕ) → IsSlot file → IsDurable past file

@@ -25,7 +25,7 @@ fn has_shut_gate<V: Vault>(vault: &mut V, slot: u64) -> Result<bool, Failed>
 /// Closes the slot's gate. At every moment the slot is closed or as it was.
 ///
 /// A gate that is there and is not open stays as it is: a write over it that was not synced could open the slot before
-/// a body that is no list.
+/// a body that is not a list.
 pub(crate) fn close_gate<V: Vault>(vault: &mut V, slot: u64) -> Result<(), Failed>
     requires { V.is_told → IsDurable (V.past vault.old) slot }
     ensures moments { V.is_told → Always

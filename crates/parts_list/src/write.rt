@@ -6,7 +6,7 @@ ghost use Rattle.vl_vault.specs.Moments.{Always, ChangesFile, ChangesFiles, IsDu
 ghost use Rattle.parts_list.specs.Format.{body_of};
 ghost use Rattle.parts_list.specs.Listing.{is_list};
 ghost use Rattle.parts_list.specs.Slots.{IsClosedOrOld, IsShut, found_in};
-ghost use Rattle.parts_list.specs.Writing.{AreSlotsDurable, ComesNext, HasOld, HasOldOr, IsCauseOf, IsSlot};
+ghost use Rattle.parts_list.specs.Writing.{AreSlotsDurable, ComesNext, HasOld, HasOldOr, IsCauseOf, IsSlotOf};
 
 use crate::format::put_body;
 use crate::gate::{close_gate, open_gate, write_body};
@@ -15,7 +15,8 @@ use std::alloc::{AllocError, Global};
 use vl_io::Failed;
 use vl_vault::Vault;
 
-/// Writes the list into its slot. At every moment, a crash leaves the list from before or this one.
+/// Writes the list into its slot, and changes no other file. At every moment, a crash leaves the list from before or
+/// this one.
 ///
 /// Memory is taken before the vault is used.
 pub fn write_list<V: Vault>(alloc: Global, vault: &mut V, list: &List) -> Result<(), ListFault>
@@ -23,7 +24,7 @@ pub fn write_list<V: Vault>(alloc: Global, vault: &mut V, list: &List) -> Result
     requires rules { is_list list.now ≡ true }
     requires next { V.is_told → ComesNext (found_in (content (V.past vault.old))) list.now }
     ensures moments { V.is_told → Always
-        (ChangesFiles IsSlot (HasOldOr (V.past vault.old) list.now) (V.past vault.old))
+        (ChangesFiles (IsSlotOf list.now) (HasOldOr (V.past vault.old) list.now) (V.past vault.old))
         (V.past vault.old) (V.past vault.new) }
     ensures written { V.is_told → OnOk result (found_in (content (V.past vault.new)) ≡ Some (Some list.now)) }
     ensures durable { V.is_told → OnOk result (AreSlotsDurable (V.past vault.new)) }
@@ -43,7 +44,8 @@ fn stage_list<V: Vault>(vault: &mut V, list: &List, body: &[u8]) -> Result<(), F
     requires durable { V.is_told → AreSlotsDurable (V.past vault.old) }
     requires rules { is_list list.now ≡ true }
     requires next { V.is_told → ComesNext (found_in (content (V.past vault.old))) list.now }
-    ensures old { V.is_told → Always (ChangesFiles IsSlot (HasOld (V.past vault.old)) (V.past vault.old))
+    ensures old { V.is_told → Always
+        (ChangesFiles (IsSlotOf list.now) (HasOld (V.past vault.old)) (V.past vault.old))
         (V.past vault.old) (V.past vault.new) }
     ensures moments { V.is_told → let slot = list.now.generation % 2 in Always
         (ChangesFile slot (IsClosedOrOld (content (V.past vault.old) slot)) (V.past vault.old))

@@ -101,7 +101,7 @@ fn read<V: Vault>(
     format!(in alloc; "{count} {hash}")
 }
 
-/// Writes so many bytes, if that leaves no gap after the file's end.
+/// Writes `size` bytes, unless that leaves a gap after the end of the file.
 fn write<V: Vault>(
     alloc: Global,
     vault: &mut V,

@@ -96,9 +96,10 @@ impl FileTable {
     {
         self.find(file)?;
         if let Some(i) = self.place(file) {
-            return Ok(self.changed[i].handle.metadata()?.len());
+            return length_of(&self.changed[i].handle);
         }
-        match fs::metadata(rt, self.path.as_str()) {
+        let path = self.path.as_str();
+        match uninterrupted(|| fs::metadata(rt, path)) {
             Ok(metadata) => Ok(metadata.len()),
             Err(reason) if reason.kind() == ErrorKind::NotFound => Ok(0),
             Err(reason) => Err(reason),
@@ -173,21 +174,28 @@ impl FileTable {
         ensures names { OnOk result (self.new.names_changed ≡ true) }
     {
         self.find_for_change(file)?;
+        self.names_changed = true;
+        let path = self.path.as_str();
+        match uninterrupted(|| fs::remove_file(rt, path)) {
+            Err(reason) if reason.kind() != ErrorKind::NotFound => return Err(reason),
+            _ => {}
+        }
         if let Some(i) = self.place(file) {
             self.changed.swap_remove(i);
         }
-        self.names_changed = true;
-        match fs::remove_file(rt, self.path.as_str()) {
-            Err(reason) if reason.kind() != ErrorKind::NotFound => Err(reason),
-            _ => Ok(()),
-        }
+        Ok(())
     }
 
-    /// Syncs the file, and the directory where a file was created or removed since it was last synced.
+    /// Syncs the file, and the directory where a file was created or removed since it was last synced. Where nothing
+    /// can be written there is nothing to sync, and some file systems that are read only refuse to.
     pub fn sync<R: Files<File = File>>(&mut self, rt: &R, file: u64) -> io::Result<()>
         ensures { OnOk result (self.new.names_changed ≡ false) }
     {
         self.find(file)?;
+        if self.access == Access::Read {
+            self.names_changed = false;
+            return Ok(());
+        }
         match self.place(file) {
             Some(i) => {
                 self.changed[i].handle.sync_all()?;
@@ -282,10 +290,30 @@ fn changing() -> OpenOptions {
 
 /// Shortens the file, which is never lengthened.
 fn shorten(handle: &File, length: u64) -> io::Result<()> {
-    if handle.metadata()?.len() > length {
+    if length_of(handle)? > length {
         handle.set_len(length)?;
     }
     Ok(())
+}
+
+/// Returns the length of the open file.
+fn length_of(handle: &File) -> io::Result<u64> {
+    let metadata = uninterrupted(|| handle.metadata())?;
+    Ok(metadata.len())
+}
+
+/// Makes the call, and makes it again while a signal interrupts it. Openings, locks, cuts and syncs need no such loop:
+/// they are tried again where they are made.
+fn uninterrupted<T, F: Fn() -> io::Result<T>>(call: F) -> io::Result<T>
+    requires { F.IsAlwaysCallable call }
+{
+    for _ in 0..u64::MAX {
+        match call() {
+            Err(reason) if reason.kind() == ErrorKind::Interrupted => {}
+            returned => return returned,
+        }
+    }
+    Err(io::Error::from(ErrorKind::Interrupted))
 }
 
 /// Syncs a file that is not open. An earlier program may have changed it. A missing one has nothing to sync.
@@ -354,11 +382,17 @@ fn lock_directory<R: Files<File = File>>(rt: &R, path: &str, access: Access) -> 
     }
 }
 
-/// Creates the directory if it does not exist, and then syncs the directory that it stands in.
+/// Creates the directory if it does not exist, and syncs the directory that it stands in: a program that created it may
+/// have ended before that. One that exists may stand where this program may not look.
 fn create_directory<R: Files<File = File>>(rt: &R, path: &str) -> io::Result<()> {
-    match fs::create_dir(rt, path) {
-        Ok(()) => File::open(rt, parent(path))?.sync_all(),
-        Err(reason) if reason.kind() == ErrorKind::AlreadyExists => Ok(()),
+    let exists = match uninterrupted(|| fs::create_dir(rt, path)) {
+        Ok(()) => false,
+        Err(reason) if reason.kind() == ErrorKind::AlreadyExists => true,
+        Err(reason) => return Err(reason),
+    };
+    match File::open(rt, parent(path)) {
+        Ok(outer) => outer.sync_all(),
+        Err(reason) if exists && reason.kind() == ErrorKind::PermissionDenied => Ok(()),
         Err(reason) => Err(reason),
     }
 }

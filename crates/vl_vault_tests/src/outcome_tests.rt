@@ -6,7 +6,7 @@ use std::alloc::Global;
 use std::test::Fail;
 use vl_vault::{MemoryVault, Vault};
 
-/// Returns a vault whose file 3 has the bytes 10 to 13, after so many pairs of a write and a sync of another file.
+/// Returns a vault whose file 3 has the bytes 10 to 13, after this many pairs of a write and a sync of another file.
 fn vault_after(alloc: Global, pairs: u64) -> Result<MemoryVault, Fail> {
     let mut vault = MemoryVault::of(alloc, &[])?;
     put(&mut vault, 3, 0, &[10, 11, 12, 13])?;
