@@ -66,6 +66,8 @@ def holds(filter_, subject, now=None):
         return not holds(parts[0], subject, now)
     if kind in ("All2", "Any2"):
         return (all if kind == "All2" else any)(holds(part, subject, now) for part in parts[0])
+    if kind in ("Last", "Times") and subject.time is None:
+        return False
     if kind == "Last":
         return now - parts[0] < subject.time <= now
     if kind == "Times":

@@ -222,3 +222,18 @@ def first_refused(patterns):
         except Refused:
             return number
     return None
+
+
+def states_of(tree):
+    """Returns how many characters a tree has where each of its parts stands as often as it is repeated at most."""
+    kind = tree[0]
+    if kind in ("or", "and"):
+        return sum(map(states_of, tree[1]))
+    if kind == "many":
+        _, part, least, most = tree
+        return states_of(part) * (least + 1 if most is None else most)
+    return 1
+
+
+def sum_of_states(patterns):
+    return sum(states_of(Pattern(pattern).tree) for pattern in patterns)

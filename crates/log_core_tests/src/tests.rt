@@ -1,74 +1,94 @@
-//! The shared state (`log_core`), and the limits of what it holds.
+//! The chunks' edges, swaps, and memory that runs out.
 
-use log_core::{CommitFault, Shelf};
-use std::alloc::{AllocError, Global};
-use std::sync::Arc;
+use crate::batches::{commit_one, fill, holds, is_full, refuses_shared, settle, settle_none};
+use log_core::{Shelf, SwapFault};
 use std::test::Fail;
-use vl_row::{Batch, FieldList, Held, Row, RowList};
 
-/// Returns a batch of one row, whose message is this text.
-fn batch_of(alloc: Global, message: &str) -> Result<Option<Batch>, AllocError> {
-    let mut fields = FieldList::new(alloc);
-    fields.set(alloc, "_msg", message)?;
-    let Ok(row) = Row::try_new(alloc, 0, &[], fields) else {
-        return Ok(None);
-    };
-    let mut rows = Vec::new(alloc);
-    rows.push(row)?;
-    Ok(Batch::try_of(rows).ok())
-}
-
-/// Commits batches of one row, this many, and says whether they got their numbers in turn.
-fn commits(alloc: Global, shelf: &mut Shelf<RowList>, count: u64) -> Result<bool, AllocError> {
-    let Some(batch) = batch_of(alloc, "a")? else {
-        return Ok(false);
-    };
-    let mut in_turn = true;
-    for number in 1..=count {
-        let part = RowList::of_batch(alloc, &batch)?;
-        in_turn = in_turn && matches!(shelf.commit(alloc, part), Ok(found) if found == number);
+/// A look before and after one batch more, where a chunk has 64 parts and 4,096 batches may wait.
+#[test]
+fn looks_stay_at_the_edges_of_chunks(rt: HostRuntime) -> Result<(), Fail> {
+    let alloc = rt.alloc();
+    for count in [0_u64, 1, 63, 64, 65, 127, 128, 129, 4_095] {
+        let next = count.saturating_add(1);
+        let mut shelf = Shelf::fresh(alloc)?;
+        assert!(rt; fill(alloc, &mut shelf, count)?, "{count}");
+        let before = shelf.look()?;
+        assert!(rt;
+            commit_one(alloc, &mut shelf, count % 2 == 0)? == Some(next),
+            "{count}"
+        );
+        let after = shelf.look()?;
+        assert!(rt; holds(alloc, &before, count, 0)?, "before {count}");
+        assert!(rt; holds(alloc, &after, next, 0)?, "after {count}");
     }
-    Ok(in_turn)
-}
-
-/// Returns whether one more batch is refused as the 4,097th, and comes back.
-fn is_full(alloc: Global, shelf: &mut Shelf<RowList>) -> Result<bool, AllocError> {
-    let Some(batch) = batch_of(alloc, "last")? else {
-        return Ok(false);
-    };
-    let Err((fault, Some(part))) = shelf.commit(alloc, RowList::from(batch)) else {
-        return Ok(false);
-    };
-    Ok(
-        fault == CommitFault::Full { held: 4_096 }
-            && part.rows() == 1
-            && part.weight() == 8
-            && part
-                .as_slice()
-                .iter()
-                .all(|row| row.value("_msg") == "last"),
-    )
+    Ok(())
 }
 
 #[test]
 fn a_shelf_holds_4096_batches(rt: HostRuntime) -> Result<(), Fail> {
     let alloc = rt.alloc();
     let mut shelf = Shelf::fresh(alloc)?;
-    assert!(rt; commits(alloc, &mut shelf, 4_096)? && is_full(alloc, &mut shelf)?);
-    assert!(rt; shelf.look()?.front() == 4_096);
+    assert!(rt; fill(alloc, &mut shelf, 4_096)? && is_full(alloc, &mut shelf)?);
+    assert!(rt; holds(alloc, &shelf.look()?, 4_096, 0)?);
+    // Once a batch is settled there is room for another.
+    assert!(rt; settle(alloc, &mut shelf, 1)? == Some(Ok(())));
+    assert!(rt; commit_one(alloc, &mut shelf, true)? == Some(4_097) && is_full(alloc, &mut shelf)?);
+    assert!(rt; holds(alloc, &shelf.look()?, 4_097, 1)?);
+    Ok(())
+}
+
+/// Swaps before, at and after the edge of a chunk, and batches after them.
+#[test]
+fn swaps_leave_the_later_batches(rt: HostRuntime) -> Result<(), Fail> {
+    let alloc = rt.alloc();
+    for front in [0, 1, 63, 64, 65, 127, 128, 199, 200] {
+        let mut shelf = Shelf::fresh(alloc)?;
+        assert!(rt; fill(alloc, &mut shelf, 200)?);
+        let before = shelf.look()?;
+        assert!(rt;
+            settle(alloc, &mut shelf, front)? == Some(Ok(())),
+            "{front}"
+        );
+        let swapped = shelf.look()?;
+        assert!(rt; fill(alloc, &mut shelf, 300)?, "{front}");
+        let filled = shelf.look()?;
+        for next in [front, 200, 290] {
+            assert!(rt;
+                settle(alloc, &mut shelf, next)? == Some(Ok(())),
+                "{front}, {next}"
+            );
+            assert!(rt; holds(alloc, &shelf.look()?, 300, next)?, "{front}, {next}");
+        }
+        assert!(rt; holds(alloc, &before, 200, 0)?, "{front}");
+        assert!(rt; holds(alloc, &swapped, 200, front)?, "{front}");
+        assert!(rt; holds(alloc, &filled, 300, front)?, "{front}");
+    }
     Ok(())
 }
 
 #[test]
-fn a_look_stays_as_it_was(rt: HostRuntime) -> Result<(), Fail> {
+fn a_swap_behind_is_refused(rt: HostRuntime) -> Result<(), Fail> {
     let alloc = rt.alloc();
     let mut shelf = Shelf::fresh(alloc)?;
-    let none = shelf.look()?;
-    assert!(rt; commits(alloc, &mut shelf, 3)?);
-    let three = shelf.look()?;
-    assert!(rt; none.is_empty() && none.front() == 0 && none.settled() == 0);
     assert!(rt;
-        three.len() == 3 && three.part(2).rows() == 1 && Arc::strong_count(three.part(0)) > 0
+        fill(alloc, &mut shelf, 4_096)? && settle(alloc, &mut shelf, 4_096)? == Some(Ok(()))
     );
+    let refused = settle_none(alloc, &mut shelf);
+    assert!(rt;
+        refused
+            == Err(SwapFault::Behind {
+                settled: 4_096,
+                front: 0
+            })
+    );
+    assert!(rt; holds(alloc, &shelf.look()?, 4_096, 4_096)?);
+    Ok(())
+}
+
+#[test]
+fn a_box_that_is_shared_is_refused(rt: HostRuntime) -> Result<(), Fail> {
+    let alloc = rt.alloc();
+    let mut shelf = Shelf::fresh(alloc)?;
+    assert!(rt; refuses_shared(alloc, &mut shelf)? && shelf.count() == 0);
     Ok(())
 }

@@ -1,7 +1,9 @@
-"""Whether filters hold for rows and for records."""
+"""Whether filters hold for rows and for records, and whole queries."""
 from chance import NUMBERS, STAMPS, TEXTS, lines_of, some, table, text_of
 from filters import GREATEST, LEAST, holds, of_record, of_row, patterns_of
-from patterns import first_refused
+from patterns import first_refused, sum_of_states
+from pipes import patterns_of_pipe
+from queries import parse
 from rows import Row
 from values import record_of
 
@@ -19,7 +21,19 @@ def answers(stdin):
     return table(map(answer, lines_of(stdin)))
 
 
+# All tables of the patterns of a query together may have 32 MiB. A state takes some 32 bytes; a query of the table is
+# far from this bound on either side of it.
+MOST_STATES = 2**20
+
+
 def answer(line):
+    kind, *columns = line.split("\t")
+    if kind in OF_QUERIES and len(columns) >= 3:
+        return OF_QUERIES[kind](*columns)
+    return answer_to_form(line)
+
+
+def answer_to_form(line):
     of_a_record = line.startswith("record ")
     columns = line.removeprefix("record ").split("\t")
     form, field, first, second, value = (columns + [""] * 5)[:5]
@@ -32,6 +46,56 @@ def answer(line):
     else:
         subject = of_row(Row(0, ["v"], record_of([("a", "x"), ("v", value)])))
     return str(holds(filter_, subject, 0)).lower()
+
+
+def refused_in(patterns, before=0):
+    """Returns the fault of patterns of which the first has a number, or None."""
+    refused = first_refused(patterns)
+    if refused is not None:
+        return f"RegexRefused {{ nth: {before + refused} }}"
+    return "Memory" if sum_of_states(patterns) > MOST_STATES else None
+
+
+def refused_query(filter_, pipes):
+    return refused_in(patterns_of(filter_) + [pattern for pipe in pipes for pattern in patterns_of_pipe(*pipe)])
+
+
+def row_of(time, app):
+    return Row(time, ["app"], {"app": app, "v": "x"} if app else {"v": "x"})
+
+
+def shown(answers_):
+    return "".join(str(answer_).lower() + " " for answer_ in answers_)
+
+
+def rows(now, asked, query):
+    filter_, pipes = parse(query)
+    cases_ = (row.partition(":") for row in asked.split(" "))
+    subjects = [of_row(row_of(int(time), app)) for time, _, app in cases_]
+    return refused_query(filter_, pipes) or shown(holds(filter_, subject, int(now)) for subject in subjects)
+
+
+def records(number, asked, query):
+    filter_, _ = parse(query)
+    patterns = patterns_of(filter_)
+    subjects = [of_record({"v": value, "_time": value}) for value in asked.split(" ")]
+    return refused_in(patterns, int(number)) or f"{int(number) + len(patterns)} " + shown(
+        holds(filter_, subject) for subject in subjects
+    )
+
+
+def streams(_, asked, query, selector):
+    filter_, pipes = parse(query)
+    return refused_query(filter_, pipes) or shown(
+        holds(parse(selector)[0], of_row(row_of(0, app))) for app in asked.split(" ")
+    )
+
+
+def repeated(count, asked, query):
+    return rows("0", asked, " ".join([query] * int(count)))
+
+
+OF_QUERIES = {"rows": rows, "records": records, "streams": streams, "patterns": repeated}
 
 
 def filter_of(form, field, first, second):
