@@ -16,7 +16,7 @@ fail_all() {
 for tool in mktemp cmp head yes; do
   command -v "$tool" > /dev/null || fail_all "there is no $tool"
 done
-[ -x "$program" ] || fail_all "the program is not built"
+[ -x "$program" ] || fail_all "the program is not built: run ./duvonka --build, or set DUVONKA to the path of one"
 work=$(mktemp -d) || exit 1
 trap 'rm -rf "$work"' EXIT
 passed=0 failed=0
@@ -196,7 +196,7 @@ status=$?; wants "" $'full 4096\n'
 judge "4,097 batches" $status 8
 
 # each fifth of the cases of tests/logsql/
-if PROGRAM=$program "$top/tests/logsql.sh"; then passed=$((passed + 1)); else failed=$((failed + 1)); fi
+if DUVONKA=$program "$top/tests/logsql.sh"; then passed=$((passed + 1)); else failed=$((failed + 1)); fi
 
 echo "$passed passed, $failed failed"
 [ "$failed" = 0 ]

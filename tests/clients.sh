@@ -17,7 +17,7 @@ fail_all() {
 for tool in mktemp timeout sha256sum sed seq; do
   command -v "$tool" > /dev/null || fail_all "there is no $tool"
 done
-[ -x "$program" ] || fail_all "the program is not built"
+[ -x "$program" ] || fail_all "the program is not built: run ./duvonka --build, or set DUVONKA to the path of one"
 work=$(mktemp -d) || exit 1
 # shellcheck source=tests/serving.sh
 . "$top/tests/serving.sh"

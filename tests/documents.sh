@@ -11,7 +11,7 @@ top=$(cd "$(dirname "$0")/.." && pwd)
 program=${DUVONKA:-$top/crates/duvonka/out/duvonka}
 cd "$top" || exit 1
 if ! [ -x "$program" ]; then
-  echo "FAILED all: the program is not built"
+  echo "FAILED all: the program is not built: run ./duvonka --build, or set DUVONKA to the path of one"
   echo "0 passed, 1 failed, 0 skipped"
   exit 1
 fi

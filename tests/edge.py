@@ -315,7 +315,7 @@ CHECKS = (
 
 def main():
     if not os.access(PROGRAM, os.X_OK):
-        print("FAILED all: the program is not built\n0 passed, 1 failed")
+        print("FAILED all: the program is not built: run ./duvonka --build, or set DUVONKA to the path of one\n0 passed, 1 failed")
         return 1
     chosen = [check for check in CHECKS if len(sys.argv) < 2 or check.__name__ in sys.argv[1:]]
     outcomes = {}

@@ -7,7 +7,7 @@ set -u
 export LC_ALL=C.UTF-8
 top=$(cd "$(dirname "$0")/.." && pwd)
 program=${DUVONKA:-$top/crates/duvonka/out/duvonka} examples=$top/examples
-[ -x "$program" ] || { echo "examples.sh: the program is not built: run ./duvonka first" >&2; exit 2; }
+[ -x "$program" ] || { echo "examples.sh: the program is not built: run ./duvonka --build, or set DUVONKA" >&2; exit 2; }
 work=$(mktemp -d) || exit 2
 # for the files of curl, of the browser and of others
 export HOME=$work

@@ -5,8 +5,8 @@
 set -u
 export LC_ALL=C.UTF-8
 top=$(cd "$(dirname "$0")/.." && pwd)
-program=${PROGRAM:-$top/crates/duvonka/out/duvonka}
-[ -x "$program" ] || { echo "logsql.sh: the program is not built: $program"; exit 1; }
+program=${DUVONKA:-$top/crates/duvonka/out/duvonka}
+[ -x "$program" ] || { echo "logsql.sh: the program is not built: run ./duvonka --build, or set DUVONKA"; exit 1; }
 step=5
 case "${1-}" in
   '') set -- "$top"/tests/logsql/*.test ;;
