@@ -51,7 +51,7 @@ fn answer_line<V: Vault>(alloc: Global, vault: &mut V, line: &str) -> Result<Str
     match call {
         "length" => told(alloc, vault.length(file)),
         "read" => read(alloc, vault, file, first, second),
-        "write" => write(alloc, vault, file, first, second, third),
+        "write" => write(alloc, vault, file, first, &piece(alloc, second, third)?),
         "cut" => done(alloc, vault.cut(file, first)),
         "sync" => done(alloc, vault.sync(file)),
         "remove" => done(alloc, vault.remove(file)),
@@ -101,22 +101,26 @@ fn read<V: Vault>(
     format!(in alloc; "{count} {hash}")
 }
 
-/// Writes `size` bytes, unless that leaves a gap after the end of the file.
-fn write<V: Vault>(
-    alloc: Global,
-    vault: &mut V,
-    file: u64,
-    at: u64,
-    size: u64,
-    first: u64,
-) -> Result<String, AllocError> {
+/// Returns `size` bytes that count up from `first`.
+fn piece(alloc: Global, size: u64, first: u64) -> Result<Vec<u8>, AllocError> {
     let mut piece = vec![in alloc; 0u8; size.min(MOST) as usize]?;
     let mut next = first;
     for byte in piece.iter_mut() {
         *byte = (next % 251) as u8;
         next = next.wrapping_add(1);
     }
-    match write_within(vault, file, at, piece.as_slice()) {
+    Ok(piece)
+}
+
+/// Writes the piece, unless that leaves a gap after the end of the file.
+fn write<V: Vault>(
+    alloc: Global,
+    vault: &mut V,
+    file: u64,
+    at: u64,
+    piece: &[u8],
+) -> Result<String, AllocError> {
+    match write_within(vault, file, at, piece) {
         Ok(true) => String::from_str(alloc, "done"),
         Ok(false) => String::from_str(alloc, "past the end"),
         Err(_) => String::from_str(alloc, "failed"),

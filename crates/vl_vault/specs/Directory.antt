@@ -14,9 +14,14 @@ place_of table file = position (λ kept. kept.number == file) table.changed.item
 abbrev pub IsOpen : FileTable → ℕ → Type 0
 IsOpen table file = IsSome (place_of table file)
 
--- Only the path and the reason why the directory cannot be used are others.
-pub record IsFound (old new : FileTable) : Type 0 where
-  pub usable : IsSome new.directory
+-- Only the path is another.
+pub record HasOtherPath (old new : FileTable) : Type 0 where
+  pub directory : new.directory ≡ old.directory
   pub access : new.access ≡ old.access
   pub names : new.names_changed ≡ old.names_changed
   pub changed : new.changed ≡ old.changed
+  pub sync_failed : new.sync_failed ≡ old.sync_failed
+
+-- The directory can be used, and only the path is another.
+abbrev pub IsFound : FileTable → FileTable → Type 0
+IsFound old new = IsSome old.directory × HasOtherPath old new

@@ -27,12 +27,7 @@ impl<R: Files<File = File> + Eprint + Drop> DirVault<R> {
     pub fn open(rt: R, alloc: Global, directory: &str) -> Result<DirVault<R>, AllocError>
         ensures { IfOk result (λ vault. directory_faults vault ≡ 0) }
     {
-        let files = FileTable::open(&rt, alloc, directory, Access::Write)?;
-        Ok(DirVault {
-            rt,
-            files,
-            faults: 0,
-        })
+        DirVault::with_access(rt, alloc, directory, Access::Write)
     }
 
     /// Returns a vault over the directory that only reads. It creates nothing, and every call that would change a file
@@ -44,7 +39,18 @@ impl<R: Files<File = File> + Eprint + Drop> DirVault<R> {
     ) -> Result<DirVault<R>, AllocError>
         ensures { IfOk result (λ vault. directory_faults vault ≡ 0) }
     {
-        let files = FileTable::open(&rt, alloc, directory, Access::Read)?;
+        DirVault::with_access(rt, alloc, directory, Access::Read)
+    }
+
+    fn with_access(
+        rt: R,
+        alloc: Global,
+        directory: &str,
+        access: Access,
+    ) -> Result<DirVault<R>, AllocError>
+        ensures { IfOk result (λ vault. directory_faults vault ≡ 0) }
+    {
+        let files = FileTable::open(&rt, alloc, directory, access)?;
         Ok(DirVault {
             rt,
             files,

@@ -1,8 +1,8 @@
 //! The files of a directory, with the handles that are open. This is the edge where the program meets the file system:
 //! no clause says what these functions do there.
-ghost use Rattle.std.specs.Prelude.{◌≡◌, ◌<◌, ◌≤◌, [], IfOk, IfSome, IsSome, OnOk, false, length};
+ghost use Rattle.std.specs.Prelude.{◌≡◌, ◌<◌, ◌≤◌, [], IfOk, IfSome, IsSome, OnErr, OnOk, false, length};
 ghost use Rattle.std.specs.Prelude.{string_bytes, true, vec_len};
-ghost use Rattle.vl_vault.specs.Directory.{IsFound, IsOpen, place_of};
+ghost use Rattle.vl_vault.specs.Directory.{HasOtherPath, IsFound, IsOpen, place_of};
 
 use std::alloc::{AllocError, Global};
 use std::fs::{File, Files, OpenOptions, TryLockError};
@@ -49,6 +49,8 @@ pub struct FileTable {
     changed: Vec<OpenFile>,
     /// Whether a file may have been created or removed since the directory was last synced.
     names_changed: bool,
+    /// Whether a sync failed. The system tells of an error once, so a later sync may return without one.
+    sync_failed: bool,
 }
 
 impl FileTable {
@@ -62,16 +64,20 @@ impl FileTable {
         ensures access { IfOk result (λ table. table.access ≡ access) }
         ensures none_open { IfOk result (λ table. table.changed.items ≡ []) }
         ensures names { IfOk result (λ table. table.names_changed ≡ true) }
+        ensures syncs { IfOk result (λ table. table.sync_failed ≡ false) }
     {
         let name = String::from_str(alloc, directory)?;
         let mut path = String::from_str(alloc, directory)?;
         path.reserve(DIGITS + 1)?;
         let mut changed = Vec::new(alloc);
         changed.reserve(OPEN_FILES)?;
-        let (directory, refused) = match lock_directory(rt, directory, access) {
+        path.push_str("/..")?;
+        let (directory, refused) = match lock_directory(rt, directory, path.as_str(), access) {
             Ok(handle) => (Some(handle), None),
             Err(reason) => (None, Some(reason)),
         };
+        path.clear();
+        path.push_str(name.as_str())?;
         Ok(FileTable {
             access,
             directory,
@@ -80,6 +86,7 @@ impl FileTable {
             path,
             changed,
             names_changed: true,
+            sync_failed: false,
         })
     }
 
@@ -118,6 +125,10 @@ impl FileTable {
         ensures same { OnOk result (IsFound self.old self.new) }
     {
         self.find(file)?;
+        if at.saturating_add(buf.len() as u64) > i64::MAX as u64 {
+            // No file is that long, and the system refuses such a range.
+            return Ok(0);
+        }
         if let Some(i) = self.place(file) {
             return read_all_at(&self.changed[i].handle, at, buf);
         }
@@ -181,29 +192,55 @@ impl FileTable {
             _ => {}
         }
         if let Some(i) = self.place(file) {
-            self.changed.swap_remove(i);
+            self.changed.remove(i);
         }
         Ok(())
     }
 
-    /// Syncs the file, and the directory where a file was created or removed since it was last synced. Where nothing
-    /// can be written there is nothing to sync, and some file systems that are read only refuse to.
+    /// Syncs the file, and the directory where a file was created or removed since it was last synced. After a sync
+    /// that failed, every later one fails.
     pub fn sync<R: Files<File = File>>(&mut self, rt: &R, file: u64) -> io::Result<()>
-        ensures { OnOk result (self.new.names_changed ≡ false) }
+        ensures names { OnOk result (self.new.names_changed ≡ false) }
+        ensures none_failed { OnOk result (self.old.sync_failed ≡ false) }
+        ensures last { OnErr result (self.new.sync_failed ≡ true) }
+    {
+        let synced = self.try_sync(rt, file);
+        self.sync_failed = synced.is_err();
+        synced
+    }
+
+    /// Syncs the file and the directory, unless an earlier sync failed.
+    fn try_sync<R: Files<File = File>>(&mut self, rt: &R, file: u64) -> io::Result<()>
+        ensures names { OnOk result (self.new.names_changed ≡ false) }
+        ensures none_failed { OnOk result (self.old.sync_failed ≡ false) }
     {
         self.find(file)?;
-        if self.access == Access::Read {
-            self.names_changed = false;
-            return Ok(());
+        if self.sync_failed {
+            return Err(io::Error::new(ErrorKind::Other, "an earlier sync failed"));
         }
         match self.place(file) {
-            Some(i) => {
-                self.changed[i].handle.sync_all()?;
-                self.changed.swap_remove(i);
-            }
-            None => sync_closed(rt, self.path.as_str())?,
+            Some(i) => self.sync_open(i)?,
+            None => sync_closed(rt, self.path.as_str(), self.access)?,
         }
         self.sync_names()
+    }
+
+    /// Syncs an open file, and closes it.
+    fn sync_open(&mut self, i: usize) -> io::Result<()>
+        requires { i < vec_len self.old.changed }
+        ensures last { OnErr result (self.new.sync_failed ≡ true) }
+        ensures same { OnOk result (self.new.sync_failed ≡ self.old.sync_failed) }
+        ensures directory { self.new.directory ≡ self.old.directory }
+    {
+        let file = &mut self.changed[i];
+        let number = file.number;
+        if let Err(reason) = file.handle.sync_all() {
+            self.sync_failed = true;
+            self.set_path(number)?;
+            return Err(reason);
+        }
+        self.changed.remove(i);
+        Ok(())
     }
 
     /// Syncs the directory where a file was created or removed since it was last synced.
@@ -212,7 +249,11 @@ impl FileTable {
     {
         if let Some(directory) = &self.directory {
             if self.names_changed {
-                directory.sync_all()?;
+                if let Err(reason) = sync_unless_refused(directory, self.access) {
+                    self.path.clear();
+                    self.path.push_str(self.name.as_str())?;
+                    return Err(reason);
+                }
                 self.names_changed = false;
             }
         }
@@ -227,6 +268,13 @@ impl FileTable {
             let reason = self.refused.take();
             return Err(reason.unwrap_or(io::Error::from(ErrorKind::NotFound)));
         }
+        self.set_path(file)
+    }
+
+    /// Sets the path to that of the file.
+    fn set_path(&mut self, file: u64) -> io::Result<()>
+        ensures { HasOtherPath self.old self.new }
+    {
         self.path.clear();
         match write!(self.path, "{}/{file}", self.name) {
             Ok(()) => Ok(()),
@@ -271,8 +319,7 @@ impl FileTable {
     /// Keeps the file open until it is synced. Where too many are open, the one that was opened first is synced.
     fn keep_open(&mut self, number: u64, handle: File) -> io::Result<()> {
         if self.changed.len() >= OPEN_FILES {
-            self.changed[0].handle.sync_all()?;
-            self.changed.remove(0);
+            self.sync_open(0)?;
         }
         match self.changed.push(OpenFile { number, handle }) {
             Ok(()) => Ok(()),
@@ -316,12 +363,22 @@ fn uninterrupted<T, F: Fn() -> io::Result<T>>(call: F) -> io::Result<T>
     Err(io::Error::from(ErrorKind::Interrupted))
 }
 
-/// Syncs a file that is not open. An earlier program may have changed it. A missing one has nothing to sync.
-fn sync_closed<R: Files<File = File>>(rt: &R, path: &str) -> io::Result<()> {
+/// Syncs the file at the path, which is not open: an earlier program may have changed it. A missing one has nothing to
+/// sync.
+fn sync_closed<R: Files<File = File>>(rt: &R, path: &str, access: Access) -> io::Result<()> {
     match File::open(rt, path) {
-        Ok(handle) => handle.sync_all(),
+        Ok(handle) => sync_unless_refused(&handle, access),
         Err(reason) if reason.kind() == ErrorKind::NotFound => Ok(()),
         Err(reason) => Err(reason),
+    }
+}
+
+/// Syncs the file or directory. A file system that cannot be written has no sync, and refuses it by EINVAL. Where files
+/// are only read, that is no error.
+fn sync_unless_refused(handle: &File, access: Access) -> io::Result<()> {
+    match handle.sync_all() {
+        Err(reason) if access == Access::Read && reason.kind() == ErrorKind::InvalidInput => Ok(()),
+        synced => synced,
     }
 }
 
@@ -362,10 +419,16 @@ fn write_all_at(handle: &File, at: u64, piece: &[u8]) -> io::Result<()> {
     Ok(())
 }
 
-/// Opens the directory and locks it. For writing it is created if it does not exist.
-fn lock_directory<R: Files<File = File>>(rt: &R, path: &str, access: Access) -> io::Result<File> {
+/// Opens the directory and locks it. For writing it is created if it does not exist. `outer` is the path of the
+/// directory that it stands in.
+fn lock_directory<R: Files<File = File>>(
+    rt: &R,
+    path: &str,
+    outer: &str,
+    access: Access,
+) -> io::Result<File> {
     if access == Access::Write {
-        create_directory(rt, path)?;
+        create_directory(rt, path, outer)?;
     }
     let directory = File::open(rt, path)?;
     let locked = match access {
@@ -383,26 +446,26 @@ fn lock_directory<R: Files<File = File>>(rt: &R, path: &str, access: Access) -> 
 }
 
 /// Creates the directory if it does not exist, and syncs the directory that it stands in: a program that created it may
-/// have ended before that. One that exists may stand where this program may not look.
-fn create_directory<R: Files<File = File>>(rt: &R, path: &str) -> io::Result<()> {
+/// have ended before that. One that exists may stand where this program may not look, or where nothing can be written.
+fn create_directory<R: Files<File = File>>(rt: &R, path: &str, outer: &str) -> io::Result<()> {
     let exists = match uninterrupted(|| fs::create_dir(rt, path)) {
         Ok(()) => false,
         Err(reason) if reason.kind() == ErrorKind::AlreadyExists => true,
         Err(reason) => return Err(reason),
     };
-    match File::open(rt, parent(path)) {
-        Ok(outer) => outer.sync_all(),
-        Err(reason) if exists && reason.kind() == ErrorKind::PermissionDenied => Ok(()),
-        Err(reason) => Err(reason),
+    match sync_directory(rt, outer) {
+        Err(reason) if exists && has_nothing_to_sync(reason.kind()) => Ok(()),
+        synced => synced,
     }
 }
 
-/// Returns the path of the directory that this one stands in.
-fn parent(path: &str) -> &str {
-    let name = path.trim_end_matches('/');
-    match name.rfind('/') {
-        Some(0) => "/",
-        Some(slash) => &name[..slash],
-        None => ".",
-    }
+/// Syncs the directory at the path.
+fn sync_directory<R: Files<File = File>>(rt: &R, path: &str) -> io::Result<()> {
+    let directory = File::open(rt, path)?;
+    directory.sync_all()
+}
+
+/// Returns whether this is how a directory refuses a sync that this program may not look into, or that has no sync.
+fn has_nothing_to_sync(kind: ErrorKind) -> bool {
+    kind == ErrorKind::PermissionDenied || kind == ErrorKind::InvalidInput
 }

@@ -1,12 +1,14 @@
 //! What a crash may leave, by choice.
-ghost use Rattle.std.specs.Prelude.{◌≡◌, ◌∷◌, ◌++◌, ◌+◌, ◌-◌, ◌<◌, ◌≤◌, List, ℕ, IfOk, OnOk, length, vec_len};
+ghost use Rattle.std.specs.Prelude.{◌≡◌, ◌∷◌, ◌++◌, ◌+◌, ◌-◌, ◌<◌, ◌≤◌, List, ℕ, IfOk, OnOk, Some, length};
+ghost use Rattle.std.specs.Prelude.{vec_len};
 ghost use Rattle.vl_vault.specs.Disk.{IsCrashImage, IsTorn, MayLeave, Past, content};
 ghost use Rattle.vl_vault.specs.Moments.{IsDurable};
 ghost use Rattle.vl_vault.specs.Record.{event_of, past_of};
-ghost use Rattle.vl_vault.specs.Replay.{BeginsFile, touches};
+ghost use Rattle.vl_vault.specs.Replay.{BeginsFile, file_of, touches};
 
 use crate::call::{Call, after_cut, note, overwrite};
 use std::alloc::{AllocError, Global};
+use std::collections::BTreeSet;
 
 /// Returns what a crash after these calls leaves of each file that they were on, as the contents that a vault begins
 /// with.
@@ -56,35 +58,39 @@ fn touches(calls: &[Call], file: u64) -> bool
     found
 }
 
-/// Returns the outcome of each call. The choice is spent on the calls that are pending, the newest first.
+/// Returns the outcome of each call. The choice is spent on the calls that are pending, the newest first: those after
+/// the last sync of their file.
 fn outcomes(alloc: Global, calls: &[Call], choice: u64) -> Result<Vec<u64>, AllocError>
     ensures { IfOk result (λ outcomes. vec_len outcomes ≡ length calls.now) }
 {
     let mut outcomes = vec![in alloc; 0u64; calls.len()]?;
+    let mut synced = BTreeSet::new(alloc);
     let mut left = choice;
     for i in (0..calls.len()).rev() {
         if left == 0 {
             break;
         }
-        if is_pending(&calls[i], &calls[i + 1..]) {
-            let count = outcome_count(&calls[i]);
-            outcomes[i] = left % count;
-            left /= count;
+        match &calls[i] {
+            Call::Sync { file } => {
+                synced.insert(*file)?;
+            }
+            call if !is_on(call, &synced) => {
+                let count = outcome_count(call);
+                outcomes[i] = left % count;
+                left /= count;
+            }
+            _ => {}
         }
     }
     Ok(outcomes)
 }
 
-/// Returns whether no later call synced the call's file.
-fn is_pending(call: &Call, later: &[Call]) -> bool {
-    for next in later {
-        if let Call::Sync { file } = next {
-            if call.file() == Some(*file) {
-                return false;
-            }
-        }
+/// Returns whether the call was on one of the files.
+fn is_on(call: &Call, files: &BTreeSet<u64>) -> bool {
+    match call.file() {
+        Some(file) => files.contains(&file),
+        None => false,
     }
-    true
 }
 
 /// Returns how many outcomes a crash has for a pending call. A write of n bytes has 4n + 1: it did not happen, or a
@@ -112,39 +118,33 @@ fn crash_content(
     let mut left = Vec::new(alloc);
     let mut now: &[u8] = &[];
     for i in 0..calls.len() {
-        left = left_after(alloc, left, now, &calls[i], file, outcomes[i])?;
-        now = calls[i].content_after(now, file);
+        if calls[i].file() == Some(file) {
+            left = left_after(alloc, left, now, &calls[i], outcomes[i])?;
+            now = calls[i].content_after(now, file);
+        }
     }
     Ok(left)
 }
 
-/// Returns what a crash leaves of the file after one call more. Before that call it left `left`, and a read gave `now`.
+/// Returns what a crash leaves of a file after one call more on it. Before that call it left `left`, and a read gave
+/// `now`.
 fn left_after(
     alloc: Global,
     left: Vec<u8>,
     now: &[u8],
     call: &Call,
-    file: u64,
     outcome: u64,
 ) -> Result<Vec<u8>, AllocError>
-    ensures { IfOk result (λ bytes. (past : Past) → MayLeave past file left.items → content past file ≡ now.now
+    ensures { IfOk result (λ bytes. (past : Past) (file : ℕ) → file_of (event_of call.now) ≡ Some file
+        → MayLeave past file left.items → content past file ≡ now.now
         → MayLeave (event_of call.now ∷ past) file bytes.items) }
 {
     match call {
-        Call::Initial { file: f, bytes } if *f == file => Vec::from_slice(alloc, bytes),
-        Call::Write {
-            file: f,
-            at,
-            piece,
-            ..
-        } if *f == file => torn(alloc, &left, *at, piece, outcome),
-        Call::Shorten {
-            file: f,
-            length,
-            ..
-        } if *f == file => after_cut(alloc, &left, *length, outcome == 0),
-        Call::Sync { file: f } if *f == file => Vec::from_slice(alloc, now),
-        _ => Ok(left),
+        Call::Initial { bytes, .. } => Vec::from_slice(alloc, bytes),
+        Call::Write { at, piece, .. } => torn(alloc, &left, *at, piece, outcome),
+        Call::Shorten { length, .. } => after_cut(alloc, &left, *length, outcome == 0),
+        Call::Sync { .. } => Vec::from_slice(alloc, now),
+        Call::Unchanged => Ok(left),
     }
 }
 
