@@ -1,34 +1,33 @@
 -- What is written of a column is read again.
-use Rattle.std.proofs.Common.{◌≡◌, ℕ, ◌<◌, ◌≤◌, ◌^◌, Bool, true, ltb, leb, eqb, List, [], ◌∷◌, ◌++◌}
-use Rattle.std.proofs.Common.{length, Some, Result, Ok, refl, sym, ap, subst, ◌∙◌, arith, inl, inr}
+use Rattle.std.proofs.Common.{◌≡◌, ℕ, ◌<◌, ◌≤◌, ◌^◌, Bool, true, ltb, leb, List, [], ◌∷◌, ◌++◌}
+use Rattle.std.proofs.Common.{length, Ok, refl, sym, ap, subst, ◌∙◌, arith, inl, inr}
 use Rattle.std.specs.Prelude.{◌&&◌, replicate, sum_by, IsUtf8}
 use Rattle.std.specs.List.{flat_map, list_all, AllByRecursion}
 use Rattle.std.specs.Str.{is_utf8}
 use Rattle.std.specs.Int.{w8, w16, w32, from_le_bytes}
-use Rattle.std.proofs.lemmas.Bool.{cases_Bool, eqb-true, leb-true, ltb-true}
-use Rattle.std.proofs.lemmas.List.{append-nil, append_assoc, length-map}
+use Rattle.std.proofs.lemmas.Bool.{cases_Bool, leb-true, ltb-true}
+use Rattle.std.proofs.lemmas.List.{append_assoc, length-map}
 use Rattle.std.proofs.lemmas.List.Concat.{flat_map-cons}
 use Rattle.std.proofs.lemmas.Nat.{from_le_bytes-to_le_bytes_2, from_le_bytes-to_le_bytes_4}
 use Rattle.std.proofs.lemmas.Str.{IsUtf8-from_is_utf8}
-use Rattle.byte_format.specs.Format.{value, exactly, many, front, whole, ended, ◌>>=◌}
+use Rattle.byte_format.specs.Format.{value, exactly, many, front}
 use Rattle.byte_format.specs.Items.{number, number_that, any_number, text}
-use Rattle.byte_format.specs.Spelling.{IsReadAgain}
 use Rattle.byte_format.specs.Written.{text_bytes}
-use Rattle.byte_format.proofs.Cases.{both_true, some_from}
+use Rattle.byte_format.proofs.Cases.{both_true}
 use Rattle.byte_format.proofs.Readings.{front-followed, front-item}
 use Rattle.byte_format.proofs.Texts.{text-again}
 use Rattle.byte_format.proofs.Turns.{many-again}
 use Rattle.col_codec.specs.Ints.{ints, int_spelling}
-use Rattle.col_codec.proofs.Again.{ints-again}
-use Rattle.col_codec.proofs.TextLaws.{texts-again}
-use Rattle.block_column.specs.Body.{body, code_below, column, column_spelling, column_steps, column_writing}
-use Rattle.block_column.specs.Body.{constant_body, is_kind}
+use Rattle.col_codec.specs.Again.{ints-again}
+use Rattle.col_codec.specs.TextLaws.{texts-again}
+use Rattle.block_column.specs.Body.{body, code_below, constant_body, is_kind}
 use Rattle.block_column.specs.Body.{dictionary_body, dictionary_steps, integers_body, kind_item}
 use Rattle.block_column.specs.Kinds.{Kind, constant, integers, dictionary, plain, kind_of, is_constant, are_integers}
-use Rattle.block_column.specs.Kinds.{is_short, fits_dictionary, first_of, integers_in, distinct, codes_of, body_of}
-use Rattle.block_column.specs.Kinds.{code_of, code_of_kind, dictionary_bytes, integer_of}
+use Rattle.block_model.specs.Distinct.{code_of, codes_of, distinct, is_short}
+use Rattle.block_column.specs.Kinds.{fits_dictionary, first_of, integers_in, body_of}
+use Rattle.block_column.specs.Kinds.{code_of_kind, dictionary_bytes, integer_of}
 use Rattle.block_column.proofs.BodyLaws.{dictionary-steps, integers-read}
-use Rattle.block_column.proofs.Distinct.{codes-stand, codes-stand-below, distinct-pass}
+use Rattle.block_model.proofs.Distinct.{codes-stand, codes-stand-below, distinct-pass}
 use Rattle.block_column.proofs.KindLaws.{constant-is, first-small, integers-are, is-constant, is-integers}
 use Rattle.block_column.proofs.KindLaws.{is-dictionary, is-plain}
 
@@ -172,38 +171,3 @@ body-again ts rest utf8 small =
         ]
       ]
     ]
-
-pub column-steps : (rows : ℕ) (bytes : List ℕ)
-    → front (column rows) bytes ≡ column_steps rows bytes
-unfolding column column_steps
-column-steps rows bytes = front-followed kind_item (body rows) bytes
-
-column-again : (ts : List (List ℕ)) (rest : List ℕ) → list_all is_utf8 ts ≡ true → sum_by length ts < 2 ^ 32
-    → front (column (length ts)) (column_spelling ts ++ rest) ≡ Ok (ts, rest)
-unfolding column_spelling column_steps
-column-again ts rest utf8 small =
-    ap (front (column (length ts))) (append_assoc (code_of_kind (kind_of ts) ∷ []) (body_of (kind_of ts) ts) rest)
-    ∙ column-steps (length ts) ((code_of_kind (kind_of ts) ∷ []) ++ (body_of (kind_of ts) ts ++ rest))
-    ∙ rw (kind-again (kind_of ts) (body_of (kind_of ts) ts ++ rest)) (body-again ts rest utf8 small)
-
-pub is_read_again : (rows : ℕ) → IsReadAgain (column rows) (column_writing rows)
-unfolding column_writing
-is_read_again rows ts bytes e =
-    let g = some_from ((eqb (length ts) rows) && (list_all is_utf8 ts && ltb (sum_by length ts) (2 ^ 32)))
-    (column_spelling ts) bytes e in
-    let p = both_true (eqb (length ts) rows) (list_all is_utf8 ts && ltb (sum_by length ts) (2 ^ 32)) g.0 in
-    let q = both_true (list_all is_utf8 ts) (ltb (sum_by length ts) (2 ^ 32)) p.1 in
-    let n : length ts ≡ rows = eqb-true (length ts) rows p.0 in
-    let again = column-again ts [] q.0 (ltb-true (sum_by length ts) (2 ^ 32) q.1) in
-    ap (whole (column rows)) (sym g.1 ∙ sym (append-nil (column_spelling ts)))
-    ∙ ap (λ (k : ℕ). whole (column k) (column_spelling ts ++ [])) (sym n)
-    ∙ ap (λ (r : Result (List (List ℕ) × List ℕ) ℕ). r >>= ended) again
-
-pub writing-is : (rows : ℕ) (ts : List (List ℕ)) (bytes : List ℕ) → column_writing rows ts ≡ Some bytes
-    → (length ts ≡ rows) × (bytes ≡ column_spelling ts)
-unfolding column_writing
-writing-is rows ts bytes e =
-    let g = some_from ((eqb (length ts) rows) && (list_all is_utf8 ts && ltb (sum_by length ts) (2 ^ 32)))
-    (column_spelling ts) bytes e in
-    let p = both_true (eqb (length ts) rows) (list_all is_utf8 ts && ltb (sum_by length ts) (2 ^ 32)) g.0 in
-    (eqb-true (length ts) rows p.0, sym g.1)

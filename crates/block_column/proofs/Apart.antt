@@ -14,10 +14,10 @@ use Rattle.std.proofs.lemmas.Map.Lookups.{exact_bytes}
 use Rattle.std.proofs.lemmas.Slice.Eq.{bytes_eq-Decides}
 use Rattle.byte_format.proofs.Cases.{both_true}
 use Rattle.log_model.specs.Field.{bytes_cmp}
-use Rattle.block_column.specs.Kinds.{distinct, is_listed}
-use Rattle.block_column.specs.Tags.{has_slot, slot_of}
-use Rattle.block_column.proofs.Distinct.{distinct-more, fold-longer, one-text-more}
-use Rattle.block_column.proofs.Same.{distinct-listed, each-listed}
+use Rattle.block_model.specs.Distinct.{distinct, is_listed}
+use Rattle.block_model.specs.Tags.{has_slot, slot_of}
+use Rattle.block_model.proofs.Distinct.{distinct-more, fold-longer, one-text-more}
+use Rattle.block_model.proofs.Same.{distinct-listed, each-listed}
 
 pub neither : (a b : Bool) → (a || b) ≡ false → (a ≡ false) × (b ≡ false)
 neither true b e = absurd cc
@@ -66,7 +66,7 @@ one-more-apart f taken xs i d lt all free =
       | inr none ↦ none
     ])
 
--- As many slots as are taken, so many of the texts are apart, and one more if another was free.
+-- At least as many texts are apart as slots are taken, and one more if another slot was free.
 pub count-on : {X : Type 0} (f : X → List ℕ) (taken : List Bool) (xs : List X) (i : ℕ) (d : X) (count : ℕ) (free : Bool)
     → i < length xs → list_all (has_slot taken) (map f (take i xs)) ≡ true
     → count ≤ length (distinct (map f (take i xs))) → free ≡ not (has_slot taken (f (get_or xs i d)))

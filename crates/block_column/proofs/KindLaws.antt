@@ -14,17 +14,18 @@ use Rattle.std.proofs.lemmas.Slice.Eq.{bytes_eq-Decides}
 use Rattle.byte_format.proofs.Cases.{both_true}
 use Rattle.byte_format.specs.Written.{text_bytes}
 use Rattle.col_codec.specs.Ints.{is_i64, int_spelling}
-use Rattle.col_codec.proofs.Ranges.{fits-is_i64, is_i64-fits}
+use Rattle.col_codec.specs.Ranges.{fits-is_i64, is_i64-fits}
 use Rattle.log_model.specs.Field.{is_empty}
 use Rattle.log_model.specs.Order.{number_of}
 use Rattle.log_model.proofs.ValueOrder.{number_of-is, number_of-some}
 use Rattle.block_column.specs.Kinds.{Kind, constant, integers, dictionary, plain, kind_of, is_constant, are_integers}
-use Rattle.block_column.specs.Kinds.{is_number, is_short, fits_dictionary, first_of, integer_of, integers_in, distinct}
-use Rattle.block_column.specs.Kinds.{code_of, codes_of, body_of, dictionary_bytes}
-use Rattle.block_column.specs.Cells.{IsFirst, text_at, texts_of}
+use Rattle.block_model.specs.Distinct.{code_of, codes_of, distinct, is_short, text_at}
+use Rattle.block_column.specs.Kinds.{is_number, fits_dictionary, first_of, integer_of, integers_in}
+use Rattle.block_column.specs.Kinds.{body_of, dictionary_bytes}
+use Rattle.block_column.specs.Cells.{IsFirst, texts_of}
 use Rattle.block_column.specs.declared.cells.Cells.TheVariants as cells
-use Rattle.block_column.proofs.Distinct.{codes-stand, codes-stand-below, distinct-pass, itself}
-use Rattle.block_column.proofs.Distinct.{one-text-fails, one-text-more}
+use Rattle.block_model.proofs.Distinct.{codes-stand, codes-stand-below, distinct-pass, itself}
+use Rattle.block_model.proofs.Distinct.{one-text-fails, one-text-more}
 
 all-same : (t : List ℕ) (ts : List (List ℕ)) → list_all (bytes_eq t) ts ≡ true → replicate (length ts) t ≡ ts
 all-same t [] e = refl
@@ -85,7 +86,7 @@ is-plain ts e f g = rw (e, f, g) refl
 
 -- ---- how each kind holds them
 
-filled-constant : (ts : List (List ℕ)) → is_constant ts ≡ true → 0 < length ts
+pub filled-constant : (ts : List (List ℕ)) → is_constant ts ≡ true → 0 < length ts
 filled-constant [] e = absurd cc
 filled-constant (t ∷ ts) e = omega arith
 

@@ -1,12 +1,8 @@
-pub mod Distinct
 pub mod KindLaws
+pub mod FirstLaws
 pub mod BodyLaws
 pub mod Again
 pub mod Whole
 pub mod Within
-pub mod Rising
-pub mod Same
-pub mod Slots
 pub mod Apart
 pub mod Listed
-pub mod TagLaws

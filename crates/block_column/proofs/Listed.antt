@@ -8,12 +8,11 @@ use Rattle.std.proofs.lemmas.List.{get_or-set_other}
 use Rattle.std.proofs.lemmas.List.Folds.{list_any_at, list_any_more}
 use Rattle.std.proofs.lemmas.Slice.Eq.{bytes_eq-Decides}
 use Rattle.byte_format.proofs.Cases.{both_true}
-use Rattle.block_column.specs.Cells.{text_at}
-use Rattle.block_column.specs.Kinds.{code_of, distinct, fits_dictionary, is_listed, is_short}
-use Rattle.block_column.specs.Members.{HaveSameTexts}
-use Rattle.block_column.proofs.Distinct.{code-is, right_true}
-use Rattle.block_column.proofs.Rising.{IsRising, distinct-rising}
-use Rattle.block_column.proofs.Same.{code-at, distinct-listed, same-rising}
+use Rattle.block_model.specs.Distinct.{HaveSameTexts, code_of, distinct, is_listed, is_short, text_at}
+use Rattle.block_column.specs.Kinds.{fits_dictionary}
+use Rattle.block_model.proofs.Distinct.{code-is, right_true}
+use Rattle.block_model.proofs.Rising.{IsRising, distinct-rising}
+use Rattle.block_model.proofs.Same.{code-at, distinct-listed, same-rising}
 
 -- each code below the count is there
 abbrev pub AreUsed : ℕ → List ℕ → Type 0
@@ -86,7 +85,7 @@ codes-are held (c ∷ cs) rising below =
     ap (λ (k : ℕ). k ∷ cs) (sym (code-at held (get_or held c []) c rising (ltb-true c (length held) parts.0) refl))
     ∙ ap (λ (l : List ℕ). code_of held (get_or held c []) ∷ l) (codes-are held cs rising parts.1)
 
-short-at : (held : List (List ℕ)) (i : ℕ) → i < length held → list_all is_short held ≡ true
+pub short-at : (held : List (List ℕ)) (i : ℕ) → i < length held → list_all is_short held ≡ true
     → is_short (get_or held i []) ≡ true
 short-at [] i lt e = absurd (omega (arith, lt))
 short-at (t ∷ ts) zero lt e = (both_true (is_short t) (list_all is_short ts) e).0

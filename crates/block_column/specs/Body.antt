@@ -1,16 +1,12 @@
--- The body of a column as a format, and the column as bytes.
-use Rattle.std.specs.Prelude.{ℕ, ◌^◌, Bool, ◌&&◌, ◌==◌, nat_lt, List, [], ◌∷◌, ◌++◌, length, map, replicate, sum_by}
-use Rattle.std.specs.Prelude.{Option, Some, None, Result, if◌then◌else◌}
-use Rattle.std.specs.List.{list_all}
+-- The body of a column as a format.
+use Rattle.std.specs.Prelude.{ℕ, Bool, ◌==◌, nat_lt, List, map, replicate, Result, if◌then◌else◌}
 use Rattle.std.specs.Fmt.{signed_decimal}
-use Rattle.std.specs.Str.{is_utf8}
 use Rattle.std.specs.Int.{w8, w16, w32}
 use Rattle.byte_format.specs.Format.{Format, value, followed, many, front, ◌>>=◌}
 use Rattle.byte_format.specs.Items.{number, number_that, text}
 use Rattle.col_codec.specs.Ints.{ints}
 use Rattle.col_codec.specs.Texts.{texts}
-use Rattle.block_column.specs.Kinds.{code_of_kind, kind_of, body_of}
-use Rattle.block_column.specs.Cells.{text_at}
+use Rattle.block_model.specs.Distinct.{text_at}
 
 abbrev pub constant_body : ℕ → Format (List (List ℕ))
 constant_body rows = followed (text w32) (λ t. value (replicate rows t))
@@ -35,7 +31,7 @@ dictionary_steps rows bytes = do
   codes ← front (many rows (code_below count.0)) held.1
   front (value (map (text_at held.0) codes.0)) codes.1
 
--- the values of so many rows in a column of this kind
+-- the values of this many rows in a column of this kind
 abbrev pub body : ℕ → ℕ → Format (List (List ℕ))
 body rows kind =
     if kind == 0 then constant_body rows
@@ -47,22 +43,3 @@ is_kind kind = nat_lt kind 4
 
 abbrev pub kind_item : Format ℕ
 kind_item = number_that w8 is_kind
-
--- the kind, and then the body
-unfoldable pub column : ℕ → Format (List (List ℕ))
-column rows = followed kind_item (body rows)
-
--- the same, one step after another
-unfoldable pub column_steps : ℕ → List ℕ → Result (List (List ℕ) × List ℕ) ℕ
-column_steps rows bytes = do
-  kind ← front kind_item bytes
-  front (body rows kind.0) kind.1
-
-unfoldable pub column_spelling : List (List ℕ) → List ℕ
-column_spelling values = (code_of_kind (kind_of values) ∷ []) ++ body_of (kind_of values) values
-
--- the spelling of a column of so many rows
-unfoldable pub column_writing : ℕ → List (List ℕ) → Option (List ℕ)
-column_writing rows values =
-    if (length values == rows) && (list_all is_utf8 values && nat_lt (sum_by length values) (2 ^ 32))
-    then Some (column_spelling values) else None

@@ -1,5 +1,5 @@
 -- How a column holds its values.
-use Rattle.std.specs.Prelude.{◌≡◌, ℕ, ◌<◌, ◌≤◌, ◌^◌, true, nat_lt, List, [], length, map, slice_index_or, replicate}
+use Rattle.std.specs.Prelude.{◌≡◌, ℕ, ◌<◌, ◌≤◌, ◌^◌, true, nat_lt, List, [], length, map, replicate}
 use Rattle.std.specs.List.{list_all}
 use Rattle.std.specs.Fmt.{signed_decimal}
 use Rattle.std.specs.Int.{w32}
@@ -7,26 +7,22 @@ use Rattle.byte_format.specs.Written.{text_bytes}
 use Rattle.col_codec.specs.Ints.{int_spelling, is_i64}
 use Rattle.col_codec.specs.Texts.{text_spelling}
 use Rattle.block_column.specs.Kinds.{Kind, constant, integers, dictionary, plain, kind_of, body_of, dictionary_bytes}
-use Rattle.block_column.specs.Kinds.{distinct, is_short}
+use Rattle.block_model.specs.Distinct.{distinct, is_short, text_at}
 use Rattle.block_column.specs.declared.cells.Cells.{Cells}
 use Rattle.block_column.specs.declared.cells.Cells.TheVariants as cells
-
--- the text that a code stands for
-abbrev pub text_at : List (List ℕ) → ℕ → List ℕ
-text_at texts code = slice_index_or texts code []
 
 -- the value of each row
 abbrev pub texts_of : Cells → List (List ℕ)
 texts_of (cells.Constant text rows) = replicate rows text
 texts_of (cells.Integers ints) = map signed_decimal ints
-texts_of (cells.Dictionary texts codes) = map (text_at texts.items) codes.items
+texts_of (cells.Dictionary texts codes) = map (text_at texts) codes.items
 texts_of (cells.Plain texts) = texts
 
 -- Each integer has 64 bits, and each code stands for a text.
 abbrev pub IsCells : Cells → Type 0
 IsCells (cells.Constant text rows) = Unit {0}
 IsCells (cells.Integers ints) = list_all is_i64 ints ≡ true
-IsCells (cells.Dictionary texts codes) = list_all (λ code. nat_lt code (length texts.items)) codes.items ≡ true
+IsCells (cells.Dictionary texts codes) = list_all (λ code. nat_lt code (length texts)) codes.items ≡ true
 IsCells (cells.Plain texts) = Unit {0}
 
 abbrev pub kind_in : Cells → Kind
@@ -38,21 +34,21 @@ kind_in (cells.Plain texts) = plain
 abbrev pub body_in : Cells → List ℕ
 body_in (cells.Constant text rows) = text_bytes w32 text
 body_in (cells.Integers ints) = int_spelling ints
-body_in (cells.Dictionary texts codes) = dictionary_bytes texts.items codes.items
+body_in (cells.Dictionary texts codes) = dictionary_bytes texts codes.items
 body_in (cells.Plain texts) = text_spelling texts
 
 -- What is written of them is short enough for the lengths that are written.
 abbrev pub IsNarrow : Cells → Type 0
 IsNarrow (cells.Constant text rows) = length text < 2 ^ 32
 IsNarrow (cells.Integers ints) = Unit {0}
-IsNarrow (cells.Dictionary texts codes) = (length texts.items ≤ 255) × (list_all is_short texts.items ≡ true)
+IsNarrow (cells.Dictionary texts codes) = (length texts ≤ 255) × (list_all is_short texts ≡ true)
 IsNarrow (cells.Plain texts) = Unit {0}
 
 -- No text is held that no row has.
 abbrev pub IsEach : Cells → Type 0
 IsEach (cells.Constant text rows) = 0 < rows
 IsEach (cells.Integers ints) = Unit {0}
-IsEach (cells.Dictionary texts codes) = texts.items ≡ distinct (map (text_at texts.items) codes.items)
+IsEach (cells.Dictionary texts codes) = texts ≡ distinct (map (text_at texts) codes.items)
 IsEach (cells.Plain texts) = Unit {0}
 
 -- the decimal texts of the integers, if integers are held

@@ -1,22 +1,14 @@
 -- The four kinds of column, of which the first that fits is used.
-use Rattle.std.specs.Prelude.{ℕ, ℤ, Bool, false, true, ◌&&◌, not, nat_le, List, [], ◌∷◌, ◌++◌, length, map, fold}
+use Rattle.std.specs.Prelude.{ℕ, ℤ, Bool, false, true, ◌&&◌, not, nat_le, List, [], ◌∷◌, ◌++◌, length, map}
 use Rattle.std.specs.Prelude.{bytes_eq, is_some, if◌then◌else◌, unwrap_or, pos}
-use Rattle.std.specs.List.{flat_map, list_all, list_any, position_or_len}
-use Rattle.std.specs.BTreeSet.{insert_key}
+use Rattle.std.specs.List.{flat_map, list_all}
 use Rattle.std.specs.Int.{w16, w32}
 use Rattle.byte_format.specs.Written.{text_bytes}
 use Rattle.col_codec.specs.Ints.{int_spelling}
 use Rattle.col_codec.specs.Texts.{text_spelling}
-use Rattle.log_model.specs.Field.{bytes_cmp, is_empty}
+use Rattle.block_model.specs.Distinct.{codes_of, distinct, is_short}
+use Rattle.log_model.specs.Field.{is_empty}
 use Rattle.log_model.specs.Order.{number_of}
-
--- one of the texts
-abbrev pub is_listed : List (List ℕ) → List ℕ → Bool
-is_listed texts text = list_any (bytes_eq text) texts
-
--- each text once, in byte order
-abbrev pub distinct : List (List ℕ) → List (List ℕ)
-distinct texts = fold (insert_key bytes_cmp) [] texts
 
 pub data Kind : Type 0 where
   constant : Kind
@@ -48,9 +40,6 @@ is_number value = is_some (number_of value)
 abbrev pub are_integers : List (List ℕ) → Bool
 are_integers values = list_all is_number values
 
-abbrev pub is_short : List ℕ → Bool
-is_short value = nat_le (length value) 256
-
 -- at most 255 distinct values, each of at most 256 bytes
 abbrev pub fits_dictionary : List (List ℕ) → Bool
 fits_dictionary values = nat_le (length (distinct values)) 255 && list_all is_short values
@@ -70,13 +59,6 @@ integer_of value = unwrap_or (number_of value) (pos 0)
 
 abbrev pub integers_in : List (List ℕ) → List ℤ
 integers_in values = map integer_of values
-
--- the place of a value among the distinct ones
-abbrev pub code_of : List (List ℕ) → List ℕ → ℕ
-code_of sorted value = position_or_len (bytes_eq value) sorted
-
-abbrev pub codes_of : List (List ℕ) → List ℕ
-codes_of values = map (code_of (distinct values)) values
 
 abbrev pub dictionary_bytes : List (List ℕ) → List ℕ → List ℕ
 dictionary_bytes texts codes = (length texts ∷ []) ++ (flat_map (text_bytes w16) texts ++ codes)

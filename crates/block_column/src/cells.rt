@@ -1,12 +1,14 @@
 //! How a column holds its values.
 
-ghost use Rattle.std.specs.Prelude.{◌≡◌, ◌<◌, Some, length, map, nat_lt, slice_get, true};
+ghost use Rattle.std.specs.Prelude.{◌≡◌, ◌<◌, IsTrue, Some, bytes_eq, length, map, nat_lt, replicate, slice_get, true};
 ghost use Rattle.std.specs.List.{list_all};
-ghost use Rattle.block_column.specs.Cells.{IsCells, kind_in, text_at, texts_of};
+ghost use Rattle.block_model.specs.Distinct.{text_at};
+ghost use Rattle.block_column.specs.Cells.{IsCells, kind_in, texts_of};
 ghost use Rattle.block_column.specs.Kinds.{code_of_kind};
-ghost use Rattle.block_column.specs.Values.{value_text};
+ghost use Rattle.block_column.specs.Values.{lent_texts, value_text};
 
-use crate::column::Value;
+use crate::codes::is_value;
+use crate::column::{Lent, Value};
 use col_codec::{IntColumn, TextColumn};
 use vl_row::Text;
 
@@ -18,7 +20,7 @@ pub(crate) enum Cells {
     /// Each value is the decimal text of an integer.
     Integers(IntColumn),
     /// Some values, and for each row the place of its value among them.
-    Dictionary(Vec<Text>, Vec<u8>),
+    Dictionary(TextColumn, Vec<u8>),
     /// Any values.
     Plain(TextColumn),
 }
@@ -56,16 +58,44 @@ pub(crate) fn value_at(cells: &Cells, i: usize) -> Value<'_>
     match cells {
         Cells::Constant(text, _) => Value::Str(text.as_str()),
         Cells::Integers(ints) => Value::Int(ints.get(i)),
-        Cells::Dictionary(texts, codes) => Value::Str(coded(texts.as_slice(), codes.as_slice(), i)),
+        Cells::Dictionary(texts, codes) => Value::Str(coded(texts, codes.as_slice(), i)),
         Cells::Plain(texts) => Value::Str(texts.get(i)),
     }
 }
 
+/// The same, lent.
+pub(crate) fn lent_of(cells: &Cells) -> Lent<'_>
+    ensures { lent_texts result ≡ texts_of cells.now }
+{
+    match cells {
+        Cells::Constant(text, rows) => Lent::Constant(text.as_str(), *rows),
+        Cells::Integers(ints) => Lent::Integers(ints),
+        Cells::Dictionary(texts, codes) => Lent::Dictionary(texts, codes.as_slice()),
+        Cells::Plain(texts) => Lent::Plain(texts),
+    }
+}
+
+/// Whether the value of each row is this text, if that is quickly seen.
+pub(crate) fn are_all(cells: &Cells, text: &str) -> bool
+    ensures { IsTrue result → list_all (bytes_eq text.now) (texts_of cells.now) ≡ true }
+{
+    match cells {
+        Cells::Constant(value, rows) => is_filled(value, *rows, text),
+        _ => false,
+    }
+}
+
+fn is_filled(value: &Text, _rows: usize, text: &str) -> bool
+    ensures { IsTrue result → list_all (bytes_eq text.now) (replicate _rows value.now) ≡ true }
+{
+    is_value(value, text)
+}
+
 /// The text that the code of a row stands for.
-pub(crate) fn coded<'a>(texts: &'a [Text], codes: &[u8], i: usize) -> &'a str
+pub(crate) fn coded<'a>(texts: &'a TextColumn, codes: &[u8], i: usize) -> &'a str
     requires codes { list_all (λ code. nat_lt code (length texts.now)) codes.now ≡ true }
     requires within { i < length codes.now }
     ensures { slice_get (map (text_at texts.now) codes.now) i ≡ Some result.now }
 {
-    texts[codes[i] as usize].as_str()
+    texts.get(codes[i] as usize)
 }

@@ -5,10 +5,11 @@ ghost use Rattle.std.specs.BTreeSet.{insert_key, keys};
 ghost use Rattle.std.specs.List.{All, list_all, list_any};
 ghost use Rattle.std.specs.List.Sorted.{IsStrictlySortedBy};
 ghost use Rattle.log_model.specs.Field.{bytes_cmp};
-ghost use Rattle.block_column.specs.Kinds.{code_of, distinct, fits_dictionary, is_listed, is_short};
+ghost use Rattle.block_model.specs.Distinct.{code_of, distinct, is_listed, is_short};
+ghost use Rattle.block_column.specs.Kinds.{fits_dictionary};
 
 use crate::many::are_many;
-use crate::recent::{Recent, SLOTS, slot_of};
+use block_model::{Recent, SLOTS, slot_of};
 use std::alloc::{AllocError, Global};
 use std::collections::BTreeSet;
 use vl_row::Text;
@@ -104,6 +105,16 @@ fn listed(alloc: Global, set: &BTreeSet<&str>) -> Result<Vec<Text>, AllocError>
     Ok(texts)
 }
 
+pub(crate) fn lent(alloc: Global, texts: &[Text]) -> Result<Vec<&str>, AllocError>
+    ensures { IfOk result (λ lent. map (λ t. t.now) lent.items ≡ texts.now) }
+{
+    let mut lent = Vec::with_capacity(alloc, texts.len())?;
+    for text in texts {
+        lent.push(text.as_str())?;
+    }
+    Ok(lent)
+}
+
 /// The place of each value among the distinct ones, which are in byte order.
 pub(crate) fn codes_of(
     alloc: Global,
@@ -166,7 +177,8 @@ fn code_of(sorted: &[Text], value: &str) -> u8
     unreachable!()
 }
 
-fn is_value(text: &Text, value: &str) -> bool
+/// Whether the text is this value.
+pub(crate) fn is_value(text: &Text, value: &str) -> bool
     ensures { result ≡ bytes_eq value.now text.now }
 {
     value == text.as_str()

@@ -1,25 +1,27 @@
 //! Columns.
 
-ghost use Rattle.std.specs.Prelude.{◌≡◌, ◌<◌, ◌^◌, ◌++◌, IfErr, IfOk, List, Ok, OnOk, Some, length, map, slice_get};
-ghost use Rattle.std.specs.Prelude.{IfSome, is_some, sum_by, ℕ};
+ghost use Rattle.std.specs.Prelude.{◌≡◌, ◌<◌, ◌^◌, ◌++◌, IfOk, IfSome, OnOk, Some, is_some, length, map, slice_get};
+ghost use Rattle.std.specs.Prelude.{IsTrue, IsUtf8, bytes_eq, sum_by, true};
+ghost use Rattle.std.specs.Fmt.{signed_decimal};
+ghost use Rattle.std.specs.List.{list_all};
 ghost use Rattle.byte_format.specs.Format.{front};
 ghost use Rattle.byte_format.specs.Gives.{Gives};
-ghost use Rattle.byte_format.specs.Spelling.{reading};
-ghost use Rattle.col_codec.specs.Answers.{AnswersAs, IsPlaceOf};
-ghost use Rattle.block_column.specs.Body.{body, column, column_spelling, column_writing};
+ghost use Rattle.block_column.specs.Body.{body};
 ghost use Rattle.block_column.specs.Cells.{IsFirst, texts_of};
-ghost use Rattle.block_column.specs.Kinds.{body_of, code_of_kind, distinct, is_held_once, kind_of};
-ghost use Rattle.block_column.specs.Values.{value_text};
+ghost use Rattle.block_model.specs.Distinct.{distinct};
+ghost use Rattle.block_column.specs.Kinds.{body_of, code_of_kind, is_held_once, kind_of};
+ghost use Rattle.block_column.specs.Values.{lent_texts, value_text};
 
-use crate::cells::{Cells, kind_of, len_of, value_at};
+use crate::cells::{Cells, are_all, kind_of, len_of, lent_of, value_at};
+use crate::kept::into_first;
 use crate::kinds::first_kind;
 use crate::members::members_of;
 use crate::put::put_cells;
-use crate::read::read;
 use crate::row_texts::RowTexts;
 use crate::take::take_cells;
 use byte_format::Stop;
-use col_codec::ColumnFault;
+use col_codec::{IntColumn, TextColumn};
+use itoa::Buffer;
 use std::alloc::{AllocError, Global};
 use std::marker::Model;
 
@@ -30,6 +32,48 @@ pub enum Value<'a> {
     Str(&'a str),
     /// An integer, in place of its decimal text.
     Int(i64),
+}
+
+impl Value<'_> {
+    /// How many bytes the text has, which is in UTF-8.
+    pub fn len(self) -> usize
+        ensures len { result ≡ length (value_text self.entry) }
+        ensures text { IsUtf8 (value_text self.entry) }
+    {
+        match self {
+            Value::Str(text) => len_of_text(text),
+            Value::Int(integer) => decimal_len(integer),
+        }
+    }
+}
+
+fn len_of_text(text: &str) -> usize
+    ensures len { result ≡ length text.now }
+    ensures text { IsUtf8 text.now }
+{
+    text.len()
+}
+
+/// How many bytes the decimal text of an integer has.
+fn decimal_len(integer: i64) -> usize
+    ensures len { result ≡ length (signed_decimal integer) }
+    ensures text { IsUtf8 (signed_decimal integer) }
+{
+    let mut buffer = Buffer::new();
+    len_of_text(buffer.format(integer))
+}
+
+/// How a column holds its values.
+#[derive(Clone, Copy)]
+pub enum Lent<'a> {
+    /// So many rows have this text.
+    Constant(&'a str, usize),
+    /// Each value is the decimal text of an integer.
+    Integers(&'a IntColumn),
+    /// Some texts, and for each row the place of its text among them.
+    Dictionary(&'a TextColumn, &'a [u8]),
+    /// Any texts.
+    Plain(&'a TextColumn),
 }
 
 /// The values that one field has in the rows, in the first of four kinds that fits.
@@ -94,6 +138,13 @@ impl ValueColumn {
         members_of(alloc, &self.cells)
     }
 
+    /// How the values are held, which is lent.
+    pub fn lent(&self) -> Lent<'_>
+        ensures { lent_texts result ≡ self.now }
+    {
+        lent_of(&self.cells)
+    }
+
     /// The number of the kind.
     pub fn kind(&self) -> u8
         ensures { result ≡ code_of_kind (kind_of self.now) }
@@ -101,41 +152,11 @@ impl ValueColumn {
         kind_of(&self.cells)
     }
 
-    /// Appends the body, which stands behind the kind and the filter.
+    /// Appends the body, which stands after the kind and the filter.
     pub fn put_body(&self, out: &mut Vec<u8>) -> Result<(), AllocError>
         ensures { OnOk result (out.new.items ≡ out.old.items ++ body_of (kind_of self.now) self.now) }
     {
         put_cells(out, &self.cells)
-    }
-
-    /// The one spelling of the column alone: its kind, and its body.
-    #[tactic(auto, unfolding(crate::specs::Body::column_spelling))]
-    pub fn to_bytes(&self, alloc: Global) -> Result<Vec<u8>, AllocError>
-        ensures { IfOk result (λ bytes. bytes.items ≡ column_spelling self.now) }
-    {
-        let mut out = Vec::new(alloc);
-        out.push(self.kind())?;
-        self.put_body(&mut out)?;
-        Ok(out)
-    }
-
-    /// The column of so many rows whose spelling the bytes are: its kind and its body. Bytes that are none are damaged
-    /// at their first item that is not whole or has not its form, at 0 where the values are too long, and else at the
-    /// first item that differs from the spelling of the values.
-    pub fn from_bytes(alloc: Global, bytes: &[u8], rows: usize) -> Result<ValueColumn, ColumnFault>
-        ensures found { IfOk result (λ values. (length values ≡ rows) × (bytes.now ≡ column_spelling values)) }
-        ensures only { (values : List (List ℕ)) → column_writing rows values ≡ Some bytes.now
-            → AnswersAs bytes.now result (Ok values) }
-        ensures damaged { IfErr result (λ fault. IsPlaceOf fault (column rows) (column_writing rows) bytes.now) }
-        ensures exact { AnswersAs bytes.now result (reading (column rows) (column_writing rows) bytes.now) }
-    {
-        match read(alloc, rows, bytes) {
-            Ok(values) => Ok(values),
-            Err(Stop::Memory) => Err(ColumnFault::Memory),
-            Err(Stop::Left(left)) => Err(ColumnFault::Damaged {
-                at: bytes.len() - left,
-            }),
-        }
     }
 }
 
@@ -159,7 +180,7 @@ impl Model for FoundColumn {
 }
 
 impl FoundColumn {
-    /// The body of a column of this kind, and the bytes behind it.
+    /// The body of a column of this kind, and the bytes after it.
     pub fn take_body(
         alloc: Global,
         rows: usize,
@@ -171,6 +192,15 @@ impl FoundColumn {
     {
         let (cells, rest) = take_cells(alloc, rows, kind, bytes)?;
         Ok((FoundColumn { cells }, rest))
+    }
+
+    /// The same values, in the first kind that fits. Where they have it already, they are not looked at one by one.
+    pub fn into_column(self, alloc: Global) -> Result<ValueColumn, AllocError>
+        requires { sum_by length self < 2 ^ 32 }
+        ensures { IfOk result (λ column. column ≡ self) }
+    {
+        let cells = into_first(alloc, self.cells)?;
+        Ok(ValueColumn { cells })
     }
 
     /// The same values, with what is needed to lend their texts.
@@ -185,6 +215,13 @@ impl FoundColumn {
         ensures { result ≡ length self.now }
     {
         len_of(&self.cells)
+    }
+
+    /// Whether the value of each row is this text. Where all values are equal that is seen, if they are held once.
+    pub fn is_filled_with(&self, text: &str) -> bool
+        ensures { IsTrue result → list_all (bytes_eq text.now) self.now ≡ true }
+    {
+        are_all(&self.cells, text)
     }
 
     /// The value of a row.

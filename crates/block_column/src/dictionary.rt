@@ -1,90 +1,93 @@
-//! Dictionaries that were read. They are mostly as they would be made, and then they are copied.
+//! Dictionaries that were read. They are mostly as they would be made.
 
-ghost use Rattle.std.specs.Prelude.{◌≡◌, ◌↔◌, ◌<◌, ◌≤◌, IfOk, IfSome, IsTrue, length, map, nat_eq, nat_lt};
-ghost use Rattle.std.specs.Prelude.{true, ℕ};
+ghost use Rattle.std.specs.Prelude.{◌≡◌, ◌↔◌, ◌-◌, ◌<◌, IfOk, IsTrue, false, length, map, nat_eq, nat_lt, not, true, ℕ};
 ghost use Rattle.std.specs.List.{list_all, list_any};
 ghost use Rattle.std.specs.List.Sorted.{IsStrictlySortedBy};
 ghost use Rattle.std.specs.declared.cmp.Ordering.TheVariants.{Less};
-ghost use Rattle.block_column.specs.Cells.{IsFirst, text_at, texts_of};
-ghost use Rattle.block_column.specs.Kinds.{is_short};
+ghost use Rattle.block_column.specs.Cells.{IsFirst};
+ghost use Rattle.block_column.specs.Kinds.{is_number};
+ghost use Rattle.block_model.specs.Distinct.{is_short, text_at};
 ghost use Rattle.log_model.specs.Field.{bytes_cmp};
 
 use crate::cells::Cells;
-use crate::codes::{MAX_VALUE_LEN, MAX_VALUES};
-use crate::kinds::{are_integers, constant};
+use crate::codes::MAX_VALUES;
+use crate::kept::are_short;
+use crate::kinds::are_integers;
+use crate::members::each_of;
+use col_codec::TextColumn;
 use std::alloc::{AllocError, Global};
-use vl_row::Text;
 
-/// A copy of the dictionary of these texts and codes, if it is the first kind that fits the texts of the rows, and is
-/// as it would be made.
-pub(crate) fn kept_dictionary(
+/// Whether the dictionary of these texts and codes is the first kind that fits the texts of the rows, and is as it
+/// would be made: it has two texts or more, each is above the one before and is used, and one is no number.
+pub(crate) fn is_first_dictionary(
     alloc: Global,
-    held: &[Text],
-    codes: &[u8],
-    texts: &[&str],
-) -> Result<Option<Cells>, AllocError>
-    requires codes { list_all (λ code. nat_lt code (length held.now)) codes.now ≡ true }
-    requires texts { map (λ t. t.now) texts.now ≡ map (text_at held.now) codes.now }
-    ensures texts { IfOk result (λ found. IfSome found (λ made. texts_of made ≡ map (text_at held.now) codes.now)) }
-    ensures first { IfOk result (λ found. IfSome found (λ made. IsFirst made)) }
+    held: &TextColumn,
+    codes: &Vec<u8>,
+) -> Result<bool, AllocError>
+    requires { list_all (λ code. nat_lt code (length held.now)) codes.now.items ≡ true }
+    ensures { IfOk result (λ first. IsTrue first → IsFirst (Cells.Dictionary held.now codes.now)) }
 {
-    let None = constant(texts) else {
-        return Ok(None);
-    };
-    if are_integers(texts) || !are_in_order(held) || !are_all_used(alloc, codes, held.len())? {
-        return Ok(None);
+    if held.len() < 2 || held.len() > MAX_VALUES {
+        return Ok(false);
     }
-    let copies = copies_of(alloc, held)?;
-    let codes = codes.to_vec(alloc)?;
-    Ok(Some(Cells::Dictionary(copies, codes)))
+    let texts = each_of(alloc, held)?;
+    if !are_made(held, texts.as_slice()) {
+        return Ok(false);
+    }
+    let used = are_all_used(alloc, codes.as_slice(), held.len())?;
+    Ok(used)
 }
 
-fn copies_of(alloc: Global, held: &[Text]) -> Result<Vec<Text>, AllocError>
-    ensures { IfOk result (λ copies. copies.items ≡ held.now) }
-{
-    let mut copies = Vec::with_capacity(alloc, held.len())?;
-    for text in held {
-        copies.push(text.try_copy(alloc)?)?;
-    }
-    Ok(copies)
-}
-
-/// Whether a dictionary can hold these texts: they are few, none is long, and each is above the one before.
-fn are_in_order(held: &[Text]) -> bool
-    ensures few { IsTrue result → length held.now ≤ 255 }
-    ensures short { IsTrue result → list_all is_short held.now ≡ true }
+/// Whether each text is above the one before, none is long, and one is no number.
+fn are_made(held: &TextColumn, texts: &[&str]) -> bool
+    requires { map (λ t. t.now) texts.now ≡ held.now }
     ensures rising { IsTrue result → IsStrictlySortedBy bytes_cmp held.now }
+    ensures short { IsTrue result → list_all is_short held.now ≡ true }
+    ensures numbers { IsTrue result → list_all is_number held.now ≡ false }
 {
-    held.len() <= MAX_VALUES && are_short(held) && are_rising(held)
+    are_rising(held) && none_is_long(texts) && have_text(texts)
 }
 
-fn are_short(held: &[Text]) -> bool
-    ensures { result ≡ list_all is_short held.now }
+fn none_is_long(texts: &[&str]) -> bool
+    ensures { result ≡ list_all is_short (map (λ t. t.now) texts.now) }
 {
-    held.iter().all(is_short)
+    are_short(texts)
 }
 
-fn is_short(text: &Text) -> bool
-    ensures { result ≡ is_short text.now }
+/// Whether one is no number.
+fn have_text(texts: &[&str]) -> bool
+    ensures { result ≡ not (list_all is_number (map (λ t. t.now) texts.now)) }
 {
-    text.as_str().len() <= MAX_VALUE_LEN
+    !are_integers(texts)
 }
 
-fn are_rising(held: &[Text]) -> bool
+/// Whether each text is above the one before.
+fn are_rising(held: &TextColumn) -> bool
     ensures { IsTrue result → IsStrictlySortedBy bytes_cmp held.now }
 {
     for i in 1..held.len() {
-        if !is_below(&held[i - 1], &held[i]) {
+        if !is_rising_at(held, i) {
             return false;
         }
     }
     true
 }
 
-fn is_below(text: &Text, other: &Text) -> bool
+/// Whether the text at this place is above the one before.
+fn is_rising_at(held: &TextColumn, i: usize) -> bool
+    requires later { 0 < i }
+    requires within { i < length held.now }
+    ensures { IsTrue result → bytes_cmp (text_at held.now (i - 1)) (text_at held.now i) ≡ Less }
+{
+    let before = held.get(i - 1);
+    let text = held.get(i);
+    is_below(before, text)
+}
+
+fn is_below(text: &str, other: &str) -> bool
     ensures { IsTrue result ↔ (bytes_cmp text.now other.now ≡ Less) }
 {
-    text.as_str().cmp(other.as_str()).is_lt()
+    text.cmp(other).is_lt()
 }
 
 /// Whether each code below the count is there.

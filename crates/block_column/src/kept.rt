@@ -1,101 +1,125 @@
-//! Values that were read, in the first kind that fits. They are mostly held in it already, and then they are copied.
+//! Values that were read, in the first kind that fits. They are mostly held in it already, and then they stay so.
 
-ghost use Rattle.std.specs.Prelude.{◌≡◌, ◌<◌, ◌^◌, IfOk, IfSome, IsTrue, false, length, map, replicate, sum_by, true};
+ghost use Rattle.std.specs.Prelude.{◌≡◌, ◌<◌, ◌^◌, IfOk, IsTrue, false, length, map, replicate, sum_by, true};
 ghost use Rattle.std.specs.Fmt.{signed_decimal};
 ghost use Rattle.std.specs.List.{list_all};
 ghost use Rattle.block_column.specs.Cells.{IsCells, IsFirst, texts_of};
-ghost use Rattle.block_column.specs.Kinds.{fits_dictionary, is_short};
+ghost use Rattle.block_model.specs.Distinct.{is_short};
+ghost use Rattle.block_column.specs.Kinds.{fits_dictionary, is_constant};
 ghost use Rattle.col_codec.specs.Ints.{is_i64};
 
 use crate::cells::Cells;
 use crate::codes::MAX_VALUE_LEN;
-use crate::dictionary::kept_dictionary;
+use crate::dictionary::is_first_dictionary;
 use crate::kinds::{are_integers, constant, first_kind};
 use crate::many::are_many;
+use crate::members::each_of;
+use crate::row_texts::RowTexts;
 use col_codec::{IntColumn, TextColumn};
 use std::alloc::{AllocError, Global};
 use vl_row::Text;
 
-/// The values, whose texts are at hand, in the first kind that fits.
-pub(crate) fn first_kind_of(
-    alloc: Global,
-    cells: &Cells,
-    texts: &[&str],
-) -> Result<Cells, AllocError>
+/// The values in the first kind that fits.
+pub(crate) fn into_first(alloc: Global, cells: Cells) -> Result<Cells, AllocError>
+    requires codes { IsCells cells }
+    requires small { sum_by length (texts_of cells) < 2 ^ 32 }
+    ensures texts { IfOk result (λ made. texts_of made ≡ texts_of cells) }
+    ensures first { IfOk result (λ made. IsFirst made) }
+{
+    if is_first(alloc, &cells)? {
+        return Ok(cells);
+    }
+    first_by_texts(alloc, &cells)
+}
+
+/// The same, made anew of the text of each row.
+fn first_by_texts(alloc: Global, cells: &Cells) -> Result<Cells, AllocError>
     requires codes { IsCells cells.now }
-    requires texts { map (λ t. t.now) texts.now ≡ texts_of cells.now }
-    requires small { sum_by (λ t. length t.now) texts.now < 2 ^ 32 }
+    requires small { sum_by length (texts_of cells.now) < 2 ^ 32 }
     ensures texts { IfOk result (λ made. texts_of made ≡ texts_of cells.now) }
     ensures first { IfOk result (λ made. IsFirst made) }
 {
-    match kept_cells(alloc, cells, texts)? {
-        Some(kept) => Ok(kept),
-        None => first_kind(alloc, texts),
-    }
+    let lent = RowTexts::try_of(alloc, cells)?;
+    let texts = lent.texts(alloc)?;
+    let made = first_kind(alloc, texts.as_slice())?;
+    Ok(made)
 }
 
-/// A copy of the cells, if it is quickly seen that their kind is the first that fits.
-fn kept_cells(alloc: Global, cells: &Cells, texts: &[&str]) -> Result<Option<Cells>, AllocError>
+/// Whether it is quickly seen that the values are held in the first kind that fits.
+fn is_first(alloc: Global, cells: &Cells) -> Result<bool, AllocError>
     requires codes { IsCells cells.now }
-    requires texts { map (λ t. t.now) texts.now ≡ texts_of cells.now }
-    requires small { sum_by (λ t. length t.now) texts.now < 2 ^ 32 }
-    ensures texts { IfOk result (λ found. IfSome found (λ made. texts_of made ≡ texts_of cells.now)) }
-    ensures first { IfOk result (λ found. IfSome found (λ made. IsFirst made)) }
+    requires small { sum_by length (texts_of cells.now) < 2 ^ 32 }
+    ensures { IfOk result (λ first. IsTrue first → IsFirst cells.now) }
 {
     match cells {
-        Cells::Constant(text, rows) => kept_constant(alloc, text, *rows),
-        Cells::Integers(ints) => kept_integers(alloc, ints, texts),
-        Cells::Dictionary(held, codes) => {
-            kept_dictionary(alloc, held.as_slice(), codes.as_slice(), texts)
-        }
-        Cells::Plain(column) => kept_plain(alloc, column, texts),
+        Cells::Constant(text, rows) => Ok(is_first_constant(text, *rows)),
+        Cells::Integers(ints) => Ok(are_first_integers(ints)),
+        Cells::Dictionary(held, codes) => is_first_dictionary(alloc, held, codes),
+        Cells::Plain(texts) => are_first_texts(alloc, texts),
     }
 }
 
-fn kept_constant(alloc: Global, text: &Text, rows: usize) -> Result<Option<Cells>, AllocError>
+fn is_first_constant(text: &Text, rows: usize) -> bool
     requires { sum_by length (replicate rows text.now) < 2 ^ 32 }
-    ensures texts { IfOk result (λ found. IfSome found (λ made. texts_of made ≡ replicate rows text.now)) }
-    ensures first { IfOk result (λ found. IfSome found (λ made. IsFirst made)) }
+    ensures { IsTrue result → IsFirst (Cells.Constant text.now rows) }
 {
-    if rows == 0 || text.as_str().is_empty() {
-        return Ok(None);
+    if rows == 0 {
+        return false;
     }
-    let copy = text.try_copy(alloc)?;
-    Ok(Some(Cells::Constant(copy, rows)))
+    if text.as_str().is_empty() {
+        return false;
+    }
+    true
 }
 
-fn kept_integers(
-    alloc: Global,
-    ints: &IntColumn,
-    texts: &[&str],
-) -> Result<Option<Cells>, AllocError>
+fn are_first_integers(ints: &IntColumn) -> bool
+    requires { list_all is_i64 ints.now ≡ true }
+    ensures { IsTrue result → IsFirst (Cells.Integers ints.now) }
+{
+    differ(ints)
+}
+
+/// Whether an integer is another than the first.
+fn differ(ints: &IntColumn) -> bool
+    requires { list_all is_i64 ints.now ≡ true }
+    ensures { IsTrue result → is_constant (map signed_decimal ints.now) ≡ false }
+{
+    for i in 1..ints.len() {
+        if differ_at(ints, i) {
+            return true;
+        }
+    }
+    false
+}
+
+/// Whether the integer at this place is another than the first.
+fn differ_at(ints: &IntColumn, i: usize) -> bool
     requires fits { list_all is_i64 ints.now ≡ true }
-    requires texts { map (λ t. t.now) texts.now ≡ map signed_decimal ints.now }
-    ensures texts { IfOk result (λ found. IfSome found (λ made. texts_of made ≡ map signed_decimal ints.now)) }
-    ensures first { IfOk result (λ found. IfSome found (λ made. IsFirst made)) }
+    requires later { 0 < i }
+    requires within { i < length ints.now }
+    ensures { IsTrue result → is_constant (map signed_decimal ints.now) ≡ false }
 {
-    let None = constant(texts) else {
-        return Ok(None);
-    };
-    Ok(Some(Cells::Integers(ints.try_copy(alloc)?)))
+    let first = ints.get(0);
+    let other = ints.get(i);
+    if first == other {
+        return false;
+    }
+    true
 }
 
-fn kept_plain(
-    alloc: Global,
-    column: &TextColumn,
-    texts: &[&str],
-) -> Result<Option<Cells>, AllocError>
-    requires { map (λ t. t.now) texts.now ≡ column.now }
-    ensures texts { IfOk result (λ found. IfSome found (λ made. texts_of made ≡ column.now)) }
-    ensures first { IfOk result (λ found. IfSome found (λ made. IsFirst made)) }
+fn are_first_texts(alloc: Global, column: &TextColumn) -> Result<bool, AllocError>
+    ensures { IfOk result (λ first. IsTrue first → IsFirst (Cells.Plain column.now)) }
 {
+    let lent = each_of(alloc, column)?;
+    let texts = lent.as_slice();
     let None = constant(texts) else {
-        return Ok(None);
+        return Ok(false);
     };
-    if are_integers(texts) || !are_too_many(alloc, texts)? {
-        return Ok(None);
+    if are_integers(texts) {
+        return Ok(false);
     }
-    Ok(Some(Cells::Plain(column.try_copy(alloc)?)))
+    let many = are_too_many(alloc, texts)?;
+    Ok(many)
 }
 
 /// Whether it is quickly seen that no dictionary holds the texts: they are too many, or one is too long.
@@ -109,7 +133,7 @@ fn are_too_many(alloc: Global, texts: &[&str]) -> Result<bool, AllocError>
     Ok(many)
 }
 
-fn are_short(texts: &[&str]) -> bool
+pub(crate) fn are_short(texts: &[&str]) -> bool
     ensures { result ≡ list_all (λ t. is_short t.now) texts.now }
 {
     texts.iter().all(|text| text.len() <= MAX_VALUE_LEN)

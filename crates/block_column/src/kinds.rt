@@ -1,15 +1,15 @@
 //! The first kind that fits values.
 
-ghost use Rattle.std.specs.Prelude.{◌≡◌, ◌<◌, ◌^◌, IfNone, IfOk, IfSome, MatchOption, false, length, map, sum_by, true};
+ghost use Rattle.std.specs.Prelude.{◌≡◌, ◌<◌, ◌≤◌, ◌^◌, IfNone, IfOk, IfSome, MatchOption, false, length, map, sum_by, true};
 ghost use Rattle.std.specs.Prelude.{◌&&◌, bytes_eq, not};
 ghost use Rattle.std.specs.List.{list_all};
 ghost use Rattle.log_model.specs.Field.{is_empty};
 ghost use Rattle.block_column.specs.Cells.{IsFirst, texts_of};
 ghost use Rattle.block_column.specs.Kinds.{are_integers, first_of, fits_dictionary, integers_in, is_constant, is_number};
-ghost use Rattle.block_column.specs.Kinds.{distinct};
+ghost use Rattle.block_model.specs.Distinct.{distinct, is_short};
 
 use crate::cells::Cells;
-use crate::codes::{codes_of, distinct_of};
+use crate::codes::{codes_of, distinct_of, lent};
 use col_codec::{IntColumn, TextColumn};
 use std::alloc::{AllocError, Global};
 use vl_row::{Text, number};
@@ -27,10 +27,34 @@ pub(crate) fn first_kind(alloc: Global, values: &[&str]) -> Result<Cells, AllocE
         return Ok(Cells::Integers(IntColumn::try_of(alloc, ints.as_slice())?));
     }
     if let Some(texts) = distinct_of(alloc, values)? {
-        let codes = codes_of(alloc, texts.as_slice(), values)?;
-        return Ok(Cells::Dictionary(texts, codes));
+        return dictionary_of(alloc, texts.as_slice(), values);
     }
     Ok(Cells::Plain(TextColumn::try_of(alloc, values)?))
+}
+
+/// The dictionary of these values, of which the texts are the distinct ones.
+fn dictionary_of(alloc: Global, texts: &[Text], values: &[&str]) -> Result<Cells, AllocError>
+    requires one { is_constant (map (λ t. t.now) values.now) ≡ false }
+    requires none { are_integers (map (λ t. t.now) values.now) ≡ false }
+    requires fits { fits_dictionary (map (λ t. t.now) values.now) ≡ true }
+    requires texts { texts.now ≡ distinct (map (λ t. t.now) values.now) }
+    ensures texts { IfOk result (λ cells. texts_of cells ≡ map (λ t. t.now) values.now) }
+    ensures first { IfOk result (λ cells. IsFirst cells) }
+{
+    let codes = codes_of(alloc, texts, values)?;
+    let held = held_texts(alloc, texts)?;
+    Ok(Cells::Dictionary(held, codes))
+}
+
+/// The texts of a dictionary as a column.
+fn held_texts(alloc: Global, texts: &[Text]) -> Result<TextColumn, AllocError>
+    requires few { length texts.now ≤ 255 }
+    requires short { list_all is_short texts.now ≡ true }
+    ensures { IfOk result (λ held. held ≡ texts.now) }
+{
+    let listed = lent(alloc, texts)?;
+    let held = TextColumn::try_of(alloc, listed.as_slice())?;
+    Ok(held)
 }
 
 /// The value that all rows have, unless it is empty.

@@ -1,5 +1,5 @@
 //! One column of a block: the values that one field has in the rows, in the first of four kinds that fits, and the
-//! column as bytes.
+//! body of the column as bytes.
 #![tactic(auto)]
 
 mod cells;
@@ -12,13 +12,10 @@ mod lengths;
 mod many;
 mod members;
 mod put;
-mod read;
-mod recent;
 mod row_texts;
 mod take;
 
-pub use column::{FoundColumn, Value, ValueColumn};
+pub use column::{FoundColumn, Lent, Value, ValueColumn};
 pub use lengths::Lengths;
-pub use recent::Recent;
 pub use row_texts::RowTexts;
 pub use take::take_kind;

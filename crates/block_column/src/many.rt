@@ -1,14 +1,14 @@
 //! Values of which it is quickly seen that they are too many for a dictionary.
 
 ghost use Rattle.std.specs.Prelude.{◌≡◌, ◌<◌, IfOk, IsTrue, length, map, not, slice_set, true};
-ghost use Rattle.block_column.specs.Kinds.{distinct};
-ghost use Rattle.block_column.specs.Tags.{has_slot, slot_of};
+ghost use Rattle.block_model.specs.Distinct.{distinct};
+ghost use Rattle.block_model.specs.Tags.{has_slot, slot_of};
 
 use crate::codes::MAX_VALUES;
-use crate::recent::{SLOTS, slot_of};
+use block_model::{SLOTS, slot_of};
 use std::alloc::{AllocError, Global};
 
-/// It is asked of the first so many values alone.
+/// Only the first values are tested, up to this number.
 const ASKED: usize = 1_024;
 
 /// Whether more values than a dictionary has are seen to differ, as those do that have slots apart.

@@ -2,11 +2,12 @@
 
 ghost use Rattle.std.specs.Prelude.{◌≡◌, ◌<◌, ◌^◌, ◌∷◌, [], IfOk, IfSome, is_some, length, map, sum_by};
 ghost use Rattle.block_column.specs.Cells.{IsEach, IsNarrow, kind_in, texts_of};
-ghost use Rattle.block_column.specs.Kinds.{distinct, is_held_once};
+ghost use Rattle.block_model.specs.Distinct.{distinct};
+ghost use Rattle.block_column.specs.Kinds.{is_held_once};
 
 use crate::cells::Cells;
+use col_codec::TextColumn;
 use std::alloc::{AllocError, Global};
-use vl_row::Text;
 
 /// The distinct values, each once, if equal values are held once, and else none.
 pub(crate) fn members_of(alloc: Global, cells: &Cells) -> Result<Option<Vec<&str>>, AllocError>
@@ -23,7 +24,7 @@ pub(crate) fn members_of(alloc: Global, cells: &Cells) -> Result<Option<Vec<&str
             Ok(Some(alone))
         }
         Cells::Dictionary(texts, _) => {
-            let listed = lent(alloc, texts.as_slice())?;
+            let listed = each_of(alloc, texts)?;
             Ok(Some(listed))
         }
         _ => Ok(None),
@@ -38,12 +39,13 @@ fn one(alloc: Global, text: &str) -> Result<Vec<&str>, AllocError>
     Ok(texts)
 }
 
-pub(crate) fn lent(alloc: Global, texts: &[Text]) -> Result<Vec<&str>, AllocError>
+/// The texts of a column.
+pub(crate) fn each_of(alloc: Global, texts: &TextColumn) -> Result<Vec<&str>, AllocError>
     ensures { IfOk result (λ lent. map (λ t. t.now) lent.items ≡ texts.now) }
 {
     let mut lent = Vec::with_capacity(alloc, texts.len())?;
-    for text in texts {
-        lent.push(text.as_str())?;
+    for i in 0..texts.len() {
+        lent.push(texts.get(i))?;
     }
     Ok(lent)
 }

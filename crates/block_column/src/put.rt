@@ -5,12 +5,13 @@ ghost use Rattle.std.specs.Int.{w16};
 ghost use Rattle.std.specs.List.{flat_map, list_all};
 ghost use Rattle.byte_format.specs.Written.{text_bytes};
 ghost use Rattle.block_column.specs.Cells.{IsNarrow, body_in};
-ghost use Rattle.block_column.specs.Kinds.{dictionary_bytes, is_short};
+ghost use Rattle.block_model.specs.Distinct.{is_short};
+ghost use Rattle.block_column.specs.Kinds.{dictionary_bytes};
 
 use crate::cells::Cells;
 use byte_format::{put_text16, put_text32};
+use col_codec::TextColumn;
 use std::alloc::AllocError;
-use vl_row::Text;
 
 /// Appends the body of a column that is held so.
 pub(crate) fn put_cells(out: &mut Vec<u8>, cells: &Cells) -> Result<(), AllocError>
@@ -20,13 +21,13 @@ pub(crate) fn put_cells(out: &mut Vec<u8>, cells: &Cells) -> Result<(), AllocErr
     match cells {
         Cells::Constant(text, _) => put_text32(out, text.as_str())?,
         Cells::Integers(ints) => ints.put(out)?,
-        Cells::Dictionary(texts, codes) => put_dictionary(out, texts.as_slice(), codes.as_slice())?,
+        Cells::Dictionary(texts, codes) => put_dictionary(out, texts, codes.as_slice())?,
         Cells::Plain(texts) => texts.put(out)?,
     }
     Ok(())
 }
 
-fn put_dictionary(out: &mut Vec<u8>, texts: &[Text], codes: &[u8]) -> Result<(), AllocError>
+fn put_dictionary(out: &mut Vec<u8>, texts: &TextColumn, codes: &[u8]) -> Result<(), AllocError>
     requires few { length texts.now ≤ 255 }
     requires short { list_all is_short texts.now ≡ true }
     ensures { OnOk result (out.new.items ≡ out.old.items ++ dictionary_bytes texts.now codes.now) }
@@ -37,12 +38,12 @@ fn put_dictionary(out: &mut Vec<u8>, texts: &[Text], codes: &[u8]) -> Result<(),
     Ok(())
 }
 
-fn put_texts(out: &mut Vec<u8>, texts: &[Text]) -> Result<(), AllocError>
+fn put_texts(out: &mut Vec<u8>, texts: &TextColumn) -> Result<(), AllocError>
     requires { list_all is_short texts.now ≡ true }
     ensures { OnOk result (out.new.items ≡ out.old.items ++ flat_map (text_bytes w16) texts.now) }
 {
-    for text in texts {
-        put_short(out, text.as_str())?;
+    for i in 0..texts.len() {
+        put_short(out, texts.get(i))?;
     }
     Ok(())
 }

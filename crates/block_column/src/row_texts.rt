@@ -4,14 +4,16 @@ ghost use Rattle.std.specs.Prelude.{◌≡◌, IfNone, IfOk, IfSome, false, leng
 ghost use Rattle.std.specs.Fmt.{signed_decimal};
 ghost use Rattle.std.specs.List.{list_all};
 ghost use Rattle.std.specs.Str.{is_utf8};
-ghost use Rattle.block_column.specs.Cells.{IsCells, decimals_in, text_at, texts_of};
+ghost use Rattle.block_model.specs.Distinct.{text_at};
+ghost use Rattle.block_column.specs.Cells.{IsCells, decimals_in, texts_of};
 ghost use Rattle.block_column.specs.Lengths.{HasLengths, are_within};
 
 use crate::cells::{Cells, coded};
+use crate::codes::lent;
 use crate::column::ValueColumn;
-use crate::kept::first_kind_of;
+use crate::kinds::first_kind;
 use crate::lengths::{Lengths, lengths_of};
-use crate::members::lent;
+use crate::members::each_of;
 use col_codec::{IntColumn, TextColumn};
 use itoa::Buffer;
 use std::alloc::{AllocError, Global};
@@ -71,7 +73,7 @@ impl<'a> RowTexts<'a> {
         let Some(lengths) = lengths_of(texts.as_slice(), most) else {
             return Ok(None);
         };
-        let cells = first_kind_of(alloc, self.cells, texts.as_slice())?;
+        let cells = first_kind(alloc, texts.as_slice())?;
         Ok(Some((ValueColumn::of(cells), lengths)))
     }
 }
@@ -96,7 +98,7 @@ fn texts_of<'a>(
             Ok(spelled)
         }
         Cells::Dictionary(texts, codes) => {
-            let listed = coded_texts(alloc, texts.as_slice(), codes.as_slice())?;
+            let listed = coded_texts(alloc, texts, codes.as_slice())?;
             Ok(listed)
         }
         Cells::Plain(texts) => {
@@ -116,7 +118,7 @@ fn repeated(alloc: Global, text: &str, rows: usize) -> Result<Vec<&str>, AllocEr
 /// The texts that codes stand for.
 fn coded_texts<'a>(
     alloc: Global,
-    texts: &'a [Text],
+    texts: &'a TextColumn,
     codes: &[u8],
 ) -> Result<Vec<&'a str>, AllocError>
     requires { list_all (λ code. nat_lt code (length texts.now)) codes.now ≡ true }
@@ -148,14 +150,4 @@ fn decimal_texts(alloc: Global, ints: &IntColumn) -> Result<Vec<Text>, AllocErro
         texts.push(Text::try_of(alloc, buffer.format(ints.get(i)))?)?;
     }
     Ok(texts)
-}
-
-fn each_of(alloc: Global, texts: &TextColumn) -> Result<Vec<&str>, AllocError>
-    ensures { IfOk result (λ lent. map (λ t. t.now) lent.items ≡ texts.now) }
-{
-    let mut lent = Vec::with_capacity(alloc, texts.len())?;
-    for i in 0..texts.len() {
-        lent.push(texts.get(i))?;
-    }
-    Ok(lent)
 }

@@ -1,6 +1,6 @@
 //! Reading the body of a column.
 
-ghost use Rattle.std.specs.Prelude.{◌≡◌, IfOk, true, nat_lt, length};
+ghost use Rattle.std.specs.Prelude.{◌≡◌, ◌<◌, ◌^◌, IfOk, true, nat_lt, length, map, sum_by};
 ghost use Rattle.std.specs.Int.{w8, w16};
 ghost use Rattle.std.specs.List.{list_all};
 ghost use Rattle.byte_format.specs.Format.{front, many};
@@ -28,7 +28,7 @@ pub fn take_kind(bytes: &[u8]) -> Result<(u8, &[u8]), Stop>
     Ok((kind, rest))
 }
 
-/// The body of a column of this kind, and the bytes behind it.
+/// The body of a column of this kind, and the bytes after it.
 pub(crate) fn take_cells(
     alloc: Global,
     rows: usize,
@@ -94,19 +94,40 @@ fn take_steps(alloc: Global, rows: usize, bytes: &[u8]) -> Result<(Cells, &[u8])
     Ok((Cells::Dictionary(held, codes), rest))
 }
 
-/// So many texts, each behind its length.
-fn take_held(alloc: Global, count: u8, bytes: &[u8]) -> Result<(Vec<Text>, &[u8]), Stop>
-    ensures value { Gives (λ x. (x.0.items, x.1.now)) result (front (many count (text w16)) bytes.now) }
-    ensures count { IfOk result (λ x. length x.0.items ≡ count) }
+/// This many texts, each after its length.
+fn take_held(alloc: Global, count: u8, bytes: &[u8]) -> Result<(TextColumn, &[u8]), Stop>
+    ensures value { Gives (λ x. (x.0, x.1.now)) result (front (many count (text w16)) bytes.now) }
+    ensures count { IfOk result (λ x. length x.0 ≡ count) }
 {
-    let mut texts = Vec::new(alloc);
+    let (texts, rest) = take_lent(alloc, count, bytes)?;
+    let held = TextColumn::try_of(alloc, texts.as_slice())?;
+    Ok((held, rest))
+}
+
+/// The same, lent from the bytes.
+fn take_lent(alloc: Global, count: u8, bytes: &[u8]) -> Result<(Vec<&str>, &[u8]), Stop>
+    ensures value { Gives (λ x. (map (λ t. t.now) x.0.items, x.1.now)) result
+        (front (many count (text w16)) bytes.now) }
+    ensures count { IfOk result (λ x. length x.0.items ≡ count) }
+    ensures small { IfOk result (λ x. sum_by (λ t. length t.now) x.0.items < 2 ^ 32) }
+{
+    let mut texts = Vec::with_capacity(alloc, count as usize)?;
     let mut rest = bytes;
     for _ in 0..count {
-        let (text, after) = take_text16(rest)?;
-        texts.push(Text::try_of(alloc, text)?)?;
+        let (text, after) = take_short(rest)?;
+        texts.push(text)?;
         rest = after;
     }
     Ok((texts, rest))
+}
+
+/// A text after its length in two bytes.
+fn take_short(bytes: &[u8]) -> Result<(&str, &[u8]), Stop>
+    ensures value { Gives (λ x. (x.0.now, x.1.now)) result (front (text w16) bytes.now) }
+    ensures short { IfOk result (λ x. length x.0.now < 65_536) }
+{
+    let (text, rest) = take_text16(bytes)?;
+    Ok((text, rest))
 }
 
 /// A code below the count.
@@ -121,8 +142,35 @@ fn take_code(count: u8, bytes: &[u8]) -> Result<(u8, &[u8]), Stop>
     Ok((code, rest))
 }
 
-/// So many codes below the count. Memory is taken for those alone that the bytes hold.
+/// This many codes below the count. They are read one by one only if they are not all there, or one is too high.
 fn take_codes(alloc: Global, rows: usize, count: u8, bytes: &[u8]) -> Result<(Vec<u8>, &[u8]), Stop>
+    ensures value { Gives (λ x. (x.0.items, x.1.now)) result (front (many rows (code_below count)) bytes.now) }
+    ensures below { IfOk result (λ x. list_all (λ code. nat_lt code count) x.0.items ≡ true) }
+    ensures count { IfOk result (λ x. length x.0.items ≡ rows) }
+{
+    if bytes.len() < rows {
+        return take_each_code(alloc, rows, count, bytes);
+    }
+    let (codes, rest) = bytes.split_at(rows);
+    if !are_below(codes, count) {
+        return take_each_code(alloc, rows, count, bytes);
+    }
+    Ok((codes.to_vec(alloc)?, rest))
+}
+
+fn are_below(codes: &[u8], count: u8) -> bool
+    ensures { result ≡ list_all (λ code. nat_lt code count) codes.now }
+{
+    codes.iter().all(|code| *code < count)
+}
+
+/// The same, one by one. Reserves memory only for those that the bytes can hold.
+fn take_each_code(
+    alloc: Global,
+    rows: usize,
+    count: u8,
+    bytes: &[u8],
+) -> Result<(Vec<u8>, &[u8]), Stop>
     ensures value { Gives (λ x. (x.0.items, x.1.now)) result (front (many rows (code_below count)) bytes.now) }
     ensures below { IfOk result (λ x. list_all (λ code. nat_lt code count) x.0.items ≡ true) }
     ensures count { IfOk result (λ x. length x.0.items ≡ rows) }

@@ -1,8 +1,9 @@
 //! What the parts of columns answer, and what bytes of any kind say.
 ghost use Rattle.std.specs.Prelude.{◌<◌, ◌^◌, length, sum_by};
 
+use crate::column_tests::push_column;
 use crate::hex_tests::{bytes_of, push_digits};
-use block_column::{FoundColumn, Lengths, Recent, Value, ValueColumn, take_kind};
+use block_column::{FoundColumn, Lengths, Value, ValueColumn, take_kind};
 use byte_format::Stop;
 use std::alloc::{AllocError, Global};
 use std::fmt::Write;
@@ -38,10 +39,10 @@ pub fn found_text(alloc: Global, rows: usize, rest: &str) -> Result<String, Allo
         Ok((found, left)) => {
             let mut answer = format!(in alloc; "{left} left")?;
             push_found(&mut answer, &found);
-            push_column(alloc, &mut answer, &found, most)?;
+            push_made(alloc, &mut answer, &found, most)?;
             Ok(answer)
         }
-        Err(Stop::Left(left)) => format!(in alloc; "damaged {left} ahead of the end"),
+        Err(Stop::Left(left)) => format!(in alloc; "damaged {left} before the end"),
         Err(Stop::Memory) => format!(in alloc; "no memory"),
     }
 }
@@ -61,7 +62,7 @@ fn push_found(answer: &mut String, found: &FoundColumn) {
     }
 }
 
-fn push_column(
+fn push_made(
     alloc: Global,
     answer: &mut String,
     found: &FoundColumn,
@@ -70,9 +71,8 @@ fn push_column(
     let lent = found.row_texts(alloc)?;
     match lent.to_column(alloc, most)? {
         Some((column, lengths)) => {
-            let bytes = column.to_bytes(alloc)?;
             answer.push(' ')?;
-            push_digits(answer, bytes.as_slice())?;
+            push_column(alloc, answer, &column)?;
             push_lengths(answer, lengths);
         }
         None => answer.push_str(" too long")?,
@@ -86,15 +86,4 @@ fn push_lengths(answer: &mut String, lengths: Lengths) {
         " {} {} {}",
         lengths.longest, lengths.some, lengths.all
     );
-}
-
-/// Of each text whether it was new to its slot. In the beginning the first is in each.
-pub fn recent_text(alloc: Global, list: &str) -> Result<String, AllocError> {
-    let (first, _) = list.split_once(',').unwrap_or((list, ""));
-    let mut recent = Recent::new(alloc, first)?;
-    let mut answer = String::new(alloc);
-    for text in list.split(',') {
-        let _ = write!(answer, " {text}:{}", recent.insert(text));
-    }
-    Ok(answer)
 }

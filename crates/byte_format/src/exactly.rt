@@ -15,7 +15,7 @@ use std::alloc::Global;
 /// Reads the value that these bytes spell.
 ///
 /// Bytes that spell no value are damaged at their first item that is incomplete or malformed. If all items are good,
-/// they are damaged at the first that differs from the spelling of the value, or at 0 if the items are no value.
+/// they are damaged at the first that differs from the spelling of the value, or at 0 if the items have no value.
 pub fn read_exactly<S: Spelled>(
     alloc: Global,
     context: S::Context,

@@ -6,6 +6,6 @@ pub enum Fault {
         /// Where the first damaged item starts.
         at: usize,
     },
-    /// There is no memory for the value.
+    /// Out of memory.
     Memory,
 }

@@ -3,16 +3,16 @@
 ghost use Rattle.std.specs.Prelude.{◌≡◌, ◌↔◌, ◌+◌, ◌<◌, ◌^◌, ◌++◌, ◌∷◌, ℕ, [], IfOk, IfErr, IsTrue, IsUtf8};
 ghost use Rattle.std.specs.Prelude.{List, Ok, OnOk};
 ghost use Rattle.std.specs.Prelude.{Some, length, map, slice_get, sum_by};
-ghost use Rattle.byte_format.specs.Format.{front, whole};
+ghost use Rattle.byte_format.specs.Format.{front};
 ghost use Rattle.byte_format.specs.Spelling.{reading};
 ghost use Rattle.byte_format.specs.Gives.{Gives};
 ghost use Rattle.col_codec.specs.Answers.{AnswersAs, IsPlaceOf};
 ghost use Rattle.col_codec.specs.Split.{IsSplit, start_in};
 ghost use Rattle.col_codec.specs.Texts.{parts, text_spelling, text_writing, texts, total};
 
-use crate::fault::ColumnFault;
+use crate::fault::{ColumnFault, fault_of};
 use crate::text_read::take_texts;
-use byte_format::{Stop, first_difference, put_u32s};
+use byte_format::{Spelled, Stop, put_u32s, read_exactly};
 use std::alloc::{AllocError, Global};
 use std::marker::Model;
 
@@ -52,7 +52,7 @@ impl TextColumn {
     }
 
     /// How many texts there are.
-    #[tactic(auto, using(crate::proofs::SplitLaws::parts_length))]
+    #[tactic(auto, using(crate::specs::SplitLaws::parts_length))]
     pub fn len(&self) -> usize
         ensures { result ≡ length self.now }
     {
@@ -67,7 +67,7 @@ impl TextColumn {
     }
 
     /// The text at this place, counted from 0.
-    #[tactic(auto, using(crate::proofs::SplitLaws::parts_length))]
+    #[tactic(auto, using(crate::specs::SplitLaws::parts_length))]
     pub fn get(&self, i: usize) -> &str
         requires { i < length self.now }
         ensures value { slice_get self.now i ≡ Some result.now }
@@ -101,7 +101,7 @@ impl TextColumn {
         put_texts(out, self.bytes.as_slice(), self.ends.as_slice())
     }
 
-    /// The column at the front of the bytes that has so many texts, and the bytes behind it.
+    /// The column at the front of the bytes that has this many texts, and the bytes after it.
     pub fn take(alloc: Global, rows: usize, bytes: &[u8]) -> Result<(TextColumn, &[u8]), Stop>
         ensures value { Gives (λ x. (x.0, x.1.now)) result (front (texts rows) bytes.now) }
         ensures written { IfOk result (λ x. text_writing rows x.0 ≡ Some (text_spelling x.0)) }
@@ -110,7 +110,7 @@ impl TextColumn {
         Ok((TextColumn { bytes, ends }, rest))
     }
 
-    /// The column of so many texts whose spelling the bytes are. Bytes that are none are damaged at their first item
+    /// The column of this many texts whose spelling the bytes are. Bytes that are none are damaged at their first item
     /// that is not whole or has not its form.
     pub fn from_bytes(alloc: Global, bytes: &[u8], rows: usize) -> Result<TextColumn, ColumnFault>
         ensures found { IfOk result (λ column. (length column ≡ rows) × (bytes.now ≡ text_spelling column)) }
@@ -119,14 +119,50 @@ impl TextColumn {
         ensures damaged { IfErr result (λ fault. IsPlaceOf fault (texts rows) (text_writing rows) bytes.now) }
         ensures exact { AnswersAs bytes.now result (reading (texts rows) (text_writing rows) bytes.now) }
     {
-        match read(alloc, rows, bytes) {
+        match read_exactly::<TextColumn>(alloc, rows, bytes) {
             Ok(column) => Ok(column),
-            Err(Stop::Memory) => Err(ColumnFault::Memory),
-            Err(Stop::Left(left)) => Err(ColumnFault::Damaged {
-                at: bytes.len() - left,
-            }),
+            Err(fault) => Err(fault_of(fault)),
         }
     }
+}
+
+impl Spelled for TextColumn {
+    ghost use Rattle.std.specs.Prelude.{◌≡◌, List, Some, ℕ};
+    ghost use Rattle.col_codec.specs.TextLaws.{is_read_again};
+    ghost use Rattle.col_codec.specs.Texts.{text_spelling, text_writing, texts};
+
+    /// The number of rows.
+    type Context = usize;
+
+    type Output = TextColumn;
+
+    ghost Meaning = { List (List ℕ) };
+
+    ghost format = { texts };
+
+    ghost writing = { text_writing };
+
+    ghost meant = { λ column. column };
+
+    ghost meaning = { λ column. column };
+
+    ghost was_read = { λ rows column. text_writing rows column ≡ Some (text_spelling column) };
+
+    fn take(alloc: Global, rows: usize, bytes: &[u8]) -> Result<(TextColumn, &[u8]), Stop> {
+        let (column, rest) = TextColumn::take(alloc, rows, bytes)?;
+        Ok((column, rest))
+    }
+
+    fn make(self, _alloc: Global, _rows: usize) -> Result<Option<TextColumn>, AllocError> {
+        Ok(Some(self))
+    }
+
+    fn put(column: &TextColumn, _rows: usize, out: &mut Vec<u8>) -> Result<(), AllocError> {
+        column.put(out)?;
+        Ok(())
+    }
+
+    ghost again = { is_read_again };
 }
 
 /// How many bytes the texts have together.
@@ -182,45 +218,4 @@ fn push_text(bytes: &mut Vec<u8>, ends: &mut Vec<u32>, t: &str) -> Result<(), Al
     bytes.extend_from_slice(t.as_bytes())?;
     ends.push(bytes.len() as u32)?;
     Ok(())
-}
-
-fn read(alloc: Global, rows: usize, bytes: &[u8]) -> Result<TextColumn, Stop>
-    ensures { Gives (λ column. column) result (reading (texts rows) (text_writing rows) bytes.now) }
-{
-    let column = take_whole(alloc, rows, bytes)?;
-    let mut spelling = Vec::with_capacity(alloc, bytes.len())?;
-    column.put(&mut spelling)?;
-    compared(alloc, rows, bytes, column, spelling.as_slice())
-}
-
-fn take_whole(alloc: Global, rows: usize, bytes: &[u8]) -> Result<TextColumn, Stop>
-    ensures value { Gives (λ column. column) result (whole (texts rows) bytes.now) }
-    ensures written { IfOk result (λ column. text_writing rows column ≡ Some (text_spelling column)) }
-{
-    let (column, rest) = TextColumn::take(alloc, rows, bytes)?;
-    if !rest.is_empty() {
-        return Err(Stop::Left(rest.len()));
-    }
-    Ok(column)
-}
-
-fn compared(
-    alloc: Global,
-    rows: usize,
-    bytes: &[u8],
-    column: TextColumn,
-    spelling: &[u8],
-) -> Result<TextColumn, Stop>
-    requires whole { whole (texts rows) bytes.now ≡ Ok column }
-    requires written { text_writing rows column ≡ Some spelling.now }
-    ensures { Gives (λ column. column) result (reading (texts rows) (text_writing rows) bytes.now) }
-{
-    match first_difference(bytes, spelling) {
-        None => Ok(column),
-        Some(d) => match take_whole(alloc, rows, &bytes[..d]) {
-            Ok(_) => unreachable!(),
-            Err(Stop::Memory) => Err(Stop::Memory),
-            Err(Stop::Left(left)) => Err(Stop::Left(left + (bytes.len() - d))),
-        },
-    }
 }

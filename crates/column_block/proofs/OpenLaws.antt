@@ -8,17 +8,17 @@ use Rattle.std.proofs.lemmas.Option.{slice_get-get_or}
 use Rattle.byte_format.proofs.Cases.{some_is}
 use Rattle.log_model.specs.Field.{Field, field_value, set_all, set_field}
 use Rattle.log_model.specs.History.{Numbered}
-use Rattle.row_columns.specs.Columns.{names_of, row_of, values_of}
-use Rattle.row_columns.specs.Keys.{IsNumbered, key_of, keys_of}
-use Rattle.row_columns.specs.declared.keys.Key.{Key}
-use Rattle.row_columns.proofs.FieldLaws.{AreListed, set-again, value_named}
-use Rattle.row_columns.proofs.NameLaws.{are-named, names-rising}
-use Rattle.row_columns.proofs.RowLaws.{none-below}
-use Rattle.column_block.specs.Held.{IsHeld}
-use Rattle.column_block.specs.Outline.{NamedFilter, Outline}
-use Rattle.column_block.specs.Outlines.{filter_named, labels_of}
-use Rattle.column_block.specs.Rows.{key_in}
-use Rattle.column_block.proofs.HeldLaws.{get-map}
+use Rattle.block_model.specs.Columns.{names_of, row_of, values_of}
+use Rattle.block_model.specs.Keys.{IsNumbered, key_of, keys_of}
+use Rattle.block_model.specs.declared.keys.Key.{Key}
+use Rattle.block_model.proofs.FieldLaws.{AreListed, set-again, value_named}
+use Rattle.block_model.proofs.NameLaws.{are-named, names-rising}
+use Rattle.block_model.proofs.RowLaws.{none-below}
+use Rattle.block_body.specs.Outline.{NamedFilter, Outline}
+use Rattle.block_format.specs.Rows.{labels_of}
+use Rattle.block_body.specs.Outlines.{filter_named, outline_of}
+use Rattle.block_format.specs.Rows.{key_in}
+use Rattle.block_body.proofs.HeldLaws.{get-map}
 
 -- ---- elements
 
@@ -49,33 +49,24 @@ at-some (Some y) P x h e = subst P (some_is y x e) h
 
 -- ---- keys
 
-key-of-row : (rows : List Numbered) (i : ℕ) (k : Key) (n : Numbered) → slice_get rows i ≡ Some n
-    → k ≡ get_or (keys_of rows) i k → k ≡ key_of n
-key-of-row [] i k n e f = absurd cc
-key-of-row (m ∷ ms) zero k n e f = f ∙ ap key_of (some_is m n e)
-key-of-row (m ∷ ms) (suc i) k n e f = key-of-row ms i k n e f
+pub key-is : (rows : List Numbered) (i : ℕ) (k : Key) (n : Numbered) → slice_get rows i ≡ Some n
+    → slice_get (keys_of rows) i ≡ Some k → k ≡ key_of n
+key-is rows i k n e f = some_is k (key_of n) (sym f ∙ found-map key_of rows i n e)
 
-pub key-is : (rows : List Numbered) (head : Outline) (keys : List Key) (columns : List (List (List ℕ))) (i : ℕ)
-    (k : Key) (n : Numbered) → IsHeld rows head keys columns → slice_get rows i ≡ Some n → k ≡ get_or keys i k
-    → k ≡ key_of n
-key-is rows head keys columns i k n h e f =
-    key-of-row rows i k n e (f ∙ ap (λ (l : List Key). get_or l i k) h.keys_are)
-
-pub key-at : (rows : List Numbered) (head : Outline) (keys : List Key) (columns : List (List (List ℕ))) (i : ℕ)
-    (k : Key) → IsHeld rows head keys columns → i < length rows → k ≡ get_or keys i k
+pub key-at : (rows : List Numbered) (i : ℕ) (k : Key) → i < length rows → slice_get (keys_of rows) i ≡ Some k
     → slice_get (map key_in rows) i ≡ Some (k.time, k.batch, k.place)
-key-at rows head keys columns i k h lt f =
+key-at rows i k lt f =
     let n = found rows i lt in
     found-map key_in rows i n.0 n.1
-    ∙ ap (λ (x : Key). Some (x.time, x.batch, x.place)) (sym (key-is rows head keys columns i k n.0 h n.1 f))
+    ∙ ap (λ (x : Key). Some (x.time, x.batch, x.place)) (sym (key-is rows i k n.0 n.1 f))
 
 -- ---- values
 
-pub values-at : (rows : List Numbered) (head : Outline) (keys : List Key) (columns : List (List (List ℕ))) (c : ℕ)
-    (v : List (List ℕ)) → IsHeld rows head keys columns → c < length (names_of rows) → v ≡ get_or columns c v
+pub values-at : (rows : List Numbered) (columns : List (List (List ℕ))) (c : ℕ) (v : List (List ℕ))
+    → columns ≡ map (values_of rows) (names_of rows) → c < length (names_of rows) → v ≡ get_or columns c v
     → v ≡ values_of rows (get_or (names_of rows) c [])
-values-at rows head keys columns c v h lt e =
-    e ∙ ap (λ (l : List (List (List ℕ))). get_or l c v) h.columns_are
+values-at rows columns c v h lt e =
+    e ∙ ap (λ (l : List (List (List ℕ))). get_or l c v) h
     ∙ get-map (values_of rows) (names_of rows) c [] v lt
 
 names-again : (rows : List Numbered) (names : List (List ℕ))
@@ -83,18 +74,16 @@ names-again : (rows : List Numbered) (names : List (List ℕ))
 names-again rows [] = refl
 names-again rows (name ∷ names) = ap (λ (l : List (List ℕ)). name ∷ l) (names-again rows names)
 
-pub column-count : (rows : List Numbered) (head : Outline) (keys : List Key) (columns : List (List (List ℕ)))
-    → IsHeld rows head keys columns → length head.columns ≡ length (names_of rows)
-column-count rows head keys columns h =
-    ap (λ (o : Outline). length o.columns) h.head_is ∙ length-map (names_of rows) (filter_named rows)
+pub column-count : (rows : List Numbered) (head : Outline) → head ≡ outline_of rows
+    → length head.columns ≡ length (names_of rows)
+column-count rows head h = ap (λ (o : Outline). length o.columns) h ∙ length-map (names_of rows) (filter_named rows)
 
-pub name-at : (rows : List Numbered) (head : Outline) (keys : List Key) (columns : List (List (List ℕ))) (c : ℕ)
-    (name : List ℕ) → IsHeld rows head keys columns → c < length (names_of rows)
-    → slice_get (map (λ (column : NamedFilter). column.0) head.columns) c ≡ Some name
+pub name-at : (rows : List Numbered) (head : Outline) (c : ℕ) (name : List ℕ) → head ≡ outline_of rows
+    → c < length (names_of rows) → slice_get (map (λ (column : NamedFilter). column.0) head.columns) c ≡ Some name
     → name ≡ get_or (names_of rows) c []
-name-at rows head keys columns c name h lt e =
+name-at rows head c name h lt e =
     let all : map (λ (column : NamedFilter). column.0) head.columns ≡ names_of rows =
-    ap (λ (o : Outline). map (λ (column : NamedFilter). column.0) o.columns) h.head_is
+    ap (λ (o : Outline). map (λ (column : NamedFilter). column.0) o.columns) h
     ∙ names-again rows (names_of rows) in
     some_is name (get_or (names_of rows) c []) (sym e ∙ ap (λ (l : List (List ℕ)). slice_get l c) all
     ∙ slice_get-get_or (names_of rows) c [] lt)
@@ -126,8 +115,9 @@ pub row-is : (labels : List Field) (key : Key) (fields : List Field) (n : Number
 row-is labels key fields n l k f = rw (l, k, f) refl
 
 -- the labels of each row are those of the stream
-pub labels-at : (rows : List Numbered) (head : Outline) (keys : List Key) (columns : List (List (List ℕ))) (i : ℕ)
-    (n : Numbered) → IsHeld rows head keys columns → slice_get rows i ≡ Some n → head.labels ≡ n.row.labels
-labels-at rows head keys columns i n h e =
-    ap (λ (o : Outline). o.labels) h.head_is
-    ∙ sym (all-at (λ (m : Numbered). m.row.labels ≡ labels_of rows) rows i n h.block.stream e)
+pub labels-at : (rows : List Numbered) (head : Outline) (i : ℕ) (n : Numbered) → head ≡ outline_of rows
+    → AllByRecursion (λ (m : Numbered). m.row.labels ≡ labels_of rows) rows → slice_get rows i ≡ Some n
+    → head.labels ≡ n.row.labels
+labels-at rows head i n h stream e =
+    ap (λ (o : Outline). o.labels) h
+    ∙ sym (all-at (λ (m : Numbered). m.row.labels ≡ labels_of rows) rows i n stream e)

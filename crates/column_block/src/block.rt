@@ -1,51 +1,43 @@
 //! Blocks.
 
-ghost use Rattle.std.specs.Prelude.{◌≡◌, ◌+◌, ◌-◌, ◌^◌, IfErr, IfOk, List, Ok, Some, min};
+ghost use Rattle.std.specs.Prelude.{◌≡◌, ◌+◌, ◌-◌, ◌^◌, ◌++◌, IfErr, IfOk, List, Ok, OnOk, Some, min};
 ghost use Rattle.std.specs.List.{AllByRecursion};
 ghost use Rattle.byte_format.specs.Spelling.{reading};
-ghost use Rattle.log_model.specs.History.{Numbered as NumberedRow};
-ghost use Rattle.row_columns.specs.Keys.{IsNumbered};
+ghost use Rattle.log_model.specs.History.{AreOfOneBatch, Numbered as NumberedRow, rows_in, with_batch};
+ghost use Rattle.log_model.specs.Row.{batch_weight};
+ghost use Rattle.block_model.specs.Keys.{IsNumbered};
+ghost use Rattle.block_format.specs.Reading.{block, block_writing};
+ghost use Rattle.block_format.specs.Rows.{IsBlock};
+ghost use Rattle.block_format.specs.Spelling.{block_bytes};
+ghost use Rattle.block_body.specs.Outlines.{IsSpan, outline_of};
 ghost use Rattle.column_block.specs.Answers.{AnswersAs, IsPlaceOf};
-ghost use Rattle.column_block.specs.Outlines.{IsSpan, outline_of};
-ghost use Rattle.column_block.specs.Reading.{block, block_writing};
-ghost use Rattle.column_block.specs.Rows.{IsBlock};
-ghost use Rattle.column_block.specs.Spelling.{block_bytes};
 
-use crate::columns::columns_of;
-use crate::fault::BlockFault;
-use crate::head::Head;
+use crate::fault::{BlockFault, fault_of};
 use crate::open::Open;
-use crate::read::read;
 use crate::steps::Steps;
-use crate::write::put_block;
-use block_column::ValueColumn;
-use byte_format::Stop;
-use row_columns::{Key, column_names, row_keys};
+use block_body::{Head, StoredRows};
+use block_model::{NumberedRef, lend};
+use block_reading::Items;
+use byte_format::read_exactly;
 use std::alloc::{AllocError, Global};
 use std::marker::Model;
 use vl_row::Numbered;
 
-/// Rows of one stream, in order of time, batch and place, held by columns.
+/// Rows of one stream, in order of time, batch and place, held by columns. Copies share what they hold.
 ///
 /// A contract sees it as the list of its rows with their numbers.
 #[derive(Drop)]
 pub struct Block {
-    pub(crate) head: Head,
-    pub(crate) keys: Vec<Key>,
-    pub(crate) columns: Vec<ValueColumn>,
+    stored: StoredRows,
 }
 
 impl Model for Block {
     ghost use Rattle.std.specs.Prelude.{List};
     ghost use Rattle.log_model.specs.History.{Numbered as NumberedRow};
-    ghost use Rattle.column_block.specs.Held.{IsHeld, rows_in};
 
     ghost Value = { List NumberedRow };
 
-    ghost view = { λ b. rows_in b.head b.keys.items b.columns.items };
-
-    ghost invariant = { λ b.
-        IsHeld (rows_in b.head b.keys.items b.columns.items) b.head b.keys.items b.columns.items };
+    ghost view = { λ b. b.stored };
 }
 
 impl Block {
@@ -55,15 +47,35 @@ impl Block {
         ensures rows { IfOk result (λ block. block ≡ rows.now) }
         ensures rules { IfOk result (λ block. AllByRecursion IsNumbered rows.now) }
     {
-        let keys = row_keys(alloc, rows)?;
-        let names = column_names(alloc, rows)?;
-        let (heads, columns) = columns_of(alloc, rows, names.as_slice())?;
-        let head = Head::of(alloc, rows, heads)?;
-        Ok(Block {
-            head,
-            keys,
-            columns,
-        })
+        let lent = lend(alloc, rows)?;
+        let block = Block::of_lent(alloc, lent.as_slice())?;
+        Ok(block)
+    }
+
+    /// A block of these rows, which are lent.
+    pub fn of_lent(alloc: Global, rows: &[NumberedRef<'_>]) -> Result<Block, AllocError>
+        requires { IsBlock rows.now }
+        ensures rows { IfOk result (λ block. block ≡ rows.now) }
+        ensures rules { IfOk result (λ block. AllByRecursion IsNumbered rows.now) }
+    {
+        let stored = StoredRows::of_lent(alloc, rows)?;
+        Ok(Block { stored })
+    }
+
+    /// An equal block, which shares its memory.
+    pub fn share(&self) -> Result<Block, AllocError>
+        ensures { IfOk result (λ block. block ≡ self.now) }
+    {
+        let stored = self.stored.share()?;
+        Ok(Block { stored })
+    }
+
+    /// Gives all rows, which are of one batch, another number of their batch. What is shared with other blocks stays.
+    pub fn set_batch(&mut self, number: u64)
+        requires { AreOfOneBatch self.old }
+        ensures { self.new ≡ with_batch number self.old }
+    {
+        self.stored.set_batch(number);
     }
 
     /// What is known of the block without its values.
@@ -71,7 +83,14 @@ impl Block {
         ensures outline { result.now ≡ outline_of self.now }
         ensures times { IsSpan self.now result.now }
     {
-        &self.head
+        self.stored.head()
+    }
+
+    /// The bytes of the names and the values of all rows.
+    pub fn weight(&self) -> u64
+        ensures { result ≡ batch_weight (rows_in self.now) }
+    {
+        self.stored.head().weight()
     }
 
     /// Opens the block, which counts as one step.
@@ -80,7 +99,7 @@ impl Block {
         ensures steps { steps.new ≡ min (steps.old + 1) (2 ^ 64 - 1) }
     {
         steps.step();
-        Open::new(self)
+        Open::new(&self.stored)
     }
 
     /// The one spelling of the block. `from_bytes` reads the block again.
@@ -90,18 +109,21 @@ impl Block {
         ensures again { IfOk result (λ bytes. reading block block_writing bytes.items ≡ Ok self.now) }
     {
         let mut out = Vec::new(alloc);
-        put_block(
-            &mut out,
-            &self.head,
-            self.keys.as_slice(),
-            self.columns.as_slice(),
-        )?;
+        self.put(&mut out)?;
         Ok(out)
     }
 
-    /// The block whose spelling the bytes are. Bytes that are none are damaged at their first item that is not whole or
-    /// has not its form, at 0 where the rows that they say are no block, and else at the first item that differs from
-    /// the spelling of these rows.
+    /// Appends what `to_bytes` gives.
+    pub fn put(&self, out: &mut Vec<u8>) -> Result<(), AllocError>
+        ensures bytes { OnOk result (out.new.items ≡ out.old.items ++ block_bytes self.now) }
+        ensures written { block_writing self.now ≡ Some (block_bytes self.now) }
+    {
+        self.stored.put(out)
+    }
+
+    /// The block whose spelling the bytes are. Bytes that are none are damaged at their first item that is incomplete
+    /// or malformed, at 0 where the rows that they say are not a block, and otherwise at the first item that differs
+    /// from the spelling of these rows.
     pub fn from_bytes(alloc: Global, bytes: &[u8]) -> Result<Block, BlockFault>
         ensures found { IfOk result (λ rows. bytes.now ≡ block_bytes rows) }
         ensures only { (rows : List NumberedRow) → block_writing rows ≡ Some bytes.now
@@ -109,12 +131,9 @@ impl Block {
         ensures damaged { IfErr result (λ fault. IsPlaceOf fault block block_writing bytes.now) }
         ensures exact { AnswersAs bytes.now result (reading block block_writing bytes.now) }
     {
-        match read(alloc, bytes) {
-            Ok(block) => Ok(block),
-            Err(Stop::Memory) => Err(BlockFault::Memory),
-            Err(Stop::Left(left)) => Err(BlockFault::Damaged {
-                at: (bytes.len() - left) as u64,
-            }),
+        match read_exactly::<Items>(alloc, (), bytes) {
+            Ok(stored) => Ok(Block { stored }),
+            Err(fault) => Err(fault_of(fault)),
         }
     }
 }

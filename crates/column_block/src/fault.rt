@@ -1,6 +1,11 @@
-//! Why bytes are no block.
+//! Why bytes are not a block.
 
-/// Why bytes are no block.
+ghost use Rattle.std.specs.Prelude.{◌≡◌};
+ghost use Rattle.column_block.specs.Answers.{block_fault};
+
+use byte_format::Fault;
+
+/// Why bytes are not a block.
 #[derive(Clone, Copy, Debug, Drop, PartialEq, Eq)]
 pub enum BlockFault {
     /// An item is damaged.
@@ -8,6 +13,15 @@ pub enum BlockFault {
         /// Where it starts.
         at: u64,
     },
-    /// There is no memory for the block.
+    /// Out of memory.
     Memory,
+}
+
+pub(crate) fn fault_of(fault: Fault) -> BlockFault
+    ensures { result ≡ block_fault fault }
+{
+    match fault {
+        Fault::Damaged { at } => BlockFault::Damaged { at: at as u64 },
+        Fault::Memory => BlockFault::Memory,
+    }
 }

@@ -1,11 +1,12 @@
 //! What blocks answer.
-ghost use Rattle.std.specs.Prelude.{◌≡◌, ◌<◌, length};
-ghost use Rattle.row_columns.specs.Columns.{names_of};
+ghost use Rattle.std.specs.Prelude.{◌≡◌, ◌<◌, ◌==◌, IfOk, IfSome, IsTrue, length};
+ghost use Rattle.std.specs.List.{list_all};
+ghost use Rattle.log_model.specs.History.{AreOfOneBatch};
+ghost use Rattle.block_model.specs.Columns.{names_of};
 
 use crate::hex_tests::{bytes_of, push_digits};
 use crate::plain_tests::plain_text;
-use crate::way_tests::{damaged_at, head_text, plainly, quick_text, way_text};
-use column_block::ways::by_rows;
+use block_model::lend;
 use column_block::{Block, BlockFault, Head, Open, Steps, Value, is_block};
 use std::alloc::{AllocError, Global};
 use std::fmt::Write;
@@ -20,22 +21,16 @@ pub fn answer(alloc: Global, line: &str) -> Result<String, AllocError> {
         let bytes = bytes_of(alloc, digits)?;
         return read_text(alloc, bytes.as_slice());
     }
-    if let Some(digits) = line.strip_prefix("quick= ") {
-        let bytes = bytes_of(alloc, digits)?;
-        return quick_text(alloc, bytes.as_slice());
-    }
-    if let Some(sizes) = line.strip_prefix("quick-long ") {
-        return long_text(alloc, sizes);
-    }
-    if let Some(text) = line.strip_prefix("quick ") {
-        return match rows_of(alloc, text)? {
-            Some(rows) => way_text(alloc, rows.as_slice()),
-            None => format!(in alloc; "no row"),
-        };
-    }
     if let Some(text) = line.strip_prefix("head ") {
         return match rows_of(alloc, text)? {
             Some(rows) => head_text(alloc, rows.as_slice()),
+            None => format!(in alloc; "no row"),
+        };
+    }
+    if let Some(text) = line.strip_prefix("batch ") {
+        let (number, text) = text.split_once(' ').unwrap_or((text, ""));
+        return match rows_of(alloc, text)? {
+            Some(rows) => batch_text(alloc, number.parse::<u64>().unwrap_or(0), rows.as_slice()),
             None => format!(in alloc; "no row"),
         };
     }
@@ -103,13 +98,24 @@ fn fields_of(alloc: Global, text: &str) -> Result<FieldList, AllocError> {
     Ok(fields)
 }
 
+/// The block of these rows, if they make up one.
+fn block_of(alloc: Global, rows: &[Numbered]) -> Result<Option<Block>, AllocError>
+    ensures { IfOk result (λ found. IfSome found (λ block. block ≡ rows.now)) }
+{
+    let lent = lend(alloc, rows)?;
+    if !is_block(alloc, lent.as_slice())? {
+        return Ok(None);
+    }
+    let block = Block::of_lent(alloc, lent.as_slice())?;
+    Ok(Some(block))
+}
+
 /// What a block of these rows says, and its bytes. A plain block says the same.
 fn rows_text(alloc: Global, rows: &[Numbered]) -> Result<String, AllocError> {
-    if !is_block(alloc, rows)? {
+    let Some(block) = block_of(alloc, rows)? else {
         return format!(in alloc; "no block");
-    }
-    let block = Block::try_of(alloc, rows)?;
-    let mut text = block_text(alloc, &block)?;
+    };
+    let mut text = block_text(alloc, &block.share()?)?;
     if text != plain_text(alloc, rows)? {
         text.push_str("unlike the plain block ")?;
     }
@@ -118,34 +124,65 @@ fn rows_text(alloc: Global, rows: &[Numbered]) -> Result<String, AllocError> {
     Ok(text)
 }
 
-/// What the block of these bytes says, or where they are damaged. The plain way of reading answers the same.
+/// What the block of these bytes says, or where they are damaged.
 fn read_text(alloc: Global, bytes: &[u8]) -> Result<String, AllocError> {
-    let mut text = match Block::from_bytes(alloc, bytes) {
-        Ok(block) => block_text(alloc, &block)?,
-        Err(BlockFault::Damaged { at }) => damaged_at(alloc, at)?,
-        Err(BlockFault::Memory) => return Err(AllocError),
-    };
-    if text != plainly(alloc, bytes)? {
-        text.push_str(" unlike the plain way")?;
+    match Block::from_bytes(alloc, bytes) {
+        Ok(block) => block_text(alloc, &block),
+        Err(BlockFault::Damaged { at }) => format!(in alloc; "damaged at {at}"),
+        Err(BlockFault::Memory) => Err(AllocError),
     }
+}
+
+/// What a block of these rows says under another number of their batch, its bytes, and what it said before, which a
+/// block says that shares its memory.
+fn batch_text(alloc: Global, number: u64, rows: &[Numbered]) -> Result<String, AllocError> {
+    let Some(mut block) = block_of(alloc, rows)? else {
+        return format!(in alloc; "no block");
+    };
+    if !are_of_one_batch(rows) {
+        return format!(in alloc; "several batches");
+    }
+    let before = block.share()?;
+    block.set_batch(number);
+    let mut text = block_text(alloc, &block)?;
+    let bytes = block.to_bytes(alloc)?;
+    push_digits(&mut text, bytes.as_slice())?;
+    text.push(' ')?;
+    text.push_str(block_text(alloc, &before)?.as_str())?;
     Ok(text)
 }
 
-/// The way of reading two rows with a value of one byte each, and each with a value of so many bytes more.
-fn long_text(alloc: Global, sizes: &str) -> Result<String, AllocError> {
-    let (one, other) = sizes.split_once(' ').unwrap_or((sizes, ""));
-    let mut line = format!(in alloc; "0 1 0||full=x,a=")?;
-    for _ in 0..one.parse::<u32>().unwrap_or(0) {
-        line.push('y')?;
-    }
-    line.push_str(";0 1 1||full=x,b=")?;
-    for _ in 0..other.parse::<u32>().unwrap_or(0) {
-        line.push('y')?;
-    }
-    match rows_of(alloc, line.as_str())? {
-        Some(rows) => way_text(alloc, rows.as_slice()),
-        None => format!(in alloc; "no row"),
-    }
+fn are_of_one_batch(rows: &[Numbered]) -> bool
+    ensures { IsTrue result → AreOfOneBatch rows.now }
+{
+    let batch = match rows {
+        [first, ..] => first.batch,
+        [] => 0,
+    };
+    are_of(rows, batch)
+}
+
+fn are_of(rows: &[Numbered], batch: u64) -> bool
+    ensures { result ≡ list_all (λ numbered. numbered.batch == batch) rows.now }
+{
+    rows.iter().all(|numbered| numbered.batch == batch)
+}
+
+/// What the copy of the head of a block of these rows says.
+fn head_text(alloc: Global, rows: &[Numbered]) -> Result<String, AllocError> {
+    let Some(block) = block_of(alloc, rows)? else {
+        return format!(in alloc; "no block");
+    };
+    let head = block.head().try_copy(alloc)?;
+    let mut text = format!(in alloc;
+        "{} {} {} {}",
+        head.min(),
+        head.max(),
+        head.rows(),
+        block.weight()
+    )?;
+    push_head(&mut text, &head);
+    Ok(text)
 }
 
 /// What a block of so many rows answers whose values are distinct and have so many bytes.
@@ -176,13 +213,11 @@ fn wide_text(alloc: Global, sizes: &str) -> Result<String, AllocError> {
 /// Of a block its rows, the length of its bytes, whether they are read again, and where they are damaged without the
 /// last one.
 fn large_text(alloc: Global, rows: &[Numbered]) -> Result<String, AllocError> {
-    if !is_block(alloc, rows)? {
+    let Some(block) = block_of(alloc, rows)? else {
         return format!(in alloc; "no block");
-    }
-    let block = Block::try_of(alloc, rows)?;
+    };
     let bytes = block.to_bytes(alloc)?;
-    let again = Block::from_bytes(alloc, bytes.as_slice()).is_ok()
-        && by_rows(alloc, bytes.as_slice()).is_ok();
+    let again = Block::from_bytes(alloc, bytes.as_slice()).is_ok();
     let cut = match bytes.as_slice() {
         [front @ .., _] => read_text(alloc, front)?,
         [] => String::new(alloc),
@@ -231,7 +266,7 @@ fn made_rows(alloc: Global, rows: u16, len: u16) -> Result<Vec<Numbered>, AllocE
     Ok(numbered)
 }
 
-pub(crate) fn block_text(alloc: Global, block: &Block) -> Result<String, AllocError> {
+fn block_text(alloc: Global, block: &Block) -> Result<String, AllocError> {
     let mut text = String::new(alloc);
     let mut steps: Steps<Tests> = Steps::new();
     let _ = block.open(&mut steps);

@@ -4,16 +4,14 @@
 //! labels, and its fields. The program makes a block of them, and writes what the head says, what the opened block
 //! lends, and the bytes of the block. A plain block, which keeps the rows as they are, says the same. Hexadecimal
 //! digits are the bytes of a block, and the program writes the same of it, or where the bytes are damaged. `made` is
-//! a block of so many rows with values of so many bytes, and `wide` one of so many rows and columns. Bytes are read
-//! in both ways, which answer the same. `quick`, before rows or `=` and bytes, asks whether the quick way finds the
-//! block, and `quick-long` does so of two rows with values of so many bytes. `head` writes the copy of the head of a
-//! block of rows. The answers are those of a plain program in Python.
+//! a block of so many rows with values of so many bytes, and `wide` one of so many rows and columns. `head` writes the
+//! copy of the head of a block of rows, and its weight. `batch` and a number writes what a block says under this number
+//! of its batch, its bytes, and what it said before. The answers are those of a plain program in Python.
 #![tactic(auto)]
 
 mod block_tests;
 mod hex_tests;
 mod plain_tests;
-mod way_tests;
 
 use block_tests::answer;
 use std::io;

@@ -12,8 +12,6 @@ use Rattle.std.proofs.Math.ListN.{length-set}
 use Rattle.std.proofs.lemmas.Nat.Bits.{bit_at_set_same, bit_at_set_other}
 use Rattle.token_bloom.specs.Bits.{has_bit, with_bit, has_bits, with_bits, place, places, bit_count, fnv}
 use Rattle.token_bloom.specs.Filter.{may_have, with_hash, with_word}
-use Rattle.token_bloom.specs.Modulus.{IsOfFilter}
-use Rattle.token_bloom.specs.declared.modulus.Modulus.{Modulus}
 
 row-in : (b n : ℕ) → b < 64 * n → b / 64 < n
 row-in b n lt = omega (arith, lt)
@@ -98,16 +96,6 @@ hash_filled ws hash lt =
 
 pub filled : (ws word : List ℕ) → 0 < length ws → with_word ws word ≡ with_bits ws (places (bit_count ws) (fnv word))
 filled ws word lt = hash_filled ws (fnv word) lt
-
--- The modulus of a filter is that of each filter with as many bits.
-pub IsOfFilter-set : (modulus : Modulus) (old new : List ℕ) → IsOfFilter modulus old → length new ≡ length old
-    → IsOfFilter modulus new
-IsOfFilter-set modulus old new is same =
-    record {
-      small = omega (arith, is.small, same);
-      reduces = is.reduces;
-      bits = λ some. is.bits (omega (arith, some, same)) ∙ ap (λ n. 64 * n) (sym same);
-    }
 
 both : (a b : Bool) → (a && b) ≡ true → (a ≡ true) × (b ≡ true)
 both true true e = (refl, refl)

@@ -3,3 +3,4 @@ pub mod Added
 pub mod Remainders
 pub mod Numbers
 pub mod Commutes
+pub mod HeldLaws

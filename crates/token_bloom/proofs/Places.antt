@@ -1,4 +1,4 @@
--- The six places of a word, one behind another.
+-- The six places of a word, one after another.
 use Rattle.std.proofs.Common.{◌≡◌, ℕ, zero, suc, ◌+◌, ◌*◌, ◌%◌, ◌^◌, ◌<◌, ◌≤◌, true, false, List, ◌∷◌}
 use Rattle.std.proofs.Common.{drop, refl, ap, arith}
 use Rattle.std.proofs.lemmas.List.{drop_all}

@@ -18,7 +18,7 @@ stride hash = bit_or (rotate_right w64 hash 17) 1
 abbrev pub bit_count : List ℕ → ℕ
 bit_count filter = 64 * length filter
 
--- the six bits of a word: i strides behind its hash, in 64 bits, and then modulo the number of bits
+-- the six bits of a word: its hash plus i strides, in 64 bits, and then modulo the number of bits
 abbrev pub place : ℕ → ℕ → ℕ → ℕ
 place bits hash i = (hash + i * stride hash) % 2 ^ 64 % bits
 

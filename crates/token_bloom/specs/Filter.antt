@@ -12,9 +12,13 @@ words_for tokens = (16 * tokens + 63) / 64
 abbrev pub empty_filter : ℕ → List ℕ
 empty_filter tokens = replicate (words_for tokens) 0
 
--- where there is any bit, all six bits of the word are set
+-- where there is any bit, all six bits of the hash are set
+abbrev pub has_hash : List ℕ → ℕ → Bool
+has_hash filter hash = nat_lt 0 (length filter) && has_bits filter (places (bit_count filter) hash)
+
+-- the word may be there
 abbrev pub may_have : List ℕ → List ℕ → Bool
-may_have filter word = nat_lt 0 (length filter) && has_bits filter (places (bit_count filter) (fnv word))
+may_have filter word = has_hash filter (fnv word)
 
 -- with all six bits of the hash set, where there is any bit
 abbrev pub with_hash : List ℕ → ℕ → List ℕ

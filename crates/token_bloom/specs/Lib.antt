@@ -1,3 +1,4 @@
 pub mod Bits
 pub mod Modulus
 pub mod Filter
+pub mod Held

@@ -3,9 +3,8 @@
 ghost use Rattle.std.specs.Prelude.{◌≡◌, ◌<◌, ◌≤◌, ◌^◌, IfOk, IfErr, IsTrue, List, ℕ, false, length};
 ghost use Rattle.token_bloom.specs.Filter.{empty_filter, filter_bytes, is_length, may_have, with_hash, with_word};
 
-use crate::bits::{has_hash, set_hash};
 use crate::hash::hash_of;
-use crate::modulus::Modulus;
+use crate::held::{Held, copy_of, has_hash_in, held_of, put_hash, words_in};
 use byte_format::{Stop, put_u64s, take_u64s};
 use std::alloc::{AllocError, Global};
 use std::marker::Model;
@@ -15,33 +14,32 @@ use std::marker::Model;
 /// A contract sees it as its words of 64 bits.
 #[derive(Drop)]
 pub struct Bloom {
-    filter: Vec<u64>,
-    // of the filter's bits, if it has any
-    modulus: Modulus,
+    held: Held,
 }
 
 impl Model for Bloom {
     ghost use Rattle.std.specs.Prelude.{List, ℕ};
-    ghost use Rattle.token_bloom.specs.Modulus.{IsOfFilter};
+    ghost use Rattle.token_bloom.specs.Held.{IsHeld, words_in};
 
     ghost Value = { List ℕ };
 
-    ghost view = { λ b. b.filter.items };
+    ghost view = { λ b. words_in b.held };
 
-    ghost invariant = { λ b. IsOfFilter b.modulus b.filter.items };
+    ghost invariant = { λ b. IsHeld b.held };
 }
 
-/// Why bytes are no filter.
+/// Why bytes are not a filter.
 #[derive(Clone, Copy, Debug, Drop, PartialEq, Eq)]
 pub enum BloomFault {
-    /// Their number is no multiple of 8, or is above 2^33.
+    /// Their number is not a multiple of 8, or is above 2^33.
     BadLength,
-    /// There is no memory for the filter.
+    /// Out of memory.
     Memory,
 }
 
 impl Bloom {
-    /// A filter with room for so many distinct words: 16 bits for each, rounded up to a multiple of 64.
+    /// Returns an empty filter with room for this many distinct words: 16 bits for each, rounded up to a multiple
+    /// of 64.
     pub fn with_room(alloc: Global, tokens: usize) -> Result<Bloom, AllocError>
         requires { tokens < 2 ^ 32 }
         ensures { IfOk result (λ bloom. bloom ≡ empty_filter tokens) }
@@ -54,8 +52,9 @@ impl Bloom {
         requires { length filter.items ≤ 2 ^ 30 }
         ensures { result ≡ filter.items }
     {
-        let modulus = Modulus::of((filter.len() as u64 * 64).max(64));
-        Bloom { filter, modulus }
+        Bloom {
+            held: held_of(filter),
+        }
     }
 
     /// Adds a word: sets its six bits, where the filter has any bit.
@@ -71,39 +70,38 @@ impl Bloom {
     pub fn add_hash(&mut self, hash: u64)
         ensures { self.new ≡ with_hash self.old hash }
     {
-        if !self.filter.is_empty() {
-            set_hash(self.filter.as_mut_slice(), self.modulus, hash);
-        }
+        put_hash(&mut self.held, hash);
     }
 
     /// Whether the word may be there: all six bits of it are set. A filter without bits has no word.
     pub fn may_have(&self, word: &[u8]) -> bool
         ensures { result ≡ may_have self.now word.now }
     {
-        !self.filter.is_empty() && has_hash(self.filter.as_slice(), self.modulus, hash_of(word))
+        has_hash_in(&self.held, hash_of(word))
     }
 
     /// The words of 64 bits that the filter consists of.
     pub fn as_slice(&self) -> &[u64]
         ensures { result.now ≡ self.now }
     {
-        self.filter.as_slice()
+        words_in(&self.held)
     }
 
     /// An equal filter, in memory of its own.
     pub fn try_copy(&self, alloc: Global) -> Result<Bloom, AllocError>
         ensures { IfOk result (λ bloom. bloom ≡ self.now) }
     {
-        let filter = self.filter.to_vec(alloc)?;
-        Ok(Bloom::of(filter))
+        let held = copy_of(alloc, &self.held)?;
+        Ok(Bloom { held })
     }
 
     /// The filter as bytes.
     pub fn to_bytes(&self, alloc: Global) -> Result<Vec<u8>, AllocError>
         ensures { IfOk result (λ bytes. bytes.items ≡ filter_bytes self.now) }
     {
-        let mut bytes = Vec::with_capacity(alloc, self.filter.len() * 8)?;
-        put_u64s(&mut bytes, self.filter.as_slice())?;
+        let filter = self.as_slice();
+        let mut bytes = Vec::with_capacity(alloc, filter.len() * 8)?;
+        put_u64s(&mut bytes, filter)?;
         Ok(bytes)
     }
 

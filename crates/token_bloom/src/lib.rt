@@ -4,6 +4,7 @@
 mod bits;
 mod filter;
 mod hash;
+mod held;
 mod modulus;
 
 pub use filter::{Bloom, BloomFault};

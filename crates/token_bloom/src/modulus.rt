@@ -30,7 +30,7 @@ impl Modulus {
     {
         let times = ((number as u128 * self.inverse as u128) >> 64) as u64;
         let left = number - times * self.bits;
-        // Either is as likely as the other. As LLVM builds it, this is no branch.
+        // Either is as likely as the other. LLVM builds this without a branch.
         if left < self.bits {
             left
         } else {

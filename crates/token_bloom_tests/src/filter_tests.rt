@@ -1,10 +1,13 @@
 //! What filters answer.
 use std::alloc::{AllocError, Global};
-use token_bloom::{Bloom, BloomFault};
+use token_bloom::{Bloom, BloomFault, hash_of};
 
 pub fn answer(alloc: Global, line: &str) -> Result<String, AllocError> {
     if let Some(length) = line.strip_prefix("length ") {
         return length_answer(alloc, length.parse::<usize>().unwrap_or(0));
+    }
+    if let Some(word) = line.strip_prefix("hash ") {
+        return hash_answer(alloc, word);
     }
     let (added, asked) = line.split_once('|').unwrap_or((line, ""));
     let (room, words) = added.split_once(' ').unwrap_or((added, ""));
@@ -24,17 +27,28 @@ fn filter_answer(alloc: Global, bloom: &Bloom, asked: &str) -> Result<String, Al
         Ok(again) => again,
         Err(fault) => return format!(in alloc; "{fault:?}"),
     };
-    let mut answer = String::new(alloc);
-    for byte in &bytes {
-        answer.push(digit(*byte / 16))?;
-        answer.push(digit(*byte % 16))?;
-    }
+    let mut answer = digits_of(alloc, bytes.as_slice())?;
     for word in asked.split(' ') {
         let word = word.as_bytes();
         answer.push(if bloom.may_have(word) { '+' } else { '-' })?;
         answer.push(if again.may_have(word) { '+' } else { '-' })?;
     }
     Ok(answer)
+}
+
+/// The hash of a word, its most significant byte first.
+fn hash_answer(alloc: Global, word: &str) -> Result<String, AllocError> {
+    let bytes = hash_of(word.as_bytes()).to_be_bytes();
+    digits_of(alloc, &bytes[..])
+}
+
+fn digits_of(alloc: Global, bytes: &[u8]) -> Result<String, AllocError> {
+    let mut digits = String::new(alloc);
+    for byte in bytes {
+        digits.push(digit(*byte / 16))?;
+        digits.push(digit(*byte % 16))?;
+    }
+    Ok(digits)
 }
 
 fn digit(n: u8) -> char {

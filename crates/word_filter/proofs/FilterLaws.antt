@@ -1,12 +1,15 @@
 -- Filters of words, and filters in bytes.
 use Rattle.std.proofs.Common.{◌≡◌, ℕ, ◌*◌, ◌/◌, ◌%◌, ◌<◌, ◌^◌, Bool, true, false, cond, eqb, get_or, List, [], ◌∷◌}
-use Rattle.std.proofs.Common.{length, Ok, refl, sym, ◌∙◌, arith}
+use Rattle.std.proofs.Common.{length, Ok, Result, refl, sym, ◌∙◌, arith}
 use Rattle.std.specs.Prelude.{bit_or}
 use Rattle.std.specs.Int.{w32, w64}
 use Rattle.std.specs.List.{fold}
 use Rattle.std.proofs.Math.ListN.{length-set}
 use Rattle.std.proofs.lemmas.List.{length-replicate}
-use Rattle.byte_format.specs.Format.{value, followed, many, front}
+use Rattle.byte_format.specs.Format.{value, followed, many, front, ◌>>=◌}
+use Rattle.byte_format.specs.Gives.{Stops}
+use Rattle.byte_format.specs.declared.Stop.{Stop}
+use Rattle.byte_format.specs.declared.Stop.TheVariants as stops
 use Rattle.byte_format.specs.Items.{number}
 use Rattle.byte_format.proofs.Cases.{bind_assoc, bind_same}
 use Rattle.byte_format.proofs.Readings.{front-followed}
@@ -22,6 +25,11 @@ filter-steps bytes =
     front-followed (many count.0 (number w64)) (λ filter. value count.0) count.1
     ∙ sym (bind_assoc (front (many count.0 (number w64)) count.1) (λ filter. Ok filter.1)
     (λ (rest : List ℕ). Ok (count.0, rest))))
+
+-- where the first reader stops, both do
+pub stops-behind : {X Y : Type 0} (e : Stop) (r : Result X ℕ) (f : X → Result Y ℕ) → Stops e r → Stops e (r >>= f)
+stops-behind stops.Memory r f s = tt
+stops-behind (stops.Left left) r f s = rw s refl
 
 -- words that are added make no filter longer
 bits-length : (filter bits : List ℕ) → length (with_bits filter bits) ≡ length filter

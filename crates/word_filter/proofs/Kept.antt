@@ -7,8 +7,8 @@ use Rattle.std.proofs.lemmas.List.{length-replicate}
 use Rattle.std.proofs.lemmas.List.Concat.{flat_map-cons}
 use Rattle.std.proofs.lemmas.List.Elements.{All-from_recursion}
 use Rattle.std.proofs.lemmas.Slice.Eq.{bytes_eq-Decides}
-use Rattle.block_column.specs.Kinds.{distinct}
-use Rattle.block_column.proofs.Distinct.{are_listed}
+use Rattle.block_model.specs.Distinct.{distinct}
+use Rattle.block_model.proofs.Distinct.{are_listed}
 use Rattle.token_bloom.specs.Filter.{empty_filter, may_have, with_word, words_for}
 use Rattle.token_bloom.proofs.Added.{word-added, word-kept}
 use Rattle.word_filter.specs.Words.{HasWords, LeavesNoneOut, filter_of, words_in}

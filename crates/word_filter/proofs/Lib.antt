@@ -5,6 +5,3 @@ pub mod Again
 pub mod There
 pub mod Sets
 pub mod Sorted
-pub mod Firsts
-pub mod Parted
-pub mod Alike

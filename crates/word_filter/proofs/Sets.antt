@@ -13,11 +13,10 @@ use Rattle.std.proofs.lemmas.List.Folds.{list_any-append}
 use Rattle.std.proofs.lemmas.Map.Keys.{IsDistinct-head, IsDistinct-tail}
 use Rattle.std.proofs.lemmas.Map.Lookups.{exact_bytes}
 use Rattle.std.proofs.lemmas.Slice.Eq.{bytes_eq-Decides}
-use Rattle.block_column.specs.Kinds.{distinct, is_listed}
-use Rattle.block_column.specs.Members.{HaveSameTexts}
-use Rattle.block_column.proofs.Distinct.{itself, right_true}
-use Rattle.block_column.proofs.Rising.{distinct-rising}
-use Rattle.block_column.proofs.Same.{distinct-listed, put-listed, same-rising}
+use Rattle.block_model.specs.Distinct.{HaveSameTexts, distinct, is_listed}
+use Rattle.block_model.proofs.Distinct.{itself, right_true}
+use Rattle.block_model.proofs.Rising.{distinct-rising}
+use Rattle.block_model.proofs.Same.{distinct-listed, put-listed, same-rising}
 use Rattle.log_model.specs.Field.{bytes_cmp}
 use Rattle.token_bloom.specs.Filter.{empty_filter, with_word}
 use Rattle.token_bloom.proofs.Commutes.{word-swap}

@@ -20,9 +20,8 @@ use Rattle.std.proofs.lemmas.List.Sorted.{IsPermutation-map, list_any-IsPermutat
 use Rattle.std.proofs.lemmas.List.Sums.{fold_push}
 use Rattle.std.proofs.lemmas.Map.Keys.{IsDistinct-from_sorted}
 use Rattle.std.proofs.lemmas.Slice.Eq.{bytes_eq-Decides}
-use Rattle.block_column.specs.Kinds.{distinct, is_listed}
-use Rattle.block_column.specs.Members.{HaveSameTexts}
-use Rattle.block_column.proofs.Distinct.{itself, right_true}
+use Rattle.block_model.specs.Distinct.{HaveSameTexts, distinct, is_listed}
+use Rattle.block_model.proofs.Distinct.{itself, right_true}
 use Rattle.byte_format.proofs.Cases.{both_true}
 use Rattle.log_model.specs.Field.{bytes_cmp}
 use Rattle.token_bloom.specs.Bits.{fnv}

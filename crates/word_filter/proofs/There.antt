@@ -5,10 +5,10 @@ use Rattle.std.specs.BTreeSet.{insert_key}
 use Rattle.std.specs.List.{list_all, list_any}
 use Rattle.std.proofs.lemmas.Bool.{le-ltb}
 use Rattle.std.proofs.lemmas.Slice.Eq.{bytes_eq-Decides}
-use Rattle.block_column.specs.Kinds.{distinct}
-use Rattle.block_column.proofs.Distinct.{either_kept, right_true}
-use Rattle.block_column.proofs.Rising.{distinct-rising, put-again}
-use Rattle.block_column.proofs.Same.{distinct-listed}
+use Rattle.block_model.specs.Distinct.{distinct}
+use Rattle.block_model.proofs.Distinct.{either_kept, right_true}
+use Rattle.block_model.proofs.Rising.{distinct-rising, put-again}
+use Rattle.block_model.proofs.Same.{distinct-listed}
 use Rattle.byte_format.proofs.Cases.{both_true}
 use Rattle.log_model.specs.Field.{bytes_cmp, is_empty}
 use Rattle.word_filter.specs.Words.{is_there}

@@ -1,16 +1,18 @@
 -- The words of values, and how many there are.
 use Rattle.std.proofs.Common.{◌≡◌, ℕ, zero, suc, ◌+◌, ◌≤◌, Bool, true, false, cond, List, [], ◌∷◌, ◌++◌, length}
-use Rattle.std.proofs.Common.{map, filter, drop, ◌-◌, ◌<◌, refl, ap, ◌∙◌, arith}
+use Rattle.std.proofs.Common.{get_or, map, filter, drop, take, ◌-◌, ◌<◌, refl, sym, ap, ◌∙◌, arith}
 use Rattle.std.specs.BTreeSet.{insert_key}
-use Rattle.std.specs.List.{AllByRecursion, fold, range_with_len, slice_range}
+use Rattle.std.specs.List.{AllByRecursion, flat_map, fold, range_with_len, slice_range}
 use Rattle.std.specs.declared.cmp.Ordering.{Ordering}
 use Rattle.std.specs.declared.cmp.Ordering.TheVariants.{Less, Equal, Greater}
 use Rattle.std.specs.Ordering.{match_ordering}
 use Rattle.std.specs.Str.{IsUtf8}
-use Rattle.std.proofs.lemmas.List.{length-append, length-drop, length-map, length-take}
-use Rattle.block_column.specs.Kinds.{distinct}
+use Rattle.std.proofs.lemmas.List.{append-nil, length-append, length-drop, length-map, length-take, map_more}
+use Rattle.std.proofs.lemmas.List.Concat.{flat_map-append, flat_map-cons}
+use Rattle.std.proofs.lemmas.List.Sums.{fold-append}
+use Rattle.block_model.specs.Distinct.{distinct}
 use Rattle.log_model.specs.Field.{bytes_cmp}
-use Rattle.word_filter.specs.Words.{put_words}
+use Rattle.word_filter.specs.Words.{column_words, put_words, words_in}
 use Rattle.word_tokens.specs.Runs.{is_word_at, words_at, words_between, words_of}
 use Rattle.word_tokens.proofs.WordLists.{words_at-one, words_between-one, words_between-split}
 use Rattle.word_tokens.proofs.WordRuns.{IsWord, IsWord-true}
@@ -141,7 +143,7 @@ put-all (t ∷ ts) keys = omega (arith, put-one t keys, put-all ts (insert_key b
 pub few-distinct : (texts : List (List ℕ)) → length (distinct texts) ≤ length texts
 few-distinct texts = omega (arith, put-all texts [])
 
--- so many come by the words of a value at most
+-- the words of a value add at most this many
 pub few-put : (keys : List (List ℕ)) (text : List ℕ) → IsUtf8 text
     → length (put_words keys text) ≤ length keys + length text
 few-put keys text utf8 =
@@ -151,3 +153,20 @@ few-put keys text utf8 =
       length-map (words_of text) (λ (place : ℕ × ℕ). slice_range text place.0 place.1),
       few-words text utf8,
     )
+
+-- ---- the words of one value more
+
+put-distinct : (texts : List (List ℕ)) (text : List ℕ)
+    → put_words (distinct texts) text ≡ distinct (texts ++ words_in text)
+put-distinct texts text = sym (fold-append (insert_key bytes_cmp) [] texts (words_in text))
+
+pub column-more : {X : Type 0} (f : X → List ℕ) (values : List X) (n : ℕ) (d : X) → n < length values
+    → put_words (column_words (map f (take n values))) (f (get_or values n d))
+    ≡ column_words (map f (take (n + 1) values))
+column-more f values n d lt =
+    let one : flat_map words_in (f (get_or values n d) ∷ []) ≡ words_in (f (get_or values n d)) =
+    flat_map-cons words_in (f (get_or values n d)) [] ∙ append-nil (words_in (f (get_or values n d))) in
+    put-distinct (flat_map words_in (map f (take n values))) (f (get_or values n d))
+    ∙ ap distinct (ap (λ (ws : List (List ℕ)). flat_map words_in (map f (take n values)) ++ ws) (sym one)
+    ∙ sym (flat_map-append words_in (map f (take n values)) (f (get_or values n d) ∷ []))
+    ∙ ap (flat_map words_in) (sym (map_more f values n d lt)))

@@ -1,14 +1,12 @@
 -- The words of a column's values, and the filter of them.
-use Rattle.std.specs.Prelude.{◌≡◌, ℕ, Bool, true, not, ◌&&◌, ◌||◌, IsTrue, List, ◌++◌, bytes_eq, length, map}
-use Rattle.std.specs.Prelude.{nat_lt, Result, Ok}
+use Rattle.std.specs.Prelude.{ℕ, Bool, ◌||◌, IsTrue, List, ◌++◌, bytes_eq, length, map, Result, Ok}
 use Rattle.std.specs.BTreeSet.{insert_key}
 use Rattle.std.specs.Int.{w32, w64, to_le_bytes}
 use Rattle.std.specs.List.{All, flat_map, fold, list_any, slice_range}
-use Rattle.block_column.specs.Kinds.{distinct, is_listed}
+use Rattle.block_model.specs.Distinct.{distinct, is_listed}
 use Rattle.byte_format.specs.Format.{Format, value, followed, many, front, ◌>>=◌}
 use Rattle.byte_format.specs.Items.{number}
 use Rattle.log_model.specs.Field.{bytes_cmp, is_empty}
-use Rattle.log_model.specs.Words.{is_word_char}
 use Rattle.token_bloom.specs.Filter.{empty_filter, filter_bytes, may_have, with_word}
 use Rattle.word_tokens.specs.Runs.{words_of}
 
@@ -32,14 +30,6 @@ HasWords filter text = All (λ word. IsTrue (may_have filter word)) (words_in te
 abbrev pub LeavesNoneOut : Type 0
 LeavesNoneOut = (values : List (List ℕ)) → All (HasWords (filter_of values)) values
 
--- a character of ASCII that is in no word
-abbrev pub is_separator : ℕ → Bool
-is_separator byte = nat_lt byte 128 && not (is_word_char byte)
-
--- These words are among the texts.
-abbrev pub AreAmong : List (List ℕ) → List (List ℕ) → Type 0
-AreAmong texts words = (word : List ℕ) → is_listed words word ≡ true → is_listed texts word ≡ true
-
 -- some texts in order, and the words of one more value
 abbrev pub put_words : List (List ℕ) → List ℕ → List (List ℕ)
 put_words texts text = fold (insert_key bytes_cmp) texts (words_in text)
@@ -52,11 +42,11 @@ is_there texts word = is_empty word || list_any (bytes_eq word) texts
 unfoldable pub counted_filter : List ℕ → List ℕ
 counted_filter filter = to_le_bytes w32 (length filter) ++ filter_bytes filter
 
--- the same as a format, which keeps the number alone
+-- the same as a format, which keeps only the number
 unfoldable pub filter_item : Format ℕ
 filter_item = followed (number w32) (λ count. followed (many count (number w64)) (λ filter. value count))
 
--- the bytes behind so many words of 64 bits
+-- the bytes after this many words of 64 bits
 abbrev pub skipped : ℕ → List ℕ → Result (List ℕ) ℕ
 skipped count bytes = front (many count (number w64)) bytes >>= λ filter. Ok filter.1
 

@@ -6,23 +6,17 @@ ghost use Rattle.std.specs.Prelude.{sum_by, true};
 ghost use Rattle.std.specs.BTreeSet.{insert_key};
 ghost use Rattle.std.specs.List.{All, IsDistinct, fold, list_all};
 ghost use Rattle.std.specs.Int.{w64};
-ghost use Rattle.block_column.specs.Kinds.{distinct};
-ghost use Rattle.block_column.specs.Members.{HaveSameTexts};
+ghost use Rattle.block_model.specs.Distinct.{HaveSameTexts, distinct};
 ghost use Rattle.byte_format.specs.Format.{front, many};
 ghost use Rattle.byte_format.specs.Gives.{Gives};
 ghost use Rattle.byte_format.specs.Items.{number};
 ghost use Rattle.log_model.specs.Field.{bytes_cmp};
 ghost use Rattle.token_bloom.specs.Bits.{fnv};
 ghost use Rattle.token_bloom.specs.Filter.{with_word};
-ghost use Rattle.word_filter.specs.Words.{AreAmong, HasWords, LeavesNoneOut, column_words, counted_filter, filter_item};
+ghost use Rattle.word_filter.specs.Words.{HasWords, LeavesNoneOut, column_words, counted_filter, filter_item};
 ghost use Rattle.word_filter.specs.Words.{filter_of, filter_steps, is_there, put_words, skipped, words_in};
 
-mod buckets;
-mod fresh;
-
-use crate::buckets::{MOST_NUMBERED, firsts_and_others};
-use crate::fresh::fresh_part;
-use block_column::{Recent, ValueColumn};
+use block_model::Recent;
 use byte_format::{Stop, put_u64s, take_u32, take_u64};
 use std::alloc::{AllocError, Global};
 use token_bloom::{Bloom, hash_of};
@@ -47,31 +41,6 @@ pub fn filter_of(alloc: Global, values: &[&str]) -> Result<Bloom, AllocError>
     Ok(bloom)
 }
 
-/// The same, for the values of a column, whose texts are at hand. Their words are taken of distinct values alone where
-/// the column holds those.
-pub fn filter_of_column(
-    alloc: Global,
-    column: &ValueColumn,
-    values: &[&str],
-) -> Result<Bloom, AllocError>
-    requires values { map (λ t. t.now) values.now ≡ column.now }
-    requires small { sum_by length column.now < 2 ^ 32 }
-    ensures filter { IfOk result (λ bloom. bloom ≡ filter_of column.now) }
-    ensures words { IfOk result (λ bloom. All (HasWords bloom) column.now) }
-    ensures small { IfOk result (λ bloom. length bloom < 2 ^ 32) }
-{
-    match column.members(alloc)? {
-        Some(members) => {
-            let bloom = filter_of(alloc, members.as_slice())?;
-            Ok(bloom)
-        }
-        None => {
-            let bloom = filter_of(alloc, values)?;
-            Ok(bloom)
-        }
-    }
-}
-
 /// What a search for words may rest on: the filter of some values says of no word of theirs that it is not there. This
 /// does nothing: its contract is the law.
 pub fn filter_law()
@@ -79,8 +48,6 @@ pub fn filter_law()
 {}
 
 /// The words of the values, each once, with their hashes.
-///
-/// Who chooses the words can make them meet in a few buckets, and then this takes as long as sorting all of them.
 fn distinct_words<'a>(alloc: Global, values: &[&'a str]) -> Result<Vec<(u64, &'a str)>, AllocError>
     ensures words { IfOk result (λ words. distinct (map (λ w. w.1.now) words.items)
         ≡ column_words (map (λ t. t.now) values.now)) }
@@ -90,32 +57,8 @@ fn distinct_words<'a>(alloc: Global, values: &[&'a str]) -> Result<Vec<(u64, &'a
     ensures hashes { IfOk result (λ words. All (λ w. w.0 ≡ fnv w.1.now) words.items) }
 {
     let mut words = words_of(alloc, values)?;
-    keep_each_once(alloc, &mut words)?;
+    keep_once(&mut words);
     Ok(words)
-}
-
-/// Keeps the words, each once. Most are told apart by their buckets, and those that are not are sorted.
-fn keep_each_once<'a>(alloc: Global, words: &mut Vec<(u64, &'a str)>) -> Result<(), AllocError>
-    requires { All (λ w. w.0 ≡ fnv w.1.now) words.old.items }
-    ensures same { OnOk result (HaveSameTexts (map (λ w. w.1.now) words.new.items)
-        (map (λ w. w.1.now) words.old.items)) }
-    ensures once { OnOk result (IsDistinct bytes_eq (map (λ w. w.1.now) words.new.items)) }
-    ensures hashes { OnOk result (All (λ w. w.0 ≡ fnv w.1.now) words.new.items) }
-{
-    if words.len() > MOST_NUMBERED {
-        keep_once(words);
-        return Ok(());
-    }
-    // After an error they are not used.
-    let (firsts, others) = firsts_and_others(alloc, words.as_slice())?;
-    *words = firsts;
-    let (more, mut left) = firsts_and_others(alloc, others.as_slice())?;
-    drop(others);
-    words.extend_from_slice(more.as_slice())?;
-    drop(more);
-    keep_once(&mut left);
-    words.extend_from_slice(left.as_slice())?;
-    Ok(())
 }
 
 /// Sorts words, and drops those that are there already.
@@ -139,21 +82,18 @@ fn words_of<'a>(alloc: Global, values: &[&'a str]) -> Result<Vec<(u64, &'a str)>
 {
     let mut words = Vec::with_capacity(alloc, values.len().min(MOST_RESERVED))?;
     let mut recent = Recent::new(alloc, "")?;
-    for i in 0..values.len() {
-        let before = if i > 0 { values[i - 1] } else { "" };
-        put_words(&mut words, &mut recent, before, values[i])?;
+    for value in values {
+        put_words(&mut words, &mut recent, value)?;
     }
     Ok(words)
 }
 
-/// Puts the words of one value to the others, among which are those of the value before.
+/// Puts the words of one value to the others.
 fn put_words<'a>(
     all: &mut Vec<(u64, &'a str)>,
     recent: &mut Recent<'a>,
-    before: &str,
     value: &'a str,
 ) -> Result<(), AllocError>
-    requires before { AreAmong (map (λ w. w.1.now) all.old.items) (words_in before.now) }
     requires recent { list_all (is_there (map (λ w. w.1.now) all.old.items)) recent.old ≡ true }
     requires hashes { All (λ w. w.0 ≡ fnv w.1.now) all.old.items }
     ensures words { OnOk result (distinct (map (λ w. w.1.now) all.new.items)
@@ -163,9 +103,8 @@ fn put_words<'a>(
     ensures recent { OnOk result (list_all (is_there (map (λ w. w.1.now) all.new.items)) recent.new ≡ true) }
     ensures hashes { OnOk result (All (λ w. w.0 ≡ fnv w.1.now) all.new.items) }
 {
-    let part = fresh_part(before, value);
-    for (start, end) in words(part) {
-        put_word(all, recent, &part[start..end])?;
+    for (start, end) in words(value) {
+        put_word(all, recent, &value[start..end])?;
     }
     Ok(())
 }
@@ -193,7 +132,7 @@ fn put_word<'a>(
 }
 
 /// Makes room in a long list that is full. What is there twice is dropped first, so that a few words that are said
-/// again and again take little memory. Then at least half of the room is free, so that the list is seldom sorted.
+/// again and again take little memory. Then at least half of the room is unused, so that the list is seldom sorted.
 fn make_room(all: &mut Vec<(u64, &str)>) -> Result<(), AllocError>
     requires hashes { All (λ w. w.0 ≡ fnv w.1.now) all.old.items }
     ensures same { OnOk result (HaveSameTexts (map (λ w. w.1.now) all.new.items) (map (λ w. w.1.now) all.old.items)) }
@@ -231,8 +170,8 @@ pub fn put_filter(out: &mut Vec<u8>, bloom: &Bloom) -> Result<(), AllocError>
     Ok(())
 }
 
-/// The filter at the front of the bytes, of which the number of its words of 64 bits is kept alone, and the bytes
-/// behind it.
+/// The filter at the front of the bytes, of which only the number of its words of 64 bits is kept, and the bytes
+/// after it.
 pub fn take_filter(bytes: &[u8]) -> Result<(u32, &[u8]), Stop>
     ensures { Gives (λ x. (x.0, x.1.now)) result (front filter_item bytes.now) }
 {
@@ -248,7 +187,7 @@ fn take_steps(bytes: &[u8]) -> Result<(u32, &[u8]), Stop>
     Ok((count, rest))
 }
 
-/// The bytes behind so many numbers of eight bytes.
+/// The bytes after this many numbers of eight bytes.
 fn skip_u64s(count: u32, bytes: &[u8]) -> Result<&[u8], Stop>
     ensures { Gives (λ x. x.now) result (skipped count bytes.now) }
 {

@@ -2,12 +2,11 @@
 ghost use Rattle.std.specs.Prelude.{◌≡◌, ◌<◌, ◌^◌, IfOk, length, map, sum_by};
 
 use crate::hex_tests::{bytes_of, push_digits};
-use block_column::ValueColumn;
 use byte_format::Stop;
 use std::alloc::{AllocError, Global};
 use std::fmt::Write;
 use token_bloom::Bloom;
-use word_filter::{filter_of, filter_of_column, put_filter, take_filter};
+use word_filter::{filter_of, put_filter, take_filter};
 
 /// No filter is made of more bytes.
 const MOST_BYTES: usize = 4_194_304;
@@ -18,10 +17,6 @@ pub fn answer(alloc: Global, line: &str) -> Result<String, AllocError> {
         let bytes = bytes_of(alloc, digits)?;
         push_read(&mut answer, bytes.as_slice());
         return Ok(answer);
-    }
-    if let Some(list) = line.strip_prefix("column ") {
-        let values = values_of(alloc, list)?;
-        return column_made(alloc, values.as_slice());
     }
     if let Some(list) = line.strip_prefix("again ") {
         let many = repeated(alloc, list)?;
@@ -47,7 +42,7 @@ fn values_of(alloc: Global, list: &str) -> Result<Vec<&str>, AllocError>
     Ok(values)
 }
 
-/// The list behind the number at its front, so often.
+/// The list after the number at its front, so often.
 fn repeated(alloc: Global, list: &str) -> Result<String, AllocError> {
     let (times, list) = list.split_once(' ').unwrap_or(("", list));
     let mut many = String::from_str(alloc, list)?;
@@ -65,18 +60,6 @@ fn made(alloc: Global, values: &[&str]) -> Result<String, AllocError>
     shown(alloc, &bloom)
 }
 
-/// The kind of the column of these values and its filter, and whether that is the filter of the values.
-fn column_made(alloc: Global, values: &[&str]) -> Result<String, AllocError>
-    requires { sum_by (λ t. length t.now) values.now < 2 ^ 32 }
-{
-    let column = ValueColumn::try_of(alloc, values)?;
-    let bloom = filter_of_column(alloc, &column, values)?;
-    let other = filter_of(alloc, values)?;
-    let same = bloom.as_slice() == other.as_slice();
-    let filter = shown(alloc, &bloom)?;
-    format!(in alloc; "kind {}, {same}: {filter}", column.kind())
-}
-
 fn shown(alloc: Global, bloom: &Bloom) -> Result<String, AllocError>
     requires { length bloom.now < 2 ^ 32 }
 {
@@ -91,7 +74,7 @@ fn shown(alloc: Global, bloom: &Bloom) -> Result<String, AllocError>
 
 fn push_read(answer: &mut String, bytes: &[u8]) {
     let _ = match take_filter(bytes) {
-        Ok((words, rest)) => write!(answer, "{words} words, {} bytes behind", rest.len()),
+        Ok((words, rest)) => write!(answer, "{words} words, {} bytes after it", rest.len()),
         Err(Stop::Left(left)) => write!(answer, "{left} bytes from the damaged item on"),
         Err(Stop::Memory) => write!(answer, "no memory"),
     };

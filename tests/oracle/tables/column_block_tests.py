@@ -1,21 +1,16 @@
 """Blocks of rows (docs/BYTES.md, "Block"): what their heads and their rows say, their bytes, which bytes are blocks,
 and where others are damaged.
 
-A line `quick` asks how the code works inside, which no rule says: whether a block that is read is made of its columns,
-and not of its rows. `is_quick` says when. No second table has such a line. The first number of an answer says how
-often the block was opened, which the program does twice.
+The first number of an answer says how often the block was opened, which the program does twice.
 """
-from blocks import Numbered, is_block, names_of, numbered_of, put_block, put_keys, read_block, take_parts, values_of
-from byte_items import Damaged, Items, bytes_of, cut_once, damaged_copies, number_or, text, unsigned
+from blocks import Numbered, is_block, names_of, numbered_of, put_block, put_keys, read_block, values_of
+from byte_items import Damaged, bytes_of, cut_once, damaged_copies, number_or, text, unsigned
 from chance import lines_of, table
 from columns import DICTIONARY, INTEGERS, TEXTS, column_filter, kind_of, put_body, put_filter, put_texts
 from faults import Fault
-from rows import ROW, Row
-from tables.block_parts_tests import some_rows
+from rows import Row
+from tables.block_format_tests import some_rows
 from values import in_order
-from words import size
-
-QUICK_COLUMNS = 1000
 
 
 def answers(stdin):
@@ -24,13 +19,16 @@ def answers(stdin):
 
 def answer(line):
     call, rest = cut_once(line, " ")
-    if call in ("=", "quick="):
-        return (read if call == "=" else quick_read)(bytes_of(rest or ""))
-    if call in ("made", "wide", "quick-long") and rest is not None:
+    if call == "=":
+        return read(bytes_of(rest or ""))
+    if call in ("made", "wide") and rest is not None:
         one, other = cut_once(rest, " ")
-        return {"made": made, "wide": wide, "quick-long": quick_long}[call](one, other or "")
-    if call in ("quick", "head") and rest is not None:
-        return of_rows(rest, quick if call == "quick" else head)
+        return {"made": made, "wide": wide}[call](one, other or "")
+    if call == "head" and rest is not None:
+        return of_rows(rest, head)
+    if call == "batch" and rest is not None:
+        number, line = cut_once(rest, " ")
+        return of_rows(line or "", lambda rows: in_batch(rows, number_or(number, 0, 2**64)))
     return of_rows(line, lambda rows: shown(rows) + put_block(rows).hex())
 
 
@@ -73,8 +71,16 @@ def shown(rows):
 
 
 def head(rows):
-    row = rows[0].row
-    return f"{row.stream_text()} {row.stream_id()} {outline(rows)}{filters(rows)}"
+    size = sum(len(text.encode("utf-8")) for numbered in rows for pair in numbered.row.fields.items() for text in pair)
+    return f"{outline(rows)} {size}{filters(rows)}"
+
+
+def in_batch(rows, number):
+    """Answers for the rows under another number of their batch."""
+    if len({numbered.batch for numbered in rows}) > 1:
+        return "several batches"
+    others = [Numbered(numbered.row, number, numbered.place) for numbered in rows]
+    return f"{shown(others)}{put_block(others).hex()} {shown(rows)}"
 
 
 def read(data):
@@ -115,38 +121,6 @@ def wide(count, columns):
         except Fault:
             return "no row"
     return large(rows) if rows else "no row"
-
-
-def quick_long(one, other):
-    """Answers for two rows with a value of one byte each, and a longer value of this many bytes."""
-    values = ["y" * number_or(count, 0) for count in (one, other)]
-    return of_rows(f"0 1 0||full=x,a={values[0]};0 1 1||full=x,b={values[1]}", quick)
-
-
-def quick(rows):
-    return quick_read(put_block(rows))
-
-
-def quick_read(data):
-    """Answers whether a block is read by its columns, or where the first item is that has not its form."""
-    items = Items(data)
-    try:
-        parts = take_parts(items)
-    except Damaged as fault:
-        return f"damaged at {fault.at}"
-    try:
-        read_block(data)
-    except Damaged:
-        return "by rows"
-    return "quickly" if is_quick(parts) else "by rows"
-
-
-def is_quick(parts):
-    """Returns whether a block has no labels, a column with a value in each row, at most 1,000 columns, and the longest
-    names and values of all columns together keep the limit of one row."""
-    weight = sum(size(name) + max(map(size, values)) for name, _, values in parts.columns)
-    full = any(all(values) for _, _, values in parts.columns)
-    return not parts.labels and full and len(parts.columns) <= QUICK_COLUMNS and weight <= ROW
 
 
 def row_line(numbered):
@@ -236,6 +210,7 @@ def cases(random):
         rows = some_rows(random)
         lines += [";".join(map(row_line, rows)), ";".join(map(row_line, random.sample(rows, len(rows))))]
         lines.append("head " + lines[-2])
+        lines.append(f"batch {random.choice([0, 7, 2**64 - 1])} {lines[-3]}")
         lines += [f"= {copy.hex()}" for copy in [put_block(rows), *damaged_copies(put_block(rows)[:200], random, 20)]]
         for _ in range(12):
             draft = Draft(rows)

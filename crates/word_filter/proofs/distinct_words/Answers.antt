@@ -5,8 +5,8 @@ use Rattle.word_filter.proofs.distinct_words.Goals as goal
 
 pub returns-clause-words : goal.returns-clause-words
 returns-clause-words c =
-    same-distinct (map text_in c.keep_each_once.new.words.items) (map text_in c.in_ok-words.words.items)
-    c.in_ok-keep_each_once.ensures.same
+    same-distinct (map text_in c.keep_once.new.words.items) (map text_in c.in_ok-words.words.items)
+    c.keep_once.ensures.same
     ∙ c.in_ok-words.ensures.words
 
 pub returns-clause-few : goal.returns-clause-few

@@ -1,7 +1,7 @@
 use Rattle.std.proofs.Common.{◌≡◌, ◌∙◌, ℕ, List, [], length, map, arith, ap}
 use Rattle.std.specs.List.{fold}
 use Rattle.std.proofs.lemmas.List.{length-map}
-use Rattle.block_column.specs.Kinds.{distinct}
+use Rattle.block_model.specs.Distinct.{distinct}
 use Rattle.token_bloom.specs.Filter.{empty_filter, with_word}
 use Rattle.word_filter.proofs.FilterLaws.{small-filter}
 use Rattle.word_filter.proofs.Kept.{leaves_none_out}

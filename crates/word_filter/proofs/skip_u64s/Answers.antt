@@ -1,10 +1,10 @@
 use Rattle.std.proofs.Common.{Ok, ◌++◌, ◌∷◌, []}
 use Rattle.std.specs.Int.{w64}
 use Rattle.std.proofs.lemmas.Result.{err_from_is_err_and}
-use Rattle.block_column.proofs.BodyLaws.{stops-behind}
 use Rattle.byte_format.specs.Format.{many, front}
 use Rattle.byte_format.specs.Items.{number}
 use Rattle.byte_format.proofs.Turns.{turn, turn-stops}
+use Rattle.word_filter.proofs.FilterLaws.{stops-behind}
 use Rattle.word_filter.proofs.skip_u64s.Goals as goal
 
 pub returns-in_err-after : goal.returns-in_err-after

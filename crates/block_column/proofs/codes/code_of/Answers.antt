@@ -1,6 +1,6 @@
 use Rattle.std.proofs.Common.{◌≡◌, ◌∙◌, [], get_or, true, false, sym, ap, arith, rules}
 use Rattle.std.specs.Prelude.{bytes_eq}
-use Rattle.block_column.proofs.Distinct.{read-as, search-ends, search-on}
+use Rattle.block_model.proofs.Distinct.{read-as, search-ends, search-on}
 use Rattle.block_column.proofs.codes.code_of.Goals as goal
 
 pub returns-then-is_value : goal.returns-then-is_value

@@ -1,7 +1,7 @@
 use Rattle.std.proofs.Common.{◌≡◌, ◌+◌, drop, true}
 use Rattle.std.specs.Prelude.{bytes_eq}
 use Rattle.std.specs.List.{list_any}
-use Rattle.block_column.specs.Kinds.{code_of}
+use Rattle.block_model.specs.Distinct.{code_of}
 use Rattle.block_column.proofs.codes.code_of.Given as goal
 
 abbrev pub invariant-loop-i : goal.invariant-loop-i

@@ -1,6 +1,6 @@
 use Rattle.std.proofs.Common.{◌∙◌, ◌++◌, ◌∷◌, ℕ, List, [], Bor, get_or, map, take, sym, ap}
 use Rattle.std.proofs.lemmas.List.{map_more, map-append}
-use Rattle.block_column.specs.Kinds.{code_of}
+use Rattle.block_model.specs.Distinct.{code_of}
 use Rattle.block_column.proofs.codes.codes_of.Goals as goal
 
 pub loop-value-preserved : goal.loop-value-preserved

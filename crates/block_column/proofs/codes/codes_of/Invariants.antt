@@ -1,5 +1,5 @@
 use Rattle.std.proofs.Common.{◌≡◌, length, map, take}
-use Rattle.block_column.specs.Kinds.{code_of}
+use Rattle.block_model.specs.Distinct.{code_of}
 use Rattle.block_column.proofs.codes.codes_of.Given as goal
 
 abbrev pub invariant-loop-value : goal.invariant-loop-value

@@ -1,7 +1,7 @@
 use Rattle.std.proofs.Common.{◌≡◌, ◌∙◌, ◌<◌, length, sym, rules}
 use Rattle.std.proofs.lemmas.Slice.Eq.{bytes_eq-Decides}
-use Rattle.block_column.proofs.Distinct.{read-as}
-use Rattle.block_column.proofs.Same.{code-at}
+use Rattle.block_model.proofs.Distinct.{read-as}
+use Rattle.block_model.proofs.Same.{code-at}
 use Rattle.block_column.proofs.codes.is_at.Goals as goal
 
 pub returns : goal.returns

@@ -1,10 +1,10 @@
 use Rattle.std.proofs.Common.{◌≡◌, ◌∙◌, ℕ, List, Bor, ap, map, sym}
 use Rattle.std.specs.BTreeSet.{insert_key}
 use Rattle.log_model.specs.Field.{bytes_cmp}
-use Rattle.block_column.specs.Kinds.{is_listed}
-use Rattle.block_column.proofs.Distinct.{map-put, put-has}
-use Rattle.block_column.proofs.Rising.{put-again}
-use Rattle.block_column.proofs.Same.{each-listed, listed-kept}
+use Rattle.block_model.specs.Distinct.{is_listed}
+use Rattle.block_model.proofs.Distinct.{map-put, put-has}
+use Rattle.block_model.proofs.Rising.{put-again}
+use Rattle.block_model.proofs.Same.{each-listed, listed-kept}
 use Rattle.block_column.proofs.codes.put_value.Goals as goal
 
 abbrev now_of : Bor (List ℕ) → List ℕ

@@ -6,9 +6,9 @@ use Rattle.std.proofs.lemmas.Bool.{lt-leb, le-leb}
 use Rattle.std.proofs.lemmas.List.{length-map}
 use Rattle.byte_format.proofs.Cases.{second_false}
 use Rattle.log_model.specs.Field.{bytes_cmp}
-use Rattle.block_column.specs.Kinds.{distinct, is_short}
-use Rattle.block_column.proofs.Distinct.{first_false, one-text-fails, one-text-more, put-no-fewer, put-one-more}
-use Rattle.block_column.proofs.Rising.{distinct-rising}
+use Rattle.block_model.specs.Distinct.{distinct, is_short}
+use Rattle.block_model.proofs.Distinct.{first_false, one-text-fails, one-text-more, put-no-fewer, put-one-more}
+use Rattle.block_model.proofs.Rising.{distinct-rising}
 use Rattle.block_column.proofs.codes.set_with.Goals as goal
 
 abbrev now_of : Bor (List ℕ) → List ℕ

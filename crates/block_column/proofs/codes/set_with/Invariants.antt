@@ -1,6 +1,6 @@
 use Rattle.std.proofs.Common.{◌≡◌, ◌≤◌, ◌∷◌, length, map, take, true}
 use Rattle.std.specs.List.{list_all}
-use Rattle.block_column.specs.Kinds.{distinct, is_listed, is_short}
+use Rattle.block_model.specs.Distinct.{distinct, is_listed, is_short}
 use Rattle.block_column.proofs.codes.set_with.Given as goal
 
 abbrev pub invariant-loop-value : goal.invariant-loop-value

@@ -4,8 +4,8 @@ use Rattle.std.specs.List.{list_all}
 use Rattle.std.proofs.lemmas.Bool.{lt-leb}
 use Rattle.std.proofs.lemmas.List.Folds.{list_all-map}
 use Rattle.byte_format.proofs.Cases.{second_false}
-use Rattle.block_column.specs.Kinds.{distinct, is_short}
-use Rattle.block_column.proofs.Distinct.{first_false}
+use Rattle.block_model.specs.Distinct.{distinct, is_short}
+use Rattle.block_model.proofs.Distinct.{first_false}
 use Rattle.block_column.proofs.kept.are_too_many.Goals as goal
 
 abbrev now_of : Bor (List ℕ) → List ℕ

@@ -1,11 +1,10 @@
 use Rattle.std.proofs.Common.{◌≡◌, ◌∙◌, ℕ, List, Bor, length, map, true, false, sym, ap, subst, arith}
 use Rattle.std.proofs.lemmas.List.{length-map}
 use Rattle.block_column.specs.Cells.{IsFirst}
-use Rattle.block_column.specs.Kinds.{are_integers, code_of, distinct, fits_dictionary, integers_in}
+use Rattle.block_model.specs.Distinct.{distinct}
+use Rattle.block_column.specs.Kinds.{are_integers, fits_dictionary, integers_in}
 use Rattle.block_column.specs.declared.cells.Cells.TheVariants as cells
-use Rattle.block_column.proofs.Distinct.{listed-by}
-use Rattle.block_column.proofs.Rising.{distinct-rising}
-use Rattle.block_column.proofs.KindLaws.{first-constant, first-dictionary, first-integers, first-plain, sizes}
+use Rattle.block_column.proofs.KindLaws.{first-constant, first-integers, first-plain, sizes}
 use Rattle.block_column.proofs.kinds.first_kind.Goals as goal
 
 abbrev now_of : Bor (List ℕ) → List ℕ
@@ -39,39 +38,22 @@ returns-in-Some-2-clause-first c =
     (first-integers ts c.in_ok-try_of-2.field-0 c.in_default.ensures.none m.0
     (c.in_ok-try_of-2.ensures ∙ c.as_slice.ensures.value ∙ m.1)).1
 
-pub codes_of-requires-clause-listed : goal.codes_of-requires-clause-listed
-codes_of-requires-clause-listed c k d lt =
-    let ts = map now_of c.args.values.now in
-    let m : (fits_dictionary ts ≡ true) × (c.in-Some-3.texts.items ≡ distinct ts) = rw c.in-Some-3.is at
-    c.in_ok-texts.ensures in
-    rw (c.as_slice-in-Some-3.ensures.value, m.1) (listed-by now_of c.args.values.now k d lt)
+pub dictionary_of-requires-clause-none : goal.dictionary_of-requires-clause-none
+dictionary_of-requires-clause-none c = rw c.in_default-2.is at c.in_ok-ints.ensures
 
-pub codes_of-requires-clause-rising : goal.codes_of-requires-clause-rising
-codes_of-requires-clause-rising c =
+pub dictionary_of-requires-clause-fits : goal.dictionary_of-requires-clause-fits
+dictionary_of-requires-clause-fits c =
     let ts = map now_of c.args.values.now in
     let m : (fits_dictionary ts ≡ true) × (c.in-Some-3.texts.items ≡ distinct ts) = rw c.in-Some-3.is at
     c.in_ok-texts.ensures in
-    rw (c.as_slice-in-Some-3.ensures.value, m.1) (distinct-rising ts)
+    m.0
 
-pub returns-in-Some-3-clause-texts : goal.returns-in-Some-3-clause-texts
-returns-in-Some-3-clause-texts c =
+pub dictionary_of-requires-clause-texts : goal.dictionary_of-requires-clause-texts
+dictionary_of-requires-clause-texts c =
     let ts = map now_of c.args.values.now in
-    let none : are_integers ts ≡ false = rw c.in_default-2.is at c.in_ok-ints.ensures in
     let m : (fits_dictionary ts ≡ true) × (c.in-Some-3.texts.items ≡ distinct ts) = rw c.in-Some-3.is at
     c.in_ok-texts.ensures in
-    (first-dictionary ts c.in-Some-3.texts.items c.in_ok-codes.codes.items c.in_default.ensures.none none m.0 m.1
-    (c.in_ok-codes.ensures ∙ ap (λ (l : List (List ℕ)). map (code_of l) ts) c.as_slice-in-Some-3.ensures.value)).texts
-
-pub returns-in-Some-3-clause-first : goal.returns-in-Some-3-clause-first
-returns-in-Some-3-clause-first c =
-    let ts = map now_of c.args.values.now in
-    let none : are_integers ts ≡ false = rw c.in_default-2.is at c.in_ok-ints.ensures in
-    let m : (fits_dictionary ts ≡ true) × (c.in-Some-3.texts.items ≡ distinct ts) = rw c.in-Some-3.is at
-    c.in_ok-texts.ensures in
-    let d = first-dictionary ts c.in-Some-3.texts.items c.in_ok-codes.codes.items c.in_default.ensures.none none m.0
-    m.1
-    (c.in_ok-codes.ensures ∙ ap (λ (l : List (List ℕ)). map (code_of l) ts) c.as_slice-in-Some-3.ensures.value) in
-    record { codes = d.below; narrow = (d.few, d.short); each = d.each; kind = d.kind; body = d.body }
+    c.as_slice-in-Some-3.ensures.value ∙ m.1
 
 pub returns-clause-first : goal.returns-clause-first
 returns-clause-first c =

@@ -1,6 +1,6 @@
 use Rattle.std.proofs.Common.{◌+◌, ◌<◌, ℕ, List, [], Bor, length}
 use Rattle.std.proofs.Common.{arith}
-use Rattle.block_column.proofs.Distinct.{no-fewer}
+use Rattle.block_model.proofs.Distinct.{no-fewer}
 use Rattle.block_column.proofs.Apart.{count-on, one-more-taken}
 use Rattle.block_column.proofs.many.are_many.Goals as goal
 

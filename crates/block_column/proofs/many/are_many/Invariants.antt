@@ -1,7 +1,7 @@
 use Rattle.std.proofs.Common.{◌≡◌, ◌≤◌, length, map, take, true}
 use Rattle.std.specs.List.{list_all}
-use Rattle.block_column.specs.Kinds.{distinct}
-use Rattle.block_column.specs.Tags.{has_slot}
+use Rattle.block_model.specs.Distinct.{distinct}
+use Rattle.block_model.specs.Tags.{has_slot}
 use Rattle.block_column.proofs.many.are_many.Given as goal
 
 abbrev pub invariant-loop-i : goal.invariant-loop-i

@@ -2,10 +2,9 @@ use Rattle.std.proofs.Common.{◌≡◌, ◌∙◌, ◌<◌, ◌≤◌, ◌^◌,
 use Rattle.std.specs.Prelude.{sum_by}
 use Rattle.std.specs.List.{list_all}
 use Rattle.std.proofs.lemmas.List.Sums.{sum_by-cons}
-use Rattle.block_column.specs.Cells.{text_at}
-use Rattle.block_column.specs.Kinds.{distinct, is_short}
+use Rattle.block_model.specs.Distinct.{distinct, is_short, text_at}
 use Rattle.block_column.proofs.KindLaws.{sizes}
-use Rattle.block_column.proofs.Same.{one-distinct, short-size}
+use Rattle.block_model.proofs.Same.{one-distinct, short-size}
 use Rattle.block_column.proofs.members.members_of.Goals as goal
 
 abbrev now_of : Bor (List ℕ) → List ℕ
@@ -33,22 +32,22 @@ returns-in_ok-alone-in-Constant-clause-small c =
 
 pub returns-in_ok-listed-in-Dictionary-clause-each : goal.returns-in_ok-listed-in-Dictionary-clause-each
 returns-in_ok-listed-in-Dictionary-clause-each c =
-    let each : c.in-Dictionary.texts.items ≡ distinct (map (text_at c.in-Dictionary.texts.items)
+    let each : c.in-Dictionary.texts ≡ distinct (map (text_at c.in-Dictionary.texts)
     c.in-Dictionary.field-1.items) = (rw c.in-Dictionary.is at c.requires.each) in
-    let texts : map now_of c.in_ok-listed-in-Dictionary.listed.items ≡ c.in-Dictionary.texts.items = c.in_ok-listed-in-Dictionary.ensures
-    ∙ c.as_slice.ensures.value in
+    let texts : map now_of c.in_ok-listed-in-Dictionary.listed.items ≡ c.in-Dictionary.texts = c.in_ok-listed-in-Dictionary.ensures
+    in
     rw (c.in-Dictionary.is, texts) each
 
 pub returns-in_ok-listed-in-Dictionary-clause-small : goal.returns-in_ok-listed-in-Dictionary-clause-small
 returns-in_ok-listed-in-Dictionary-clause-small c =
-    let narrow : (length c.in-Dictionary.texts.items ≤ 255) × (list_all is_short c.in-Dictionary.texts.items ≡ true) =
+    let narrow : (length c.in-Dictionary.texts ≤ 255) × (list_all is_short c.in-Dictionary.texts ≡ true) =
     (rw c.in-Dictionary.is at c.requires.narrow) in
-    let texts : map now_of c.in_ok-listed-in-Dictionary.listed.items ≡ c.in-Dictionary.texts.items = c.in_ok-listed-in-Dictionary.ensures
-    ∙ c.as_slice.ensures.value in
+    let texts : map now_of c.in_ok-listed-in-Dictionary.listed.items ≡ c.in-Dictionary.texts = c.in_ok-listed-in-Dictionary.ensures
+    in
     omega (
       arith,
       sizes now_of c.in_ok-listed-in-Dictionary.listed.items,
       ap (sum_by length) texts,
-      short-size c.in-Dictionary.texts.items narrow.1,
+      short-size c.in-Dictionary.texts narrow.1,
       narrow.0,
     )

@@ -4,5 +4,5 @@ use Rattle.std.specs.List.{flat_map}
 use Rattle.byte_format.specs.Written.{text_bytes}
 use Rattle.block_column.proofs.put.put_texts.Given as goal
 
-abbrev pub invariant-loop-text : goal.invariant-loop-text
-invariant-loop-text l = l.out.items ≡ l.initial.out.items ++ flat_map (text_bytes w16) (take l.text-index l.texts)
+abbrev pub invariant-loop-i : goal.invariant-loop-i
+invariant-loop-i l = l.out.items ≡ l.initial.out.items ++ flat_map (text_bytes w16) (take l.i l.texts)

@@ -1,6 +1,6 @@
 use Rattle.std.proofs.Common.{◌∙◌, ◌++◌, ◌∷◌, ◌<◌, ℕ, List, [], Bor, ◌+◌, ap, length, map, sym, rules}
 use Rattle.std.proofs.lemmas.List.{length-map, map-append, take-map}
-use Rattle.block_column.specs.Cells.{text_at}
+use Rattle.block_model.specs.Distinct.{text_at}
 use Rattle.block_column.proofs.Whole.{one-more}
 use Rattle.block_column.proofs.row_texts.coded_texts.Goals as goal
 

@@ -1,5 +1,5 @@
 use Rattle.std.proofs.Common.{◌≡◌, map, take}
-use Rattle.block_column.specs.Cells.{text_at}
+use Rattle.block_model.specs.Distinct.{text_at}
 use Rattle.block_column.proofs.row_texts.coded_texts.Given as goal
 
 abbrev pub invariant-loop-i : goal.invariant-loop-i

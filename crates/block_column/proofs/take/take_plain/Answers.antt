@@ -1,5 +1,5 @@
 use Rattle.col_codec.specs.Texts.{text_spelling}
-use Rattle.col_codec.proofs.TextLaws.{writing-is}
+use Rattle.col_codec.specs.TextLaws.{writing-is}
 use Rattle.block_column.proofs.take.take_plain.Goals as goal
 
 pub returns-clause-count : goal.returns-clause-count

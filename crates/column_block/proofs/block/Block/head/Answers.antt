@@ -1,11 +1,11 @@
-use Rattle.std.proofs.Common.{List, subst}
+use Rattle.std.proofs.Common.{◌∙◌, List, ap, subst}
 use Rattle.log_model.specs.History.{Numbered}
-use Rattle.column_block.specs.Held.{IsHeld}
-use Rattle.column_block.proofs.SpanLaws.{span}
+use Rattle.block_body.specs.Outlines.{IsSpan, outline_of}
 use Rattle.column_block.proofs.block.Block.head.Goals as goal
+
+pub returns-clause-outline : goal.returns-clause-outline
+returns-clause-outline c = c.head.ensures.outline ∙ ap outline_of c.self.view_is
 
 pub returns-clause-times : goal.returns-clause-times
 returns-clause-times c =
-    let held = subst (λ (r : List Numbered). IsHeld r c.self.inside.head c.self.inside.keys.items
-    c.self.inside.columns.items) c.self.view_is c.self.invariant in
-    rw held.head_is (span c.args.self.now held.block)
+    subst (λ (rows : List Numbered). IsSpan rows c.head.result.now) c.self.view_is c.head.ensures.times

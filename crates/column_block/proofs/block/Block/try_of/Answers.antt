@@ -1,18 +1,15 @@
-use Rattle.std.proofs.Common.{◌∙◌, ap, map}
-use Rattle.row_columns.specs.Columns.{values_of}
-use Rattle.column_block.proofs.HeldLaws.{held}
+use Rattle.std.proofs.Common.{◌∙◌, subst, sym}
+use Rattle.std.specs.List.{AllByRecursion}
+use Rattle.block_format.specs.Rows.{IsBlock}
+use Rattle.block_model.specs.Keys.{IsNumbered}
 use Rattle.column_block.proofs.block.Block.try_of.Goals as goal
 
-pub invariant_of-result : goal.invariant_of-result
-invariant_of-result c =
-    let names = c.as_slice.ensures.value ∙ c.in_ok-names.ensures.names in
-    let columns = c.in_ok-heads.ensures.values ∙ ap (map (values_of c.args.rows.now)) names in
-    (held c.args.rows.now c.in_ok-head.head c.in_ok-keys.keys.items c.in_ok-heads.columns.items c.requires
-    c.in_ok-keys.ensures.rules c.in_ok-names.ensures.texts c.in_ok-head.ensures c.in_ok-keys.ensures.keys columns).1
+pub of_lent-requires : goal.of_lent-requires
+of_lent-requires c = subst IsBlock (sym (c.as_slice.ensures.value ∙ c.in_ok-lent.ensures)) c.requires
 
 pub returns-clause-rows : goal.returns-clause-rows
-returns-clause-rows c =
-    let names = c.as_slice.ensures.value ∙ c.in_ok-names.ensures.names in
-    let columns = c.in_ok-heads.ensures.values ∙ ap (map (values_of c.args.rows.now)) names in
-    (held c.args.rows.now c.in_ok-head.head c.in_ok-keys.keys.items c.in_ok-heads.columns.items c.requires
-    c.in_ok-keys.ensures.rules c.in_ok-names.ensures.texts c.in_ok-head.ensures c.in_ok-keys.ensures.keys columns).0
+returns-clause-rows c = c.in_ok-block.ensures.rows ∙ c.as_slice.ensures.value ∙ c.in_ok-lent.ensures
+
+pub returns-clause-rules : goal.returns-clause-rules
+returns-clause-rules c =
+    subst (AllByRecursion IsNumbered) (c.as_slice.ensures.value ∙ c.in_ok-lent.ensures) c.in_ok-block.ensures.rules

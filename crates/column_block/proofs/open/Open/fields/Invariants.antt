@@ -1,8 +1,8 @@
 use Rattle.std.proofs.Common.{◌≡◌, [], Some, map, slice_get, take}
 use Rattle.log_model.specs.Field.{set_all}
 use Rattle.log_model.specs.History.{Numbered}
-use Rattle.row_columns.specs.Columns.{names_of}
-use Rattle.row_columns.proofs.FieldLaws.{value_named}
+use Rattle.block_model.specs.Columns.{names_of}
+use Rattle.block_model.proofs.FieldLaws.{value_named}
 use Rattle.column_block.proofs.open.Open.fields.Given as goal
 
 abbrev pub invariant-loop-c : goal.invariant-loop-c

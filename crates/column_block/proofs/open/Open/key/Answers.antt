@@ -1,17 +1,15 @@
-use Rattle.std.proofs.Common.{◌∙◌, ℤ, List, FitsSigned, Some, ap, rules, subst, sym, w64}
+use Rattle.std.proofs.Common.{◌∙◌, ℤ, List, FitsSigned, Some, ap, rules, slice_get, sym, w64}
 use Rattle.std.proofs.lemmas.Int.{to_z-of_z}
 use Rattle.log_model.specs.History.{Numbered}
-use Rattle.row_columns.specs.declared.keys.Key.{Key}
-use Rattle.column_block.specs.Held.{IsHeld}
+use Rattle.block_model.specs.Keys.{keys_of}
+use Rattle.block_model.specs.declared.keys.Key.{Key}
 use Rattle.column_block.proofs.OpenLaws.{key-at}
 use Rattle.column_block.proofs.open.Open.key.Goals as goal
 
 pub returns : goal.returns
 returns c =
-    let held = subst (λ (r : List Numbered). IsHeld r c.block.inside.head c.block.inside.keys.items
-    c.block.inside.columns.items) (c.block.view_is ∙ c.self.view_is) c.block.invariant in
-    let key : Key = c.index-key.result.now in
-    let small : FitsSigned w64 c.index-key.result.now.time = search rules in
-    key-at c.args.self.now c.block.inside.head c.block.inside.keys.items c.block.inside.columns.items c.args.i
-    c.index-key.result.now held c.requires c.index-key.ensures
-    ∙ ap (λ (t : ℤ). Some (t, key.batch, key.place)) (sym (to_z-of_z w64 c.index-key.result.now.time small))
+    let key : Key = c.key-key.result in
+    let small : FitsSigned w64 c.key-key.result.time = search rules in
+    key-at c.args.self.now c.args.i c.key-key.result c.requires (ap (λ (rows : List Numbered). slice_get (keys_of rows)
+    c.args.i) (sym c.self.view_is) ∙ c.key-key.ensures)
+    ∙ ap (λ (t : ℤ). Some (t, key.batch, key.place)) (sym (to_z-of_z w64 c.key-key.result.time small))

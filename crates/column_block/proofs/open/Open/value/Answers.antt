@@ -1,18 +1,17 @@
-use Rattle.std.proofs.Common.{◌∙◌, ℕ, List, [], ap, arith, get_or, length, slice_get, subst, sym}
+use Rattle.std.proofs.Common.{◌≡◌, ◌∙◌, ℕ, List, [], ap, arith, get_or, length, map, slice_get, sym}
 use Rattle.std.proofs.lemmas.List.{length-map}
 use Rattle.log_model.specs.Field.{field_value}
 use Rattle.log_model.specs.History.{Numbered}
-use Rattle.row_columns.specs.Columns.{names_of}
-use Rattle.column_block.specs.Held.{IsHeld}
+use Rattle.block_model.specs.Columns.{names_of, values_of}
 use Rattle.column_block.proofs.OpenLaws.{values-at}
 use Rattle.column_block.proofs.open.Open.value.Goals as goal
 
 pub value-requires : goal.value-requires
 value-requires c =
-    let held = subst (λ (r : List Numbered). IsHeld r c.block.inside.head c.block.inside.keys.items
-    c.block.inside.columns.items) (c.block.view_is ∙ c.self.view_is) c.block.invariant in
-    let values = values-at c.args.self.now c.block.inside.head c.block.inside.keys.items c.block.inside.columns.items
-    c.args.c c.index.result.now held c.requires.column c.index.ensures in
+    let columns : c.columns-columns.result.now ≡ map (values_of c.args.self.now) (names_of c.args.self.now) =
+    c.columns-columns.ensures ∙ ap (λ (rows : List Numbered). map (values_of rows) (names_of rows)) c.self.view_is in
+    let values = values-at c.args.self.now c.columns-columns.result.now c.args.c c.index-columns-c.result columns
+    c.requires.column c.index-columns-c.is in
     omega (
       arith,
       ap length values,
@@ -23,8 +22,8 @@ value-requires c =
 
 pub returns : goal.returns
 returns c =
-    let held = subst (λ (r : List Numbered). IsHeld r c.block.inside.head c.block.inside.keys.items
-    c.block.inside.columns.items) (c.block.view_is ∙ c.self.view_is) c.block.invariant in
-    let values = values-at c.args.self.now c.block.inside.head c.block.inside.keys.items c.block.inside.columns.items
-    c.args.c c.index.result.now held c.requires.column c.index.ensures in
+    let columns : c.columns-columns.result.now ≡ map (values_of c.args.self.now) (names_of c.args.self.now) =
+    c.columns-columns.ensures ∙ ap (λ (rows : List Numbered). map (values_of rows) (names_of rows)) c.self.view_is in
+    let values = values-at c.args.self.now c.columns-columns.result.now c.args.c c.index-columns-c.result columns
+    c.requires.column c.index-columns-c.is in
     ap (λ (l : List (List ℕ)). slice_get l c.args.i) (sym values) ∙ c.value.ensures

@@ -1,0 +1,7 @@
+pub mod HeldLaws
+pub mod OutlineLaws
+pub mod SpellingLaws
+pub mod SpanLaws
+pub mod StoreLaws
+pub mod BatchLaws
+pub mod WeightLaws

@@ -1,0 +1,74 @@
+//! The columns of a block.
+
+ghost use Rattle.std.specs.Prelude.{◌≡◌, ◌<◌, ◌≤◌, ◌^◌, IfOk, length, map, sum_by};
+ghost use Rattle.word_filter.specs.Words.{filter_of};
+ghost use Rattle.block_model.specs.Columns.{values_of};
+ghost use Rattle.block_body.specs.Outlines.{filter_named};
+
+use crate::head::ColumnHead;
+use block_column::ValueColumn;
+use block_model::{NumberedRef, column_values};
+use std::alloc::{AllocError, Global};
+use token_bloom::Bloom;
+use vl_row::Text;
+use word_filter::filter_of;
+
+/// The columns of these names: their heads, and their values.
+pub(crate) fn columns_of(
+    alloc: Global,
+    rows: &[NumberedRef<'_>],
+    names: &[Text],
+) -> Result<(Vec<ColumnHead>, Vec<ValueColumn>), AllocError>
+    requires { length rows.now ≤ 4096 }
+    ensures heads { IfOk result (λ x. x.0.items ≡ map (filter_named rows.now) names.now) }
+    ensures values { IfOk result (λ x. x.1.items ≡ map (values_of rows.now) names.now) }
+{
+    let mut heads = Vec::with_capacity(alloc, names.len())?;
+    let mut columns = Vec::with_capacity(alloc, names.len())?;
+    for name in names {
+        let (head, column) = column_of(alloc, rows, name)?;
+        heads.push(head)?;
+        columns.push(column)?;
+    }
+    Ok((heads, columns))
+}
+
+fn column_of(
+    alloc: Global,
+    rows: &[NumberedRef<'_>],
+    name: &Text,
+) -> Result<(ColumnHead, ValueColumn), AllocError>
+    requires { length rows.now ≤ 4096 }
+    ensures head { IfOk result (λ x. x.0 ≡ filter_named rows.now name.now) }
+    ensures values { IfOk result (λ x. x.1 ≡ values_of rows.now name.now) }
+{
+    let values = column_values(alloc, rows, name.as_str())?;
+    let column = ValueColumn::try_of(alloc, values.as_slice())?;
+    let bloom = filter_of_column(alloc, &column, values.as_slice())?;
+    let name = name.try_copy(alloc)?;
+    Ok((ColumnHead::new(name, bloom), column))
+}
+
+/// The filter of the words of a column's values, whose texts are at hand. Only distinct values are searched for words
+/// where the column holds those.
+pub fn filter_of_column(
+    alloc: Global,
+    column: &ValueColumn,
+    values: &[&str],
+) -> Result<Bloom, AllocError>
+    requires values { map (λ t. t.now) values.now ≡ column.now }
+    requires small { sum_by length column.now < 2 ^ 32 }
+    ensures filter { IfOk result (λ bloom. bloom ≡ filter_of column.now) }
+    ensures small { IfOk result (λ bloom. length bloom < 2 ^ 32) }
+{
+    match column.members(alloc)? {
+        Some(members) => {
+            let bloom = filter_of(alloc, members.as_slice())?;
+            Ok(bloom)
+        }
+        None => {
+            let bloom = filter_of(alloc, values)?;
+            Ok(bloom)
+        }
+    }
+}

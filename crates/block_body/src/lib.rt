@@ -1,0 +1,12 @@
+//! What a block holds: what is known of it without its values, and its keys and columns, which copies share.
+#![tactic(auto)]
+
+mod body;
+mod columns;
+mod head;
+mod stored;
+mod write;
+
+pub use columns::filter_of_column;
+pub use head::{ColumnHead, Extent, Head};
+pub use stored::StoredRows;

@@ -1,0 +1,145 @@
+//! Rows of a block, held by columns.
+
+ghost use Rattle.std.specs.Prelude.{◌≡◌, ◌<◌, ◌++◌, IfOk, OnOk, Some, length, map, slice_get};
+ghost use Rattle.std.specs.List.{AllByRecursion};
+ghost use Rattle.byte_format.specs.Spelling.{HasSpelling};
+ghost use Rattle.log_model.specs.History.{AreOfOneBatch, with_batch};
+ghost use Rattle.block_model.specs.Columns.{names_of, values_of};
+ghost use Rattle.block_model.specs.Keys.{IsNumbered, keys_of};
+ghost use Rattle.block_format.specs.Reading.{block_writing};
+ghost use Rattle.block_format.specs.Rows.{IsBlock};
+ghost use Rattle.block_format.specs.Spelling.{block_bytes};
+ghost use Rattle.block_body.specs.Held.{IsHeld, rows_in};
+ghost use Rattle.block_body.specs.Outlines.{IsSpan, outline_of};
+
+use crate::body::{Batches, Body, batches_of, body_of};
+use crate::columns::columns_of;
+use crate::head::Head;
+use block_column::ValueColumn;
+use block_model::{Key, NumberedRef, column_names, row_keys};
+use std::alloc::{AllocError, Global};
+use std::marker::Model;
+use std::sync::Arc;
+
+/// Rows of one stream, in order of time, batch and place, held by columns. Copies share what they hold.
+///
+/// A contract sees them as the list of the rows with their numbers.
+#[derive(Drop)]
+pub struct StoredRows {
+    head: Head,
+    body: Arc<Body>,
+    batches: Batches,
+}
+
+impl Model for StoredRows {
+    ghost use Rattle.std.specs.Prelude.{List};
+    ghost use Rattle.std.specs.Arc.{arc_value};
+    ghost use Rattle.log_model.specs.History.{Numbered as NumberedRow};
+    ghost use Rattle.block_body.specs.Held.{IsStored, rows_held};
+
+    ghost Value = { List NumberedRow };
+
+    ghost view = { λ b. rows_held b.head (arc_value b.body) b.batches };
+
+    ghost invariant = { λ b.
+        IsStored (rows_held b.head (arc_value b.body) b.batches) b.head (arc_value b.body) b.batches };
+}
+
+impl StoredRows {
+    /// Holds these rows, which are lent.
+    pub fn of_lent(alloc: Global, rows: &[NumberedRef<'_>]) -> Result<StoredRows, AllocError>
+        requires { IsBlock rows.now }
+        ensures rows { IfOk result (λ stored. stored ≡ rows.now) }
+        ensures rules { IfOk result (λ stored. AllByRecursion IsNumbered rows.now) }
+    {
+        let keys = row_keys(alloc, rows)?;
+        let names = column_names(alloc, rows)?;
+        let (heads, columns) = columns_of(alloc, rows, names.as_slice())?;
+        let head = Head::of(alloc, rows, heads)?;
+        let stored = StoredRows::held(alloc, head, keys.as_slice(), columns)?;
+        Ok(stored)
+    }
+
+    /// Holds the rows of these keys, which have this head and these columns.
+    pub fn held(
+        alloc: Global,
+        head: Head,
+        keys: &[Key],
+        columns: Vec<ValueColumn>,
+    ) -> Result<StoredRows, AllocError>
+        requires { IsHeld (rows_in head keys.now columns.items) head keys.now columns.items }
+        ensures { IfOk result (λ stored. stored ≡ rows_in head keys.now columns.items) }
+    {
+        let batches = batches_of(alloc, keys)?;
+        let body = body_of(alloc, keys, columns)?;
+        let shared = Arc::new(alloc, body)?;
+        Ok(StoredRows {
+            head,
+            body: shared,
+            batches,
+        })
+    }
+
+    /// The same rows, which share their memory.
+    pub fn share(&self) -> Result<StoredRows, AllocError>
+        ensures { IfOk result (λ stored. stored ≡ self.now) }
+    {
+        let head = self.head.share()?;
+        let body = Arc::try_clone(&self.body)?;
+        let batches = self.batches.share()?;
+        Ok(StoredRows {
+            head,
+            body,
+            batches,
+        })
+    }
+
+    /// Gives all rows, which are of one batch, another number of their batch.
+    pub fn set_batch(&mut self, number: u64)
+        requires { AreOfOneBatch self.old }
+        ensures { self.new ≡ with_batch number self.old }
+    {
+        self.batches = Batches::One(number);
+    }
+
+    /// What is known of the rows without their values.
+    pub fn head(&self) -> &Head
+        ensures outline { result.now ≡ outline_of self.now }
+        ensures times { IsSpan self.now result.now }
+    {
+        &self.head
+    }
+
+    /// The key of a row.
+    pub fn key(&self, i: usize) -> Key
+        requires { i < length self.now }
+        ensures { slice_get (keys_of self.now) i ≡ Some result }
+    {
+        self.body.key(&self.batches, i)
+    }
+
+    /// The columns.
+    pub fn columns(&self) -> &[ValueColumn]
+        ensures { result.now ≡ map (values_of self.now) (names_of self.now) }
+    {
+        self.body.columns.as_slice()
+    }
+
+    /// Appends the one spelling of the rows.
+    pub fn put(&self, out: &mut Vec<u8>) -> Result<(), AllocError>
+        ensures bytes { OnOk result (out.new.items ≡ out.old.items ++ block_bytes self.now) }
+        ensures written { block_writing self.now ≡ Some (block_bytes self.now) }
+    {
+        self.body.put(out, &self.head, &self.batches)
+    }
+
+    /// Says what the rows keep. This does nothing.
+    pub fn rules(&self)
+        ensures block { IsBlock self.now }
+        ensures each { AllByRecursion IsNumbered self.now }
+        ensures spelled { HasSpelling (block_writing self.now) }
+    {
+        // What is held is known where one of the fields is named.
+        let _ = &self.head;
+    }
+}

@@ -1,0 +1,10 @@
+pub mod Steps
+pub mod KeyLaws
+pub mod Again
+pub mod TestLaws
+pub mod LabelLaws
+pub mod OrderLaws
+pub mod NumberLaws
+pub mod StreamLaws
+pub mod SaidLaws
+pub mod ReadAgain

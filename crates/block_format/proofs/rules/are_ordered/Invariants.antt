@@ -1,0 +1,6 @@
+use Rattle.std.proofs.Common.{◌≡◌, ◌-◌, drop}
+use Rattle.block_format.specs.Rows.{are_ordered}
+use Rattle.block_format.proofs.rules.are_ordered.Given as goal
+
+abbrev pub invariant-loop-i : goal.invariant-loop-i
+invariant-loop-i l = are_ordered l.rows ≡ are_ordered (drop (l.i - 1) l.rows)

@@ -1,0 +1,18 @@
+use Rattle.std.proofs.Common.{ℕ, List, Bor, ap, ◌∙◌}
+use Rattle.log_model.specs.Field.{Field}
+use Rattle.block_model.specs.Texts.{is_text_field}
+use Rattle.block_model.proofs.RowLaws.{name-put}
+use Rattle.block_model.proofs.TextLaws.{passes-more}
+use Rattle.block_model.proofs.columns.put_names.Goals as goal
+
+abbrev now_of : Bor (List ℕ) → List ℕ
+now_of t = t.now
+
+pub loop-field-preserved : goal.loop-field-preserved
+loop-field-preserved c = record {
+  names = name-put now_of c.loop-field.names.keys c.insert.new.self.keys c.name_of.result _ c.args.fields.now
+      c.loop-field.field-index c.field-item.result c.loop-field-test.true c.in_ok-insert.ensures.keys
+      (c.name_of.ensures.name ∙ ap (λ (field : Field). field.0) c.field-item.is) c.loop-field.invariant.names;
+  texts = passes-more is_text_field c.args.fields.now c.loop-field.field-index c.field-item.result
+      c.loop-field-test.true c.field-item.is c.loop-field.invariant.texts c.name_of.ensures.text;
+}

@@ -1,0 +1,5 @@
+pub mod Distinct
+pub mod Tags
+pub mod Keys
+pub mod Columns
+pub mod Texts

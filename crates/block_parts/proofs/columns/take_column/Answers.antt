@@ -1,5 +1,0 @@
-use Rattle.block_parts.proofs.Steps.{column-steps}
-use Rattle.block_parts.proofs.columns.take_column.Goals as goal
-
-pub returns-clause-value : goal.returns-clause-value
-returns-clause-value c = rw (column-steps c.args.rows c.args.bytes.now) c.take_steps.ensures.value

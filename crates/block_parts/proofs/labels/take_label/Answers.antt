@@ -1,5 +1,0 @@
-use Rattle.block_parts.proofs.Steps.{label-steps}
-use Rattle.block_parts.proofs.labels.take_label.Goals as goal
-
-pub returns : goal.returns
-returns c = rw (label-steps c.args.bytes.now) c.take_pair.ensures

@@ -1,5 +1,0 @@
-pub mod Labels
-pub mod Keys
-pub mod Columns
-pub mod Found
-pub mod Parts

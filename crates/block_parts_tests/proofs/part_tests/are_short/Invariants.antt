@@ -1,7 +1,0 @@
-use Rattle.std.proofs.Common.{take}
-use Rattle.std.specs.List.{AllByRecursion}
-use Rattle.block_parts.specs.Labels.{IsShortLabel}
-use Rattle.block_parts_tests.proofs.part_tests.are_short.Given as goal
-
-abbrev pub invariant-loop-label : goal.invariant-loop-label
-invariant-loop-label l = AllByRecursion IsShortLabel (take l.label-index l.labels)

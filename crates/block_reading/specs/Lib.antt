@@ -1,0 +1,3 @@
+pub mod ByColumns
+pub mod Filled
+pub mod Again

@@ -1,7 +1,0 @@
-use Rattle.column_block.proofs.NumberLaws.{apart-is}
-use Rattle.column_block.proofs.rules.are_numbered_apart.Goals as goal
-
-pub returns : goal.returns
-returns c =
-    apart-is c.are_rising.result c.args.rows.now c.as_slice.result.now (rw c.as_slice.ensures.value
-    c.in_ok-numbers.ensures.same) (rw c.as_slice.ensures.value c.in_ok-numbers.ensures.sorted) c.are_rising.ensures

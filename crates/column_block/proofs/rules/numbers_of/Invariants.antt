@@ -1,6 +1,0 @@
-use Rattle.std.proofs.Common.{◌≡◌, map, take}
-use Rattle.column_block.specs.Rows.{number_of}
-use Rattle.column_block.proofs.rules.numbers_of.Given as goal
-
-abbrev pub invariant-loop-numbered : goal.invariant-loop-numbered
-invariant-loop-numbered l = l.numbers.items ≡ map number_of (take l.numbered-index l.rows)
