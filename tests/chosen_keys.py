@@ -1,13 +1,17 @@
 #!/usr/bin/env python3
-"""Values that whoever sends logs has chosen so that they all have one hash under the hasher of std with its fixed seed
-(`FoldHasher`): the pipes that keep tables of values must take no longer over them than over other values.
+"""Whoever sends logs must not be able to choose values that make the hash tables of a query slow.
 
 usage: tests/chosen_keys.py [PIPE..]     (the environment variable DUVONKA is the path of another build)
-Runs each pipe over so many values and over twice as many, in one run. It fails where twice the values take more than
-2.6 times the processor time. The last line is 'N passed, M failed'.
+- Values that all have one hash under the hasher of std with its fixed seed (`FoldHasher`). Runs each pipe over so many
+  of them and over twice as many. It fails where twice the values take more than 2.6 times the processor time.
+- Under strace: each query takes a seed of its own from the system, and is answered where the system gives none.
+  Skipped where strace is not installed or cannot trace.
+The last line is 'N passed, M failed, K skipped'.
 """
 import os
+import re
 import resource
+import shutil
 import subprocess
 import sys
 import tempfile
@@ -70,6 +74,28 @@ def seconds(program, pipe, data):
     return after.ru_utime + after.ru_stime - before.ru_utime - before.ru_stime
 
 
+def seeds(program, words, data, *options):
+    """How many seeds of 16 bytes the program asks the system for, and what it writes."""
+    with tempfile.NamedTemporaryFile("r") as trace:
+        run = subprocess.run(["strace", "-f", "-o", trace.name, "-e", "trace=getrandom", *options, program, *words],
+                             input=data, stdout=subprocess.PIPE, timeout=60)
+        return len(re.findall(r"getrandom\(.*, 16, ", trace.read())), run.stdout
+
+
+def seed_faults(program):
+    """What is wrong with the seeds of the program's queries."""
+    query, data = ["pipe", "* | stats by (x) count() as n | sort by (x)"], lines("", 100)
+    count, answer = seeds(program, query, data)
+    if count != 1 or not answer:
+        yield f"pipe: its one query takes {count} seeds"
+    count, _ = seeds(program, ["trial", "7", "100"], b"")
+    if count != 3:
+        yield f"trial: its three queries take {count} seeds"
+    for options in (["-e", "inject=getrandom:error=ENOSYS"], ["-e", "inject=getrandom:error=EINTR:when=1"]):
+        if seeds(program, query, data, *options)[1] != answer:
+            yield f"pipe: another answer with {options[1]}"
+
+
 def main():
     top = os.path.dirname(os.path.dirname(os.path.abspath(__file__)))
     program = os.environ.get("DUVONKA", os.path.join(top, "crates/duvonka/out/duvonka"))
@@ -83,7 +109,17 @@ def main():
             print(f"FAILED {pipe}: {COUNT} values take {first:.2f} s, twice as many {second:.2f} s")
         else:
             passed += 1
-    print(f"{passed} passed, {failed} failed")
+    skipped = 0
+    if shutil.which("strace") and subprocess.run(["strace", "-o", "/dev/null", "true"]).returncode == 0:
+        faults = list(seed_faults(program))
+        failed += len(faults)
+        passed += 4 - len(faults)
+        for fault in faults:
+            print("FAILED", fault)
+    else:
+        skipped = 4
+        print("skipped: strace is missing or cannot trace, so no seed was seen")
+    print(f"{passed} passed, {failed} failed, {skipped} skipped")
     return failed > 0
 
 
