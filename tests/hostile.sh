@@ -2,7 +2,8 @@
 # Inputs that a sender may choose so that work or memory grows faster than they do. Each test gives two of them to the
 # built program, each to a server of its own, and compares the processor time that they take:
 # - many lines with a list of names, and the same lines with a hundred times the names: at most three times the time;
-# - one line, and a line four times as long: at most eight times the time, and a server has at most 64 MB at its peak.
+# - one input, and one four times as long: at most 6.8 times the time, which is 2.6 times for twice the input.
+# At its peak a server has at most 64 MB, or 20 times the bytes of the input where that is more.
 # usage: tests/hostile.sh     (the environment variable DUVONKA is the path of another build)
 # Its last line is 'N passed, M failed, K skipped'.
 set -u
@@ -30,8 +31,8 @@ passed=0 failed=0
 ticks=$(getconf CLK_TCK)
 
 # Times below this, in milliseconds, say nothing.
-SHORTEST=50
-# The most memory of a server, in KiB.
+SHORTEST=20
+# The memory that a server may always have, in KiB.
 MOST=65536
 
 # falling COUNT: one line with this many members, whose names fall
@@ -52,8 +53,17 @@ nested() {
 # tiny COUNT: this many lines of one member
 tiny() { awk -v n="$1" 'BEGIN { for (i = 0; i < n; i++) print "{\"a\":1}" }'; }
 
+# empty COUNT: this many lines without a member
+empty() { awk -v n="$1" 'BEGIN { for (i = 0; i < n; i++) print "{}" }'; }
+
+# last COUNT: this many lines with a member whose name is above the others
+last() { awk -v n="$1" 'BEGIN { for (i = 0; i < n; i++) print "{\"zz\":1}" }'; }
+
 # names COUNT: a list of this many names, none of them that of a member
 names() { awk -v n="$1" 'BEGIN { for (i = 1; i < n; i++) printf "%X,", i; printf "x" }'; }
+
+# added COUNT VALUE: a list of this many fields with this value, whose names fall
+added() { awk -v n="$1" -v value="$2" 'BEGIN { for (i = n; i > 0; i--) printf "%s%X=%s", i < n ? "," : "", i, value }'; }
 
 # used ID: prints the processor time of a process so far in milliseconds, and its peak of memory in KiB
 used() {
@@ -99,11 +109,13 @@ judge() {
   fi
 }
 
-# compare TIMES: sets why if the second of two inputs, which is the last, took more than TIMES times the time of the
-# first
+# compare TENTHS FILE: sets why if the second of two inputs, which is this one, took more than so many tenths of the time
+# of the first, or too much memory
 compare() {
-  local least=$((one > SHORTEST ? one : SHORTEST))
-  [ "$took" -le $(($1 * least)) ] || why="$one ms, then $took ms, which is more than $1 times as long"
+  local least=$((one > SHORTEST ? one : SHORTEST)) most=$(($(wc -c < "$2") * 20 / 1024))
+  [ "$took" -le $(($1 * least / 10)) ] || why="$one ms, then $took ms, which is more than $1 tenths of it"
+  most=$((most > MOST ? most : MOST))
+  [ "$peak" -le "$most" ] || why="$peak KiB, above $most"
 }
 
 # listed NAME ARGUMENT: judges what many lines take with a list of 39 names, and with one of 3,900
@@ -111,28 +123,32 @@ listed() {
   local one=0 took peak why='' reply='"accepted":"150000"'
   tiny 150000 > "$work/lines"
   spend "$2=$(names 39)" "$work/lines" "$reply" && one=$took \
-    && spend "$2=$(names 3900)" "$work/lines" "$reply" && compare 3
+    && spend "$2=$(names 3900)" "$work/lines" "$reply" && compare 30 "$work/lines"
   judge "$1"
 }
 
-# grows NAME ARGUMENTS MAKER SIZE REPLY: judges what a line of this size takes, and one of four times the size
+# grows NAME ARGUMENTS MAKER SIZE REPLY: judges what an input of this size takes, and one of four times the size
 grows() {
   local one=0 took peak why=''
   "$3" "$4" > "$work/one"
   "$3" $((4 * $4)) > "$work/four"
-  spend "$2" "$work/one" "$5" && one=$took && spend "$2" "$work/four" "$5" && {
-    compare 8
-    [ "$peak" -le "$MOST" ] || why="$peak KiB, above $MOST"
-  }
+  spend "$2" "$work/one" "$5" && one=$took && spend "$2" "$work/four" "$5" && compare 68 "$work/four"
   judge "$1"
 }
 
 listed "names to ignore" ignore_fields
 listed "names of the stream" _stream_fields
+listed "names of the message" _msg_field
 grows "members in falling order" "" falling 12000 ManyFields
+grows "members in falling order, with names of the message" "_msg_field=$(names 3900)" falling 12000 ManyFields
 grows "one long outer name" "" nested 60000 NameLong
 grows "one long outer name, with names to ignore" "ignore_fields=a,b&_stream_fields=b" nested 60000 NameLong
-# A long name that is asked for has all long names read, up to 64 times the bytes of the line.
-grows "one long outer name, with a long name to ignore" "ignore_fields=$(printf 'b%.0s' {1..129})" nested 60000 'no memory'
+grows "more fields to add than a row may have" "extra_fields=$(added 2500 1)" last 2000 ManyFields
+grows "fields to add" "extra_fields=$(added 900 1)" last 150 '"accepted":"[1-9]'
+grows "fields to add, in rows that are too much for a batch" "extra_fields=$(added 900 0123456789)" empty 8000 Large
+grows "a large field to add, in rows that are too much for a batch" "extra_fields=f=$(printf 'v%.0s' {1..15000})" \
+  empty 8000 Large
+# A long name that is asked for has all long names read, up to 64 times the bytes of the line; then memory runs out.
+grows "one long outer name, with a long name to ignore" "ignore_fields=$(printf 'b%.0s' {1..129})" nested 60000 HTTP/1.1
 echo "$passed passed, $failed failed, 0 skipped"
 [ "$failed" = 0 ]

@@ -1,7 +1,8 @@
 pub mod Times
 pub mod Rows
 pub mod RowsOfLines
-pub mod Taking
+pub mod TakenLines
+pub mod Weighings
 pub mod Asked
 pub mod SyslogRows
 pub mod OnlyRow
@@ -9,3 +10,6 @@ pub mod OnlyKind
 pub mod OnlyIntake
 pub mod Far
 pub mod Listing
+pub mod Places
+pub mod Adding
+pub mod Merging

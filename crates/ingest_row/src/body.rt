@@ -3,9 +3,10 @@ ghost use Rattle.std.specs.Prelude.{◌≡◌, ◌≤ℤ◌, [], ◌∷◌, ◌+
 ghost use Rattle.ingest_row.specs.Intake.{IsOutcome, IsTaken, Outcome, outcome_of, refused_from, rows_read};
 
 use crate::kind::LineKind;
-use crate::line::{ROOM, row_with_room};
-use crate::lines::{is_blank, next_line};
+use crate::line::row_with_room;
+use crate::lines::is_blank;
 use crate::options::Options;
+use crate::taking::{Taking, take_lines};
 use std::alloc::{AllocError, Global};
 use vl_row::{Items, Row};
 
@@ -25,14 +26,14 @@ pub struct Intake {
 
 /// What becomes of a line.
 #[derive(Drop)]
-enum LineOutcome {
+pub(crate) enum LineOutcome {
     PassedOver,
     Read(Row),
     Refused(LineKind),
 }
 
 impl Intake {
-    fn new(alloc: Global) -> Intake
+    pub(crate) fn new(alloc: Global) -> Intake
         ensures rows { result.rows ≡ [] }
         ensures refused { result.refused ≡ [] }
     {
@@ -43,7 +44,7 @@ impl Intake {
     }
 
     /// Takes in what became of the line with this number.
-    fn add(&mut self, number: u64, outcome: LineOutcome) -> Result<(), AllocError>
+    pub(crate) fn add(&mut self, number: u64, outcome: LineOutcome) -> Result<(), AllocError>
         ensures rows { OnOk result (self.new.rows ≡ self.old.rows ++ rows_read (outcome_of outcome ∷ [])) }
         ensures refused { OnOk result (self.new.refused
             ≡ self.old.refused ++ refused_from number (outcome_of outcome ∷ [])) }
@@ -60,7 +61,7 @@ impl Intake {
 }
 
 /// Returns what becomes of one line. `room` is how many fields are expected.
-fn read_line(
+pub(crate) fn read_line(
     alloc: Global,
     o: &Options,
     now: i64,
@@ -91,19 +92,7 @@ pub fn batch_of_body(
     requires { pos 0 ≤ℤ now }
     ensures { IfOk result (λ intake. (outcomes : List Outcome) × IsTaken o.now now body.now outcomes intake) }
 {
-    let mut intake = Intake::new(alloc);
-    let mut number = 0;
-    let mut room = ROOM;
-    let mut rest = body;
-    while let Some((line, after)) = next_line(rest) {
-        number += 1;
-        let outcome = read_line(alloc, o, now, line, room)?;
-        if let LineOutcome::Read(row) = &outcome {
-            // The field of the moment is not a field of the row.
-            room = row.fields().len() + 1;
-        }
-        intake.add(number, outcome)?;
-        rest = after;
-    }
-    Ok(intake)
+    let mut taking = Taking::new(alloc, None);
+    take_lines(alloc, o, now, body, &mut taking)?;
+    Ok(taking.into_intake())
 }

@@ -3,14 +3,19 @@
 #![tactic(auto)]
 
 mod body;
+mod complete;
 mod fault;
 mod kind;
 mod law;
 mod line;
 mod lines;
+mod merge;
 mod options;
+mod prepared;
 mod read;
 mod syslog;
+mod taking;
+mod weigh;
 
 pub use body::{Intake, LineFault, batch_of_body};
 pub use fault::OptionFault;
@@ -20,3 +25,4 @@ pub use line::row_of_line;
 pub use options::Options;
 pub use read::argument;
 pub use syslog::{SyslogKind, row_of_syslog};
+pub use weigh::{Weighed, weigh_body};

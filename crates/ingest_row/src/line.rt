@@ -9,6 +9,7 @@ ghost use Rattle.ingest_row.specs.Ingest.{IsRowOf, IsRowOfLine, AsksShort, IsTim
 ghost use Rattle.ingest_row.specs.Ingest.{moved, row_at, says_now, with_message};
 ghost use Rattle.ingest_row.specs.Refusal.{IsRefused, IsFieldsFault, IsKindOfFar, IsLineFault, IsRowFault};
 
+use crate::complete::{complete, remove_ignored};
 use crate::kind::LineKind;
 use crate::options::Options;
 use jsonline_in::{JsonFault, Said, said_fields_of};
@@ -109,18 +110,8 @@ fn row_of_fields(
     let Some(time) = time_of(fields.get(o.time_field()), now) else {
         return Err(LineKind::BadTime);
     };
-    complete(alloc, o, &mut fields)?;
-    row_at(alloc, o, time, fields)
-}
-
-/// Makes the fields of a row out of those that are not ignored: the field of the moment goes, one becomes the message,
-/// and others are added.
-fn complete(alloc: Global, o: &Options, fields: &mut FieldList) -> Result<(), AllocError>
-    ensures { OnOk result (fields.new ≡ completed o.now fields.old) }
-{
-    fields.remove(o.time_field());
-    move_message(alloc, o.message_fields(), fields)?;
-    set_fields(alloc, o.extra_fields(), fields)
+    let all = complete(alloc, o, fields)?;
+    row_at(alloc, o, time, all)
 }
 
 /// Returns the row of this moment and these fields.
@@ -161,14 +152,6 @@ fn said_of_line(alloc: Global, line: &[u8], all: bool, room: usize) -> Result<Sa
     }
 }
 
-/// Removes the fields that are ignored.
-fn remove_ignored(o: &Options, fields: &mut FieldList)
-    ensures value { fields.new ≡ kept o.now fields.old }
-    ensures before { IsFieldList fields.old }
-{
-    fields.remove_listed(o.ignored());
-}
-
 /// Returns the moment that a text says, where a text that says none stands for `now`.
 fn time_of(text: &str, now: i64) -> Option<i64>
     requires { pos 0 ≤ℤ now }
@@ -191,37 +174,4 @@ fn says_now(text: &str) -> bool
     ensures { result ≡ says_now text.now }
 {
     text.is_empty() || text == "0"
-}
-
-/// The first of these fields that has a value becomes the message.
-#[tactic(auto, unfolding(crate::specs::Ingest::with_message))]
-fn move_message(alloc: Global, names: &[Text], fields: &mut FieldList) -> Result<(), AllocError>
-    ensures { OnOk result (fields.new ≡ with_message names.now fields.old) }
-{
-    for name in names {
-        if !fields.get(name.as_str()).is_empty() {
-            return rename(alloc, name.as_str(), fields);
-        }
-    }
-    Ok(())
-}
-
-/// The field of this name becomes the message.
-fn rename(alloc: Global, name: &str, fields: &mut FieldList) -> Result<(), AllocError>
-    ensures { OnOk result (fields.new ≡ moved fields.old name.now) }
-{
-    let message = Text::try_of(alloc, fields.get(name))?;
-    fields.remove(name);
-    fields.set(alloc, "_msg", message.as_str())
-}
-
-/// Sets these fields.
-fn set_fields(alloc: Global, added: &[Field], fields: &mut FieldList) -> Result<(), AllocError>
-    requires { IsTrue (list_all is_named added.now) }
-    ensures { OnOk result (fields.new ≡ set_all fields.old added.now) }
-{
-    for field in added {
-        fields.set(alloc, field.name(), field.value())?;
-    }
-    Ok(())
 }

@@ -7,8 +7,9 @@ ghost use Rattle.ingest_row.specs.Asked.{argument, extra_of, extras_of, list_arg
 
 use crate::fault::OptionFault;
 use crate::options::Options;
+use crate::prepared::Prepared;
 use std::alloc::{AllocError, Global};
-use vl_row::{Field, Items, Names, Text};
+use vl_row::{Field, Items, Text};
 
 /// The most bytes of a short name.
 const SHORT: usize = 128;
@@ -33,8 +34,13 @@ impl Options {
         let Some(extra_fields) = extras(alloc, list(pairs, "extra_fields"))? else {
             return Err(OptionFault::BadExtra);
         };
-        let labels = Names::try_of(alloc, stream_fields.as_slice())?;
-        let ignored = Names::try_of(alloc, ignored_fields.as_slice())?;
+        let prepared = Prepared::of(
+            alloc,
+            stream_fields.as_slice(),
+            message_fields.as_slice(),
+            ignored_fields.as_slice(),
+            extra_fields.as_slice(),
+        )?;
         let are_short = names_are_short(
             &time_field,
             message_fields.as_slice(),
@@ -46,10 +52,9 @@ impl Options {
             time_field,
             message_fields,
             ignored_fields,
-            labels,
-            ignored,
             are_short,
             extra_fields,
+            prepared,
         })
     }
 }

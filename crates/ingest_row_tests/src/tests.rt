@@ -1,8 +1,9 @@
 //! What no line of `stdin` shows: bodies, and lines at their limits. The lines came in 5 ns after 1970 began.
 use super::row_text;
-use ingest_row::{Intake, LineKind, Options, batch_of_body, row_of_line};
+use ingest_row::{Intake, LineKind, Options, Weighed, batch_of_body, row_of_line, weigh_body};
 use std::alloc::{AllocError, Global};
 use std::test::Fail;
+use vl_row::Field;
 
 /// Returns the rows of a body, and then the numbers and the kinds of its refused lines.
 fn intake_text(alloc: Global, intake: &Intake) -> Result<String, AllocError> {
@@ -17,8 +18,15 @@ fn intake_text(alloc: Global, intake: &Intake) -> Result<String, AllocError> {
 }
 
 fn gives(alloc: Global, body: &[u8], wanted: &str) -> Result<bool, AllocError> {
-    let intake = batch_of_body(alloc, &Options::plain(alloc), 5, body)?;
-    Ok(intake_text(alloc, &intake)?.as_str() == wanted)
+    let options = Options::plain(alloc);
+    let intake = batch_of_body(alloc, &options, 5, body)?;
+    let Weighed::Light(weighed) = weigh_body(alloc, &options, 5, body)? else {
+        return Ok(false);
+    };
+    Ok(
+        intake_text(alloc, &intake)?.as_str() == wanted
+            && intake_text(alloc, &weighed)?.as_str() == wanted,
+    )
 }
 
 /// Bodies, with their rows and their refused lines.
@@ -139,5 +147,77 @@ fn is_many(alloc: Global, members: usize) -> Result<bool, AllocError> {
 #[test]
 fn a_line_has_a_thousand_fields_at_most(rt: HostRuntime) -> Result<(), Fail> {
     assert!(rt; !is_many(rt.alloc(), 1_000)? && is_many(rt.alloc(), 1_001)?);
+    Ok(())
+}
+
+/// Returns what one argument asks for.
+fn asked(alloc: Global, name: &str, value: &str) -> Result<Option<Options>, AllocError> {
+    let argument = Field::try_of(alloc, name, value)?;
+    Ok(Options::read(alloc, &[argument]).ok())
+}
+
+/// A line of 20 kB: an outer name of 9 kB with a thousand members.
+fn outer_name(alloc: Global) -> Result<String, AllocError> {
+    let mut line = String::from_str(alloc, "{\"")?;
+    for _ in 0..9_000 {
+        line.push_str("a")?;
+    }
+    line.push_str("\":{")?;
+    for n in 1..1_000 {
+        write!(line, "\"b{n}\":\"v\",")?;
+    }
+    line.push_str("\"b\":\"v\"}}")?;
+    Ok(line)
+}
+
+/// Long names are copied for each member only where an option names one, and then up to 64 times the line's bytes.
+#[test]
+fn long_names_are_read_only_where_one_is_asked_for(rt: HostRuntime) -> Result<(), Fail> {
+    let alloc = rt.alloc();
+    let line = outer_name(alloc)?;
+    let name = Long {
+        first: "",
+        piece: "n",
+        count: 129,
+        last: "",
+    };
+    assert!(rt; kind_of(alloc, line.as_str()) == Some(LineKind::NameLong));
+    let Some(options) = asked(alloc, "ignore_fields", name.text(alloc)?.as_str())? else {
+        return Err(Fail::new("no options"));
+    };
+    let kind = row_of_line(alloc, &options, 5, line.as_bytes()).err();
+    assert!(rt; kind == Some(LineKind::Memory));
+    Ok(())
+}
+
+/// Returns how many rows a body of this many lines has, and what they weigh if that is too much for a batch. To each
+/// row 200,001 bytes are added.
+fn weighs(alloc: Global, lines: usize) -> Result<Option<(usize, u64)>, AllocError> {
+    let value = Long {
+        first: "f=",
+        piece: "v",
+        count: 200_000,
+        last: "",
+    };
+    let Some(options) = asked(alloc, "extra_fields", value.text(alloc)?.as_str())? else {
+        return Ok(None);
+    };
+    let body = Long {
+        first: "",
+        piece: "{\"a\":\"b\"}\n",
+        count: lines,
+        last: "x",
+    };
+    match weigh_body(alloc, &options, 5, body.text(alloc)?.as_bytes())? {
+        Weighed::Light(intake) => Ok(Some((intake.rows.as_slice().len(), 0))),
+        Weighed::Heavy { weight } => Ok(Some((0, weight))),
+    }
+}
+
+#[test]
+fn rows_are_kept_only_up_to_the_limit_of_a_batch(rt: HostRuntime) -> Result<(), Fail> {
+    assert!(rt; weighs(rt.alloc(), 335)? == Some((335, 0)));
+    assert!(rt; weighs(rt.alloc(), 336)? == Some((0, 67_201_008)));
+    assert!(rt; weighs(rt.alloc(), 1_000)? == Some((0, 200_003_000)));
     Ok(())
 }

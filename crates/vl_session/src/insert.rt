@@ -9,7 +9,7 @@ ghost use Rattle.vl_session.specs.Insertion.{IsInsertion, IsOfLines, RefusesLine
 ghost use Rattle.vl_session.specs.Seen.{HasRoom};
 
 use crate::access::Access;
-use ingest_row::{LineFault, Options, batch_of_body, intake_law};
+use ingest_row::{LineFault, Options, Weighed, intake_law, weigh_body};
 use log_desk::{Desk, InsertFault, Pass};
 use std::alloc::{AllocError, Global};
 use std::sync::Wait;
@@ -121,7 +121,10 @@ impl Incoming {
             × IsIncoming options.now now body.now outcomes incoming) }
         ensures unread { IfErr result (IsNoBatch options.now now body.now) }
     {
-        let intake = batch_of_body(alloc, options, now, body)?;
+        let intake = match weigh_body(alloc, options, now, body)? {
+            Weighed::Light(intake) => intake,
+            Weighed::Heavy { weight } => return Err(InsertionFault::Large { weight }),
+        };
         let refused = intake.refused;
         let rows = intake.rows.into_vec();
         let accepted = rows.len() as u64;

@@ -4,15 +4,15 @@ use Rattle.ingest_row.specs.Ingest.{kept, row_fields}
 use Rattle.ingest_row.proofs.Rows.{SaysMoment, says_it, is_row, only_row, no_row, has_fault, out_of_memory}
 use Rattle.ingest_row.proofs.line.row_of_fields.Goals as goal
 
-says : (c : goal.After-row_at) → SaysMoment c.args.o.now c.args.now c.args.fields c.in-Some.time c.complete.new.fields
+says : (c : goal.After-row_at) → SaysMoment c.args.o.now c.args.now c.args.fields c.in-Some.time c.in_ok-all.all
 says c =
     let fits : FitsSigned w64 c.args.now = c.ranges.now in
     let kept_is : c.remove_ignored.new.fields ≡ kept c.args.o.now c.args.fields = c.remove_ignored.ensures.value in
     says_it _ _ _ _ _ _ _ (to_z-of_z w64 c.args.now fits) (rw (kept_is, c.time_field.ensures) at c.get.ensures)
-    (rw kept_is at c.in_ok-complete.ensures) c.in-Some.ensures.some.0 c.in-Some.ensures.only
+    (rw kept_is at c.in_ok-all.ensures) c.in-Some.ensures.some.0 c.in-Some.ensures.only
 
-pub returns-in_err-complete-clause-fault : goal.returns-in_err-complete-clause-fault
-returns-in_err-complete-clause-fault c =
+pub returns-in_err-all-clause-fault : goal.returns-in_err-all-clause-fault
+returns-in_err-all-clause-fault c =
     let fits : FitsSigned w64 c.args.now = c.ranges.now in
     let kept_is : c.remove_ignored.new.fields ≡ kept c.args.o.now c.args.fields = c.remove_ignored.ensures.value in
     out_of_memory c.args.o.now c.args.now c.args.fields _ _ _

@@ -7,7 +7,7 @@ use Rattle.ingest_row.specs.Intake.{Outcome, passed_over, read, refused, IsOutco
 use Rattle.ingest_row.specs.Intake.{rows_read, refused_from}
 use Rattle.ingest_row.specs.declared.body.Intake.{Intake}
 
-rows_read-cons : (o : Outcome) (os : List Outcome) → rows_read (o ∷ os) ≡ rows_read (o ∷ []) ++ rows_read os
+pub rows_read-cons : (o : Outcome) (os : List Outcome) → rows_read (o ∷ os) ≡ rows_read (o ∷ []) ++ rows_read os
 rows_read-cons passed_over os = refl
 rows_read-cons (read row) os = refl
 rows_read-cons (refused kind) os = refl

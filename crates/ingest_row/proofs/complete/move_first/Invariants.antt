@@ -1,6 +1,6 @@
 use Rattle.std.proofs.Common.{◌≡◌, drop}
 use Rattle.ingest_row.specs.Ingest.{with_message}
-use Rattle.ingest_row.proofs.line.move_message.Given as goal
+use Rattle.ingest_row.proofs.complete.move_first.Given as goal
 
 abbrev pub invariant-loop-name : goal.invariant-loop-name
 invariant-loop-name l =

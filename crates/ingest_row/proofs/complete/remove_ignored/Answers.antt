@@ -1,6 +1,6 @@
 use Rattle.std.proofs.Common.{◌∙◌}
 use Rattle.ingest_row.proofs.Far.{removed_is}
-use Rattle.ingest_row.proofs.line.remove_ignored.Goals as goal
+use Rattle.ingest_row.proofs.complete.remove_ignored.Goals as goal
 
 pub returns-clause-value : goal.returns-clause-value
 returns-clause-value c =

@@ -1,0 +1,170 @@
+//! Takes in lines one after another, and weighs their rows.
+ghost use Rattle.std.specs.Prelude.{◌≡◌, ◌≤ℤ◌, ◌<◌, ◌+◌, ◌-◌, ◌^◌, [], ◌∷◌, ◌++◌, List, None, IfOk, IsFalse, OnOk, ℕ};
+ghost use Rattle.std.specs.Prelude.{length, min, pos};
+ghost use Rattle.log_model.specs.Line.{lines_of};
+ghost use Rattle.log_model.specs.Row.{batch_weight};
+ghost use Rattle.ingest_row.specs.Intake.{Outcome, outcome_of, refused_from, rows_read};
+ghost use Rattle.ingest_row.specs.Weighing.{IsTakingIn, IsWeighing};
+
+use crate::body::{Intake, LineOutcome, read_line};
+use crate::line::ROOM;
+use crate::lines::next_line;
+use crate::options::Options;
+use std::alloc::{AllocError, Global};
+
+/// The largest weight of a batch.
+pub(crate) const LIMIT: u64 = 67_108_864;
+
+/// The bytes that a field takes, beside those of a long name or value.
+const FIELD: u64 = 64;
+
+/// What was taken in of a body.
+#[derive(Drop)]
+pub(crate) struct Taking {
+    intake: Intake,
+    /// The number of the last line.
+    number: u64,
+    /// How many fields are expected of the next line.
+    room: usize,
+    /// What the rows weigh together, or the largest `u64` where that is more.
+    pub(crate) weight: u64,
+    /// About how many bytes the rows take.
+    held: u64,
+    /// How many bytes they may take before reading stops. It also stops where the rows weigh more than a batch may.
+    most: Option<u64>,
+}
+
+impl Taking {
+    pub(crate) fn new(alloc: Global, most: Option<u64>) -> Taking
+        ensures rows { result.intake.rows ≡ [] }
+        ensures refused { result.intake.refused ≡ [] }
+        ensures number { result.number ≡ 0 }
+        ensures weight { result.weight ≡ 0 }
+        ensures most { result.most ≡ most }
+    {
+        Taking {
+            intake: Intake::new(alloc),
+            number: 0,
+            room: ROOM,
+            weight: 0,
+            held: 0,
+            most,
+        }
+    }
+
+    /// Returns whether reading stops.
+    fn is_full(&self) -> bool
+        ensures { self.now.most ≡ None → IsFalse result }
+    {
+        match self.most {
+            Some(most) => self.held > most || self.weight > LIMIT,
+            None => false,
+        }
+    }
+
+    /// Takes in what became of the next line.
+    fn add(&mut self, outcome: LineOutcome) -> Result<(), AllocError>
+        requires { self.old.number + 1 < 2 ^ 64 }
+        ensures rows { OnOk result
+            (self.new.intake.rows ≡ self.old.intake.rows ++ rows_read (outcome_of outcome ∷ [])) }
+        ensures refused { OnOk result (self.new.intake.refused
+            ≡ self.old.intake.refused ++ refused_from (self.old.number + 1) (outcome_of outcome ∷ [])) }
+        ensures number { OnOk result (self.new.number ≡ self.old.number + 1) }
+        ensures weight { OnOk result (self.new.weight
+            ≡ min (self.old.weight + batch_weight (rows_read (outcome_of outcome ∷ []))) (2 ^ 64 - 1)) }
+        ensures most { OnOk result (self.new.most ≡ self.old.most) }
+    {
+        self.number += 1;
+        self.weight = self.weight.saturating_add(weight_of(&outcome));
+        if let LineOutcome::Read(row) = &outcome {
+            let fields = row.fields().len();
+            // The field of the moment is not a field of the row.
+            self.room = fields + 1;
+            let bytes = (fields as u64)
+                .saturating_mul(FIELD)
+                .saturating_add(row.weight());
+            self.held = self.held.saturating_add(bytes);
+        }
+        self.intake.add(self.number, outcome)
+    }
+
+    /// Takes in all that is left, however much it is.
+    pub(crate) fn lift(&mut self)
+        ensures same { self.new.intake ≡ self.old.intake }
+        ensures number { self.new.number ≡ self.old.number }
+        ensures weight { self.new.weight ≡ self.old.weight }
+        ensures most { self.new.most ≡ None }
+    {
+        self.most = None;
+    }
+
+    pub(crate) fn into_intake(self) -> Intake
+        ensures { result ≡ self.intake }
+    {
+        self.intake
+    }
+}
+
+/// Returns what the row of a line weighs.
+fn weight_of(outcome: &LineOutcome) -> u64
+    ensures { result ≡ batch_weight (rows_read (outcome_of outcome.now ∷ [])) }
+{
+    match outcome {
+        LineOutcome::Read(row) => row.weight(),
+        LineOutcome::PassedOver | LineOutcome::Refused(_) => 0,
+    }
+}
+
+/// Takes in the first of these lines, and returns the others.
+pub(crate) fn take_lines<'a>(
+    alloc: Global,
+    o: &Options,
+    now: i64,
+    lines: &'a [u8],
+    taking: &mut Taking,
+) -> Result<&'a [u8], AllocError>
+    requires since { pos 0 ≤ℤ now }
+    requires fits { taking.old.number + length lines.now < 2 ^ 64 }
+    ensures takes { IfOk result (λ left. (body : List ℕ) → IsTakingIn o.now now body lines.now taking.old
+        → IsTakingIn o.now now body left.now taking.new) }
+    ensures fits { IfOk result (λ left. taking.new.number + length left.now < 2 ^ 64) }
+    ensures all { taking.old.most ≡ None → IfOk result (λ left. lines_of left.now ≡ []) }
+{
+    let mut rest = lines;
+    'lines: while !taking.is_full() {
+        let Some((line, after)) = next_line(rest) else {
+            return Ok(rest);
+        };
+        let outcome = read_line(alloc, o, now, line, taking.room)?;
+        taking.add(outcome)?;
+        rest = after;
+    }
+    Ok(rest)
+}
+
+/// Returns what the rows of these lines weigh together with those before, or the largest `u64` where that is more. It
+/// keeps no row.
+pub(crate) fn weigh_lines(
+    alloc: Global,
+    o: &Options,
+    now: i64,
+    lines: &[u8],
+    before: u64,
+) -> Result<u64, AllocError>
+    requires { pos 0 ≤ℤ now }
+    ensures { IfOk result (λ weight. (outcomes : List Outcome)
+        × IsWeighing o.now now lines.now before outcomes weight) }
+{
+    let mut weight = before;
+    let mut room = ROOM;
+    let mut rest = lines;
+    while let Some((line, after)) = next_line(rest) {
+        let outcome = read_line(alloc, o, now, line, room)?;
+        weight = weight.saturating_add(weight_of(&outcome));
+        if let LineOutcome::Read(row) = &outcome {
+            room = row.fields().len() + 1;
+        }
+        rest = after;
+    }
+    Ok(weight)
+}
