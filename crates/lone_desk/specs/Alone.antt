@@ -4,6 +4,7 @@ use Rattle.log_model.specs.Row.{Batch}
 use Rattle.ingest_row.specs.Ingest.{Options}
 use Rattle.log_desk.specs.Seen.{Caller, Follows, Gains, Seen}
 use Rattle.vl_session.specs.Insertion.{IsInsertion, RefusesLines}
+pub use Rattle.log_desk.specs.Faults.{last_number}
 pub use Rattle.vl_session.specs.Seen.{Has, IsFull, batches_of_rows}
 pub use Rattle.vl_session.specs.declared.insert.Insertion.{Insertion}
 use Rattle.vl_session.specs.declared.insert.InsertionFault.{InsertionFault}

@@ -6,6 +6,7 @@ pub use Rattle.vl_session.specs.Evaluation
 pub use Rattle.vl_session.specs.Faults
 pub use Rattle.vl_session.specs.Insert
 pub use Rattle.vl_session.specs.Insertion
+pub use Rattle.vl_session.specs.Patterns
 pub use Rattle.vl_session.specs.Query
 pub use Rattle.vl_session.specs.QueryFault
 pub use Rattle.vl_session.specs.Question

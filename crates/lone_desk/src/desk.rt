@@ -2,7 +2,8 @@
 ghost use Rattle.std.specs.Prelude.{◌≡◌, ◌≤ℤ◌, [], IfErr, IfOk, List, OnErr, OnOk, Some, length, pos, unsigned_abs};
 ghost use Rattle.ingest_row.specs.Intake.{Outcome};
 ghost use Rattle.log_model.specs.History.{rows_of};
-ghost use Rattle.vl_session.specs.Asked.{HasReadablePipes, IsReadableQuery, asked_by};
+ghost use Rattle.vl_session.specs.Asked.{IsReadableQuery};
+ghost use Rattle.vl_session.specs.Question.{question};
 ghost use Rattle.vl_session.specs.Answer.{FailsOver, FailsQuery, HasRecords, IsOfEvaluation, IsQueryAnswer};
 ghost use Rattle.vl_session.specs.Answer.{IsSearchAnswer};
 ghost use Rattle.vl_session.specs.Insert.{CanBeBatch};
@@ -18,7 +19,7 @@ use std::random::RandomSource;
 use std::sync::Wait;
 use vl_row::Batch;
 use vl_session::{
-    Answer, AnswerFault, Insertion, InsertionFault, RunFault, Search, answer_query, answer_search,
+    Access, Answer, AnswerFault, Insertion, InsertionFault, RunFault, Search, answer_query,
     insert_lines,
 };
 
@@ -63,6 +64,7 @@ impl<'d, R: Wait> LoneDesk<'d, R> {
     /// Inserts the batch, and answers its number.
     pub fn insert(&mut self, batch: Batch) -> Result<u64, InsertFault>
         ensures gains { OnOk result (GainsAlone self.old self.new batch) }
+        ensures number { IfOk result (λ number. number ≡ length self.new.history) }
         ensures refused { IfErr result (Refuses (length self.new.history) self.new.settled) }
         ensures follows { OnErr result (FollowsAlone self.old self.new) }
     {
@@ -116,14 +118,18 @@ impl<R: Wait + RandomSource> LoneDesk<'_, R> {
         answer_query(self.rt, self.alloc, &self.desk, &mut self.pass, text, now)
     }
 
-    /// Answers a query that was read, over all batches, at the moment `now`.
+    /// Answers a prepared query over all batches, at the moment `now`.
     pub fn answer(&mut self, search: &Search, now: i64) -> Result<Answer, RunFault>
-        requires { HasReadablePipes search.now }
-        ensures answered { IfOk result (IsSearchAnswer (asked_by search.now) now self.old.history) }
-        ensures refused { IfErr result (FailsOver (asked_by search.now) now (rows_of self.old.history)) }
+        ensures answered { IfOk result (IsSearchAnswer (question search.now) now self.old.history) }
+        ensures refused { IfErr result (FailsOver (question search.now) now (rows_of self.old.history)) }
         ensures same { self.new.history ≡ self.old.history }
         ensures mark { self.new.settled ≡ self.old.settled }
     {
-        answer_search(self.rt, self.alloc, &self.desk, &mut self.pass, search, now)
+        let access = Access {
+            rt: self.rt,
+            alloc: self.alloc,
+            desk: &self.desk,
+        };
+        access.answer(&mut self.pass, search, now)
     }
 }

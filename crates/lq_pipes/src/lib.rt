@@ -23,4 +23,4 @@ pub use output::lines;
 pub use pipes::apply;
 pub use record::Printer;
 pub use row_record::rec_of;
-pub use rows::{apply_rows, apply_rows_seeded};
+pub use rows::apply_rows;

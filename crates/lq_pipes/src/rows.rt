@@ -28,22 +28,10 @@ use lq_tuple::HashSeed;
 use std::alloc::{AllocError, Global};
 use vl_row::{Recs, Row, Text};
 
-/// Returns the records that the pipes make of those of these rows, with the faults of `apply`. Records are made late:
-/// `limit`, `offset` and `sort` that come first run over rows, a `stats`, `uniq` or `top` after them takes a few
-/// records at a time, and records have only the fields that matter to the pipes. The seed of the tables of values is
-/// the fixed one.
-pub fn apply_rows(alloc: Global, pipes: &[Pipe], rows: Vec<&Row>) -> Result<Recs, PipeFault>
-    requires few { length rows.items < 2 ^ 32 }
-    ensures ok { IfOk result (λ made.
-        all_piped (map stage pipes.now) (map (λ row. record_of row.now) rows.entry.items) ≡ Ok made) }
-    ensures readable { IfOk result (λ _. AllByRecursion CanBeRead (flat_map patterns_of_stage (map stage pipes.now))) }
-    ensures fault { IfErr result (IsPipeFault (map stage pipes.now) (map (λ row. record_of row.now) rows.entry.items)) }
-{
-    apply_rows_seeded(alloc, HashSeed::fixed(), pipes, rows)
-}
-
-/// Returns the same, with this seed of the tables of values.
-pub fn apply_rows_seeded(
+/// Returns the records that the pipes make of those of these rows, with the faults of `apply`. Hashes with the given
+/// seed. Records are made late: `limit`, `offset` and `sort` that come first run over rows, a `stats`, `uniq` or `top`
+/// after them takes a few records at a time, and records have only the fields that matter to the pipes.
+pub fn apply_rows(
     alloc: Global,
     seed: HashSeed,
     pipes: &[Pipe],
@@ -58,11 +46,11 @@ pub fn apply_rows_seeded(
     let mut rows = rows;
     let pipes = pass_rows(alloc, seed, pipes, &mut rows)?;
     let steps = steps(alloc, seed, pipes)?;
-    run_over(alloc, seed, pipes, steps.as_slice(), rows.as_slice())
+    apply_steps(alloc, seed, pipes, steps.as_slice(), rows.as_slice())
 }
 
-/// Returns the records that these pipes, which these steps are, make of those of rows.
-fn run_over(
+/// Returns the records that the pipes of these steps make of those of the rows.
+fn apply_steps(
     alloc: Global,
     seed: HashSeed,
     pipes: &[Pipe],
@@ -80,7 +68,7 @@ fn run_over(
     rows_law(rows);
     let needs = Needs::of(alloc, pipes)?;
     let records = RowRecords::new(alloc, &needs, rows)?;
-    run_rows(alloc, seed, steps, records)
+    apply_steps_to_rows(alloc, seed, steps, records)
 }
 
 /// That the records of rows keep the rules of fields. It does nothing: its contract is the law.
@@ -92,8 +80,8 @@ fn rows_law(rows: &[&Row])
     }
 }
 
-/// Returns the records that these pipes make of those of rows.
-fn run_rows(
+/// Returns the records that these steps make of those of rows.
+fn apply_steps_to_rows(
     alloc: Global,
     seed: HashSeed,
     steps: &[Step<'_>],
@@ -106,7 +94,7 @@ fn run_rows(
 {
     match steps.split_first() {
         Some((first, later)) => {
-            let records = first.run_rows(alloc, seed, rows)?;
+            let records = first.apply_to_rows(alloc, seed, rows)?;
             run_all(alloc, seed, later, records)
         }
         None => Ok(rows.rest(alloc)?),
@@ -114,8 +102,8 @@ fn run_rows(
 }
 
 impl<'p> Step<'p> {
-    /// Returns the records that the pipe makes of those of rows, with this seed of the tables of values.
-    fn run_rows(
+    /// Returns the records that the pipe makes of those of rows. Hashes with the given seed.
+    fn apply_to_rows(
         &self,
         alloc: Global,
         seed: HashSeed,
@@ -127,16 +115,16 @@ impl<'p> Step<'p> {
         ensures fault { IfErr result (IsMadeFault (piped (stage_of self.now) (records_left rows.entry))) }
     {
         match self {
-            Step::Plain(pipe) => Ok(run_plain_rows(alloc, seed, pipe, rows)?),
-            Step::Stats(stats, plan) => statistics_of(alloc, stats, plan, rows),
+            Step::Plain(pipe) => Ok(apply_plain_to_rows(alloc, seed, pipe, rows)?),
+            Step::Stats(stats, plan) => statistics_of_rows(alloc, stats, plan, rows),
             Step::Keep(asked) => Ok(keep(alloc, asked, rows.rest(alloc)?)?),
         }
     }
 }
 
-/// Returns the records that a pipe without regular expressions makes of those of rows, with this seed of the tables of
-/// values.
-fn run_plain_rows(
+/// Returns the records that a pipe which is neither `stats` nor `filter` makes of those of rows. Hashes with the given
+/// seed.
+fn apply_plain_to_rows(
     alloc: Global,
     seed: HashSeed,
     pipe: &Pipe,
@@ -148,11 +136,11 @@ fn run_plain_rows(
 {
     match pipe {
         Pipe::Uniq(uniq) => {
-            let tally = tally_of(alloc, seed, uniq.names.as_slice(), rows)?;
+            let tally = tally_of_rows(alloc, seed, uniq.names.as_slice(), rows)?;
             tally.uniq(alloc, uniq)
         }
         Pipe::Top(top) => {
-            let tally = tally_of(alloc, seed, top.names.as_slice(), rows)?;
+            let tally = tally_of_rows(alloc, seed, top.names.as_slice(), rows)?;
             tally.top(alloc, top)
         }
         _ => run_plain(alloc, seed, pipe, rows.rest(alloc)?),
@@ -160,7 +148,7 @@ fn run_plain_rows(
 }
 
 /// Returns the statistics of the records of rows.
-fn statistics_of(
+fn statistics_of_rows(
     alloc: Global,
     pipe: &StatsPipe,
     plan: &Plan,
@@ -181,7 +169,7 @@ fn statistics_of(
 }
 
 /// Returns how many of the records of rows have each tuple of these fields.
-fn tally_of<'p>(
+fn tally_of_rows<'p>(
     alloc: Global,
     seed: HashSeed,
     names: &'p [Text],

@@ -4,6 +4,7 @@ use crate::notation_tests::pipes_of;
 use crate::pipe_tests::{made, shown};
 use lq_ast::Pipe;
 use lq_pipes::{apply_rows, rec_of};
+use lq_tuple::HashSeed;
 use std::alloc::{AllocError, Global};
 use vl_row::{FieldList, Row, Text};
 
@@ -40,7 +41,7 @@ fn made_of_rows(alloc: Global, pipes: &[Pipe], rows: Vec<&Row>) -> Result<Text, 
     if rows.len() > 1000 {
         return Text::try_of(alloc, "too many rows\n");
     }
-    shown(alloc, apply_rows(alloc, pipes, rows))
+    shown(alloc, apply_rows(alloc, HashSeed::fixed(), pipes, rows))
 }
 
 fn records_of(alloc: Global, rows: &[&Row]) -> Result<Vec<FieldList>, AllocError> {

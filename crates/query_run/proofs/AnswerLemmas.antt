@@ -15,11 +15,8 @@ use Rattle.lq_ast.specs.Condition.{Condition}
 use Rattle.lq_ast.specs.Evaluation.{evaluate, piped_outcome, row_limit, rows_that_hold}
 use Rattle.lq_ast.specs.Holds.{holds}
 use Rattle.lq_ast.specs.Pipes.{all_piped}
-use Rattle.lq_ast.specs.PipeView.{stage}
-use Rattle.lq_filter.specs.Tree.{condition_of}
+use Rattle.lq_ast.specs.Question.{Question}
 use Rattle.query_run.specs.Answer.{FailsFor, FailsOver, FailsPiped, IsAnswerOver, PrintsPiped, held_in}
-use Rattle.query_run.specs.Asked.{asked_by}
-use Rattle.query_run.specs.declared.search.Search.{Search}
 use Rattle.query_run.specs.declared.evaluation.RunFault.{RunFault}
 use Rattle.query_run.specs.declared.evaluation.RunFault.TheVariants.{ManyRows, Overflow, Memory}
 
@@ -104,7 +101,8 @@ module _ (condition : Condition) (now : ℤ) (rows : List Row) (k : ℕ) (row : 
   held-more below is true_of =
       let first : rows_that_hold condition now (take (suc k) rows)
       ≡ rows_that_hold condition now (take k rows) ++ rows_that_hold condition now (row ∷ []) =
-      ap (rows_that_hold condition now) (take-item rows k row below is) ∙ held-append condition now (take k rows) (row ∷ []) in
+      ap (rows_that_hold condition now) (take-item rows k row below is)
+      ∙ held-append condition now (take k rows) (row ∷ []) in
       let one : rows_that_hold condition now (row ∷ []) ≡ row ∷ [] = rw true_of refl in
       let all : rows_that_hold condition now rows
       ≡ rows_that_hold condition now (take (suc k) rows) ++ rows_that_hold condition now (drop (suc k) rows) =
@@ -153,36 +151,36 @@ map_twice : {X Y Z : Type 0} (g : Y → Z) (f : X → Y) (xs : List X) → map g
 map_twice g f [] = refl
 map_twice g f (x ∷ xs) = ap (λ ys. g (f x) ∷ ys) (map_twice g f xs)
 
-module _ (search : Search) (now : ℤ) (seen : List Row) where
+module _ (query : Question) (now : ℤ) (seen : List Row) where
   -- there are too many rows, or memory was wanting
-  pub fails-gathering : (fault : RunFault) → FailsFor (rows_that_hold (condition_of search.filter) now seen) fault
-      → FailsOver (asked_by search) now seen fault
+  pub fails-gathering : (fault : RunFault) → FailsFor (rows_that_hold query.condition now seen) fault
+      → FailsOver query now seen fault
   fails-gathering ManyRows h =
-      rw (le-ltb (length (rows_that_hold (condition_of search.filter) now seen)) row_limit h) refl
+      rw (le-ltb (length (rows_that_hold query.condition now seen)) row_limit h) refl
   fails-gathering (Overflow name) h = absurd h
   fails-gathering Memory h = tt
 
   module _ (rows : List (Bor Row))
-      (held : map (λ row. row.now) rows ≡ rows_that_hold (condition_of search.filter) now seen)
+      (held : map (λ row. row.now) rows ≡ rows_that_hold query.condition now seen)
       (few : length rows < row_limit) where
-    all_piped_of : evaluate (asked_by search) now seen
-        ≡ piped_outcome (all_piped (map stage search.pipes) (map (λ row. record_of row.now) rows))
+    all_piped_of : evaluate query now seen
+        ≡ piped_outcome (all_piped query.stages (map (λ row. record_of row.now) rows))
     all_piped_of =
-        let held_few : length (rows_that_hold (condition_of search.filter) now seen) < row_limit =
+        let held_few : length (rows_that_hold query.condition now seen) < row_limit =
         omega (arith, few, ap length held, length-map rows (λ row. row.now)) in
-        rw (lt-ltb (length (rows_that_hold (condition_of search.filter) now seen)) row_limit held_few)
-        (ap (λ rs. piped_outcome (all_piped (map stage search.pipes) (map record_of rs))) (sym held)
-        ∙ ap (λ rs. piped_outcome (all_piped (map stage search.pipes) rs)) (map_twice record_of (λ row. row.now) rows))
+        rw (lt-ltb (length (rows_that_hold query.condition now seen)) row_limit held_few)
+        (ap (λ rs. piped_outcome (all_piped query.stages (map record_of rs))) (sym held)
+        ∙ ap (λ rs. piped_outcome (all_piped query.stages rs)) (map_twice record_of (λ row. row.now) rows))
 
     pub answers : (text : List ℕ)
-        → PrintsPiped (map stage search.pipes) (map (λ row. record_of row.now) rows) text
-        → IsAnswerOver (asked_by search) now seen text
+        → PrintsPiped query.stages (map (λ row. record_of row.now) rows) text
+        → IsAnswerOver query now seen text
     answers text (found, made, printed) =
         record { found = found; evaluated = all_piped_of ∙ ap piped_outcome made; printed = printed }
 
     pub fails : (fault : RunFault)
-        → FailsPiped (map stage search.pipes) (map (λ row. record_of row.now) rows) fault
-        → FailsOver (asked_by search) now seen fault
+        → FailsPiped query.stages (map (λ row. record_of row.now) rows) fault
+        → FailsOver query now seen fault
     fails ManyRows h = absurd h
     fails (Overflow name) h = all_piped_of ∙ ap piped_outcome h
     fails Memory h = tt

@@ -1,5 +1,6 @@
 -- The parts in the order of their batches have the rows of the history, in its order.
-use Rattle.std.proofs.Common.{◌≡◌, ℕ, suc, ◌+◌, ◌<◌, ◌≤◌, List, [], ◌∷◌, ◌++◌, length, map, flat_map, get_or, refl, sym, ap}
+use Rattle.std.proofs.Common.{◌≡◌, ℕ, suc, ◌+◌, ◌<◌, ◌≤◌, List, [], ◌∷◌, ◌++◌, length, map, flat_map, get_or, refl, sym}
+use Rattle.std.proofs.Common.{ap}
 use Rattle.std.proofs.Common.{subst, ◌∙◌, arith, take, All, Some, zero}
 use Rattle.std.proofs.lemmas.List.{map-append}
 use Rattle.std.proofs.lemmas.Option.{none-some}
@@ -10,13 +11,15 @@ use Rattle.std.specs.List.{AllByRecursion, slice_get, sum_by}
 use Rattle.std.specs.List.Sorted.{IsPermutation}
 use Rattle.log_model.specs.Batches.{AreRising}
 use Rattle.log_model.specs.Core.{Contents, Stands, parts_of}
-use Rattle.log_model.specs.History.{History, Numbered, entry_rows, numbered, numbered_after, numbered_in, rows_in, rows_of}
+use Rattle.log_model.specs.History.{History, Numbered, entry_rows, numbered, numbered_after, numbered_in, rows_in}
+use Rattle.log_model.specs.History.{rows_of}
 use Rattle.log_model.specs.Row.{Row}
 use Rattle.log_model.proofs.Joining.{numbered_rising, parts_joined}
 use Rattle.log_model.proofs.Numbering.{rows_in_numbered}
 use Rattle.query_run.specs.Order.{IsOrder, IsPlaced, part_at}
 use Rattle.query_run.specs.declared.order.Place.{Place}
-use Rattle.query_run.proofs.Rising.{AreSorted, HaveAllOf, first_of, firsts, firsts-append, joined, joined_rise, one_first, one_order}
+use Rattle.query_run.proofs.Rising.{AreSorted, HaveAllOf, first_of, firsts, firsts-append, joined, joined_rise}
+use Rattle.query_run.proofs.Rising.{one_first, one_order}
 
 abbrev flat : List (List Numbered) → List Numbered
 flat parts = flat_map (λ part. part) parts

@@ -1,11 +1,9 @@
--- Which texts are asked, which are refused and why, and what a search asks.
-use Rattle.std.specs.Prelude.{◌⊎◌, ℕ, List, Err, flat_map, map}
+-- Which texts are asked, and which are refused and why.
+use Rattle.std.specs.Prelude.{◌⊎◌, ℕ, List, Err}
 use Rattle.std.specs.List.{AllByRecursion}
-use Rattle.lq_ast.specs.Patterns.{CanBeRead, all_patterns, patterns_of_stage}
-use Rattle.lq_ast.specs.PipeView.{stage}
+use Rattle.lq_ast.specs.Patterns.{CanBeRead, all_patterns}
 use Rattle.lq_ast.specs.Question.{Question}
 use Rattle.lq_filter.specs.Refusal.{IsFirstUnreadable}
-use Rattle.lq_filter.specs.Tree.{condition_of}
 use Rattle.lq_filter.specs.declared.fault.PrepareFault.{PrepareFault}
 use Rattle.lq_filter.specs.declared.fault.PrepareFault.TheVariants as preparing
 use Rattle.lq_parse.specs.Query.{IsQueryText, QueryOf}
@@ -13,13 +11,19 @@ use Rattle.lq_parse.specs.QueryFault.{QueryFault}
 use Rattle.lq_parse.specs.QueryFault.TheVariants as faults
 use Rattle.query_run.specs.declared.query.QueryRefusal.{QueryRefusal}
 use Rattle.query_run.specs.declared.query.QueryRefusal.TheVariants.{Unspelled, Pattern, Memory}
-use Rattle.query_run.specs.declared.search.Search.{Search}
 
 -- ---- texts
 
 -- the text spells a query whose patterns can all be read
 abbrev pub IsReadableQuery : List ℕ → Type 0
 IsReadableQuery text = (query : Question) × IsQueryText text query × AllByRecursion CanBeRead (all_patterns query)
+
+-- The text spells a query whose patterns can all be read, and of it this holds.
+pub record ForReadableQuery (text : List ℕ) (holds : Question → Type 0) : Type 0 where
+  pub query : Question
+  pub spelled : IsQueryText text query
+  pub readable : AllByRecursion CanBeRead (all_patterns query)
+  pub facts : holds query
 
 -- the text spells no query, or one whose patterns cannot all be read
 abbrev pub IsNoReadableQuery : List ℕ → Type 0
@@ -59,13 +63,3 @@ refused_by faults.Memory = Memory
 abbrev pub refused_pattern : PrepareFault → QueryRefusal
 refused_pattern (preparing.RegexRefused nth) = Pattern nth
 refused_pattern preparing.Memory = Memory
-
--- ---- searches
-
--- what a search asks
-abbrev pub asked_by : Search → Question
-asked_by search = record { condition = condition_of search.filter; stages = map stage search.pipes }
-
--- the regular expressions of its pipes can all be read
-abbrev pub HasReadablePipes : Search → Type 0
-HasReadablePipes search = AllByRecursion CanBeRead (flat_map patterns_of_stage (map stage search.pipes))

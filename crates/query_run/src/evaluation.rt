@@ -9,9 +9,9 @@ ghost use Rattle.lq_ast.specs.Evaluation.{row_limit, rows_that_hold};
 ghost use Rattle.lq_ast.specs.Patterns.{CanBeRead, patterns_of_stage};
 ghost use Rattle.lq_ast.specs.PipeView.{stage};
 ghost use Rattle.lq_ast.specs.Pipes.{all_piped};
+ghost use Rattle.lq_ast.specs.Question.{question};
 ghost use Rattle.lq_filter.specs.Tree.{condition_of, moment_of, scanned};
 ghost use Rattle.query_run.specs.Answer.{FailsFor, FailsOver, FailsPiped, IsAnswerOver, PrintsPiped, held_in};
-ghost use Rattle.query_run.specs.Asked.{HasReadablePipes, asked_by};
 ghost use Rattle.query_run.specs.Order.{IsPlaced, part_at};
 
 use crate::order::{Place, places_in_order, rows_at};
@@ -19,7 +19,7 @@ use crate::search::Search;
 use log_core::Snapshot;
 use lq_ast::Pipe;
 use lq_filter::{Prepared, Scan};
-use lq_pipes::{PipeFault, Printer, apply_rows_seeded, lines};
+use lq_pipes::{PipeFault, Printer, apply_rows, lines};
 use lq_tuple::HashSeed;
 use std::alloc::{AllocError, AllocFailed, Global};
 use vl_row::{Recs, Row, RowList, Text};
@@ -59,39 +59,22 @@ impl<T: Drop> From<AllocFailed<T>> for RunFault {
 }
 
 /// Returns the answer to the query at the moment `now`, in nanoseconds since 1970: the lines of the records that its
-/// pipes make of those rows that hold, in the order of the history. The seed of the tables of values is the fixed one.
+/// pipes make of those rows that hold, in the order of the history. Hashes with the given seed.
 pub fn answer(
-    alloc: Global,
-    search: &Search,
-    now: i64,
-    snapshot: &Snapshot<RowList>,
-) -> Result<Text, RunFault>
-    requires { HasReadablePipes search.now }
-    ensures answered { IfOk result (λ text. (history : History) → Stands (λ rows. rows) snapshot.now history
-        → IsAnswerOver (asked_by search.now) now (rows_of history) text) }
-    ensures fault { IfErr result (λ fault. (history : History) → Stands (λ rows. rows) snapshot.now history
-        → FailsOver (asked_by search.now) now (rows_of history) fault) }
-{
-    answer_seeded(alloc, HashSeed::fixed(), search, now, snapshot)
-}
-
-/// Returns the same, with this seed of the tables of values.
-pub fn answer_seeded(
     alloc: Global,
     seed: HashSeed,
     search: &Search,
     now: i64,
     snapshot: &Snapshot<RowList>,
 ) -> Result<Text, RunFault>
-    requires { HasReadablePipes search.now }
     ensures answered { IfOk result (λ text. (history : History) → Stands (λ rows. rows) snapshot.now history
-        → IsAnswerOver (asked_by search.now) now (rows_of history) text) }
+        → IsAnswerOver (question search.now) now (rows_of history) text) }
     ensures fault { IfErr result (λ fault. (history : History) → Stands (λ rows. rows) snapshot.now history
-        → FailsOver (asked_by search.now) now (rows_of history) fault) }
+        → FailsOver (question search.now) now (rows_of history) fault) }
 {
     let places = places_in_order(alloc, snapshot)?;
-    let rows = held_rows(alloc, &search.filter, now, snapshot, places.as_slice())?;
-    piped_lines(alloc, seed, search.pipes.as_slice(), rows)
+    let rows = held_rows(alloc, search.filter(), now, snapshot, places.as_slice())?;
+    piped_lines(alloc, seed, search.query().pipes.as_slice(), rows)
 }
 
 /// Returns the rows that hold at the moment `now`, over the parts at these places, one after another.
@@ -184,7 +167,7 @@ fn made_of(alloc: Global, seed: HashSeed, pipes: &[Pipe], rows: Vec<&Row>) -> Re
         all_piped (map stage pipes.now) (map (λ row. record_of row.now) rows.entry.items) ≡ Ok made) }
     ensures fault { IfErr result (FailsPiped (map stage pipes.now) (map (λ row. record_of row.now) rows.entry.items)) }
 {
-    match apply_rows_seeded(alloc, seed, pipes, rows) {
+    match apply_rows(alloc, seed, pipes, rows) {
         Ok(made) => Ok(made),
         Err(PipeFault::RegexRefused { .. }) => unreachable!(),
         Err(PipeFault::Overflow { name }) => Err(RunFault::Overflow { name }),

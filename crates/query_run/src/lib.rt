@@ -1,4 +1,4 @@
-//! Queries read and prepared, and their answers over a look at the shelf.
+//! Prepared queries, and their answers over a snapshot of the shelf.
 #![tactic(auto)]
 
 mod evaluation;
@@ -6,7 +6,7 @@ mod order;
 mod query;
 mod search;
 
-pub use evaluation::{RunFault, answer, answer_seeded};
+pub use evaluation::{RunFault, answer};
 pub use lq_parse::{QueryFault, query_law};
 pub use lq_tuple::HashSeed;
 pub use query::{QueryRefusal, read_query};

@@ -1,9 +1,10 @@
-//! Queries, read and prepared.
+//! How a query is read and prepared.
 ghost use Rattle.std.specs.Prelude.{◌≡◌, ◌≢◌, Err, IfErr, IfOk, IsErr};
 ghost use Rattle.std.specs.List.{AllByRecursion};
 ghost use Rattle.lq_ast.specs.Patterns.{CanBeRead, all_patterns};
+ghost use Rattle.lq_ast.specs.Question.{question};
 ghost use Rattle.lq_parse.specs.Query.{IsQueryText};
-ghost use Rattle.query_run.specs.Asked.{HasReadablePipes, IsNoReadableQuery, IsReadableQuery, Refuses, asked_by};
+ghost use Rattle.query_run.specs.Asked.{IsNoReadableQuery, IsReadableQuery, Refuses};
 ghost use Rattle.query_run.specs.declared.query.QueryRefusal.TheVariants.{Memory, Unspelled};
 
 use crate::search::Search;
@@ -49,11 +50,10 @@ impl From<PrepareFault> for QueryRefusal {
     }
 }
 
-/// Reads the text and prepares its query, all of its patterns too. `Memory` may always be returned.
+/// Reads the text and prepares its query. All of its patterns are read too. `Memory` may always be returned.
 pub fn read_query(alloc: Global, text: &str) -> Result<Search, QueryRefusal>
-    ensures read { IfOk result (λ search. IsQueryText text.now (asked_by search)) }
-    ensures pipes { IfOk result HasReadablePipes }
-    ensures patterns { IfOk result (λ search. AllByRecursion CanBeRead (all_patterns (asked_by search))) }
+    ensures read { IfOk result (λ query. IsQueryText text.now (question query)) }
+    ensures patterns { IfOk result (λ query. AllByRecursion CanBeRead (all_patterns (question query))) }
     ensures refused { IfErr result (Refuses text.now) }
     ensures fault { result ≢ Err (Unspelled QueryFault.Memory) }
 
@@ -63,8 +63,5 @@ pub fn read_query(alloc: Global, text: &str) -> Result<Search, QueryRefusal>
 {
     let query = parse(alloc, text)?;
     let filter = prepare(alloc, &query)?;
-    Ok(Search {
-        filter,
-        pipes: query.pipes,
-    })
+    Ok(Search::of(query, filter))
 }

@@ -1,5 +1,5 @@
 -- Why an answer is not written.
-use Rattle.std.proofs.Common.{◌≡◌, ℕ, ℤ, List}
+use Rattle.std.proofs.Common.{ℤ, List}
 use Rattle.vl_io.specs.Change.{Change}
 use Rattle.log_model.specs.Row.{Row}
 use Rattle.lone_desk.specs.Answer.{FailsOver}

@@ -1,5 +1,5 @@
 -- What has been seen, as a history of batches.
-use Rattle.std.proofs.Common.{◌≡◌, ℕ, ◌+◌, ◌≤◌, List, [], ◌∷◌, ◌++◌, length, refl, sym, ap, subst, ◌∙◌, arith}
+use Rattle.std.proofs.Common.{◌≡◌, ℕ, ◌+◌, ◌<◌, ◌≤◌, List, [], ◌∷◌, ◌++◌, length, refl, sym, ap, subst, ◌∙◌, arith}
 use Rattle.std.proofs.Common.{append_assoc, length-append}
 use Rattle.std.proofs.lemmas.List.{length-map}
 use Rattle.log_model.specs.Core.{held_limit}
@@ -10,10 +10,8 @@ use Rattle.ingest_row.specs.Intake.{Outcome, rows_read}
 use Rattle.lone_desk.specs.Insert.{HasInsertOutcome, insert_effect}
 use Rattle.lone_desk.specs.Insertion.{accepted}
 use Rattle.lone_desk.specs.Seen.{Caller, Gains, Seen}
-use Rattle.lone_desk.specs.Alone.{Has}
-use Rattle.lone_desk.specs.Alone.{Insertion}
+use Rattle.lone_desk.specs.Alone.{Has, InsertsAlone, Insertion, IsAlone, last_number}
 use Rattle.lone_desk.proofs.Laws.{batches-gained}
-use Rattle.lone_desk.specs.Alone.{InsertsAlone, IsAlone}
 use Rattle.vl_pipe.specs.Groups.{Arrival}
 use Rattle.vl_pipe.specs.Load.{AddsRows, IsHeld, TakesGroup}
 use Rattle.vl_pipe.proofs.GroupLemmas.{append_nil}
@@ -29,8 +27,11 @@ as_many opened seen batches held =
       length-append opened batches,
     )
 
-pub held_few : (seen : Seen) (batches : List Batch) → IsHeld [] seen batches → length seen.history ≤ held_limit
-held_few seen batches held = omega (arith, held.few, held.settled, as_many [] seen batches held)
+-- There is a number for one batch more.
+pub held_numbered : (opened : List Batch) (seen : Seen) (batches : List Batch) → IsHeld opened seen batches
+    → length opened + held_limit < last_number → length seen.history < last_number
+held_numbered opened seen batches held numbers =
+    omega (arith, held.few, held.settled, as_many opened seen batches held, numbers)
 
 pub held_all : (opened : List Batch) (seen : Seen) (batches : List Batch) → IsHeld opened seen batches
     → length seen.history ≡ seen.settled + held_limit → length batches ≡ held_limit
@@ -70,9 +71,10 @@ module _ (caller : Caller) (alone : IsAlone caller) (options : Options) (now : �
 
 -- A group was loaded.
 pub takes : (arrival : Arrival) (body : List ℕ) (old new : Seen) (insertion : Insertion)
-    → (inserts : InsertsAlone arrival.options arrival.moment body old new insertion) → TakesGroup arrival body inserts.2.outcomes old new
+    → (inserts : InsertsAlone arrival.options arrival.moment body old new insertion)
+    → TakesGroup arrival body inserts.2.outcomes old new
 takes arrival body old new insertion (caller, alone, inserts) = record {
   intake = inserts.given;
-  adds = adds caller alone arrival.options arrival.moment body inserts.outcomes old new (rows_read inserts.outcomes) refl
-      inserts.has_outcome inserts.has;
+  adds = adds caller alone arrival.options arrival.moment body inserts.outcomes old new
+      (rows_read inserts.outcomes) refl inserts.has_outcome inserts.has;
 }

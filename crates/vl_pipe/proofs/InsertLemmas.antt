@@ -1,21 +1,19 @@
 -- Why a group is not loaded.
-use Rattle.std.proofs.Common.{◌≡◌, ℕ, ◌+◌, ◌-◌, ◌^◌, ◌<◌, ◌≤◌, List, [], length, min, ap, arith}
+use Rattle.std.proofs.Common.{◌≡◌, ℕ, ◌+◌, ◌-◌, ◌^◌, ◌<◌, ◌≤◌, List, length, min, ap, arith}
 use Rattle.log_model.specs.Core.{held_limit}
 use Rattle.log_model.specs.Line.{lines_of}
-use Rattle.log_model.specs.Row.{Batch, Row, batch_weight}
+use Rattle.log_model.specs.Row.{Row, batch_weight}
 use Rattle.ingest_row.specs.Intake.{rows_read}
 use Rattle.lone_desk.specs.Seen.{Caller, Seen}
 use Rattle.lone_desk.specs.Insert.{full, large, spent}
 use Rattle.lone_desk.specs.Insertion.{IsRefusal}
-use Rattle.lone_desk.specs.Alone.{IsFull}
 use Rattle.lone_desk.specs.InsertionFault.TheVariants as faults
-use Rattle.lone_desk.specs.Alone.{IsAlone, RefusesAlone}
+use Rattle.lone_desk.specs.Alone.{IsAlone, IsFull, RefusesAlone, last_number}
 use Rattle.vl_pipe.specs.Groups.{Arrival}
-use Rattle.vl_pipe.specs.Load.{IsHeld, RefusesGroup}
+use Rattle.vl_pipe.specs.Load.{RefusesGroup}
 use Rattle.vl_pipe.specs.declared.interrupt.Interrupt.TheVariants.{Beyond}
 use Rattle.vl_pipe.specs.declared.interrupt.Limit.TheVariants as limits
 use Rattle.lone_desk.proofs.Laws.{same_history, same_settled}
-use Rattle.vl_pipe.proofs.HeldLemmas.{held_few}
 use Rattle.vl_pipe.proofs.WeightLemmas.{rows_fit, rows_light}
 
 -- what was told of a weight is the weight
@@ -39,7 +37,8 @@ module _ (caller : Caller) (alone : IsAlone caller) (arrival : Arrival) (body : 
       let told : weight ≡ batch_weight rows = told_whole weight (batch_weight rows) refusal.1.2 fit in
       (outcomes, refusal.1.1, (told, omega (arith, told, refusal.1.3)))
 
-  refuses_full : IsRefusal caller arrival.options arrival.moment body old new full → RefusesGroup arrival body old (Beyond limits.Full)
+  refuses_full : IsRefusal caller arrival.options arrival.moment body old new full
+      → RefusesGroup arrival body old (Beyond limits.Full)
   refuses_full refusal =
       let follows = refusal.0.0 in (
         refusal.1.0,
@@ -52,11 +51,11 @@ module _ (caller : Caller) (alone : IsAlone caller) (arrival : Arrival) (body : 
         ),
       )
 
-  -- There is always a number for a batch that may wait.
-  never_spent : (batches : List Batch) → IsHeld [] old batches
+  -- There is a number for a batch.
+  never_spent : length old.history < last_number
       → IsRefusal caller arrival.options arrival.moment body old new spent → ⊥
-  never_spent batches held refusal =
-      omega (arith, held_few old batches held, ap length (same_history caller alone old new refusal.0.0), refusal.1.3)
+  never_spent numbered refusal =
+      omega (arith, numbered, ap length (same_history caller alone old new refusal.0.0), refusal.1.3)
 
 pub large_group : (arrival : Arrival) (body : List ℕ) (old new : Seen) (weight : ℕ) → length (lines_of body) ≤ 1000
     → RefusesAlone arrival.options arrival.moment body old new (faults.Large weight)
@@ -65,10 +64,11 @@ large_group arrival body old new weight few (caller, alone, refusal) =
     refuses_large caller alone arrival body old new weight few refusal
 
 pub full_group : (arrival : Arrival) (body : List ℕ) (old new : Seen) (held : ℕ)
-    → RefusesAlone arrival.options arrival.moment body old new (faults.Full held) → RefusesGroup arrival body old (Beyond limits.Full)
+    → RefusesAlone arrival.options arrival.moment body old new (faults.Full held)
+    → RefusesGroup arrival body old (Beyond limits.Full)
 full_group arrival body old new held (caller, alone, refusal) = refuses_full caller alone arrival body old new refusal.1
 
-pub never_last : (arrival : Arrival) (body : List ℕ) (old new : Seen) (batches : List Batch) → IsHeld [] old batches
+pub never_last : (arrival : Arrival) (body : List ℕ) (old new : Seen) → length old.history < last_number
     → RefusesAlone arrival.options arrival.moment body old new faults.Spent → ⊥
-never_last arrival body old new batches held (caller, alone, refusal) =
-    never_spent caller alone arrival body old new batches held refusal
+never_last arrival body old new numbered (caller, alone, refusal) =
+    never_spent caller alone arrival body old new numbered refusal

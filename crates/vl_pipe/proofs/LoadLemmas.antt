@@ -1,19 +1,21 @@
 -- The loop that takes an input in, group by group.
-use Rattle.std.proofs.Common.{◌≡◌, ◌⊎◌, inl, inr, ℕ, ◌+◌, ◌-◌, ◌<◌, ◌≤◌, Bool, true, false, List, [], ◌∷◌, ◌++◌, length, take, max, Option, Ok, Err, refl, sym, ap, subst, ◌∙◌, arith, append_assoc, length-append}
+use Rattle.std.proofs.Common.{◌≡◌, ◌⊎◌, inl, inr, ℕ, ◌+◌, ◌-◌, ◌<◌, ◌≤◌, Bool, true, false, List, [], ◌∷◌, ◌++◌, length}
+use Rattle.std.proofs.Common.{take, max, Option, Ok, Err, refl, sym, ap, subst, ◌∙◌, arith, append_assoc, length-append}
 use Rattle.std.proofs.Math.Seq.{take-append_seam}
 use Rattle.std.specs.List.{AllZip}
 use Rattle.std.specs.Prelude.{IfErr, IsErrAnd, Result, count_by}
 use Rattle.vl_io.specs.Bytes.{Appends, Consumes, IsAtEnd}
 use Rattle.vl_io.specs.Change.{Change, Gave, IsCut, IsSpent, Took}
 use Rattle.vl_io.specs.Faults.{Rose}
-use Rattle.vl_io.specs.Lines.{Advances, AreFewer, AreLines, FallsShort, IsGroup, IsOver, IsTooLong, Reading, bytes_read, is_feed, piece_len}
+use Rattle.vl_io.specs.Lines.{Advances, AreFewer, AreLines, FallsShort, IsGroup, IsOver, IsTooLong, Reading, bytes_read}
+use Rattle.vl_io.specs.Lines.{is_feed, piece_len}
 use Rattle.vl_io.proofs.Laws.{Appends-nil, Appends-trans, Consumes-nil, Consumes-trans, Rose-earlier}
 use Rattle.log_model.specs.Line.{lines_of}
-use Rattle.log_model.specs.Row.{batch_limit, batch_weight}
+use Rattle.log_model.specs.Row.{Batch, batch_limit, batch_weight}
 use Rattle.log_model.proofs.Lines.{lines_le, lines_of-none}
 use Rattle.ingest_row.specs.Intake.{Outcome, rows_read}
 use Rattle.lone_desk.specs.Seen.{Seen}
-use Rattle.vl_pipe.specs.Groups.{Arrival, AreGroups, AreLight, BeginsWith, CanWait, EndsLine, HasOutcome}
+use Rattle.vl_pipe.specs.Groups.{Arrival, AreGroups, BeginsWith, EndsLine, FitBatches, HasOutcome}
 use Rattle.vl_pipe.specs.Groups.{HaveOutcomes, batches_of, outcomes_in, refusals_from, refusals_of}
 use Rattle.vl_pipe.specs.Program as model
 use Rattle.vl_pipe.specs.Program.{AreFew, HaveNoGroup, IsBeyond}
@@ -26,7 +28,9 @@ use Rattle.vl_pipe.specs.declared.interrupt.Limit.{Limit}
 use Rattle.vl_pipe.specs.declared.interrupt.Limit.TheVariants.{Long, Large, Full}
 use Rattle.vl_pipe.specs.declared.interrupt.Interrupt.{Interrupt}
 use Rattle.vl_pipe.specs.declared.interrupt.Interrupt.TheVariants.{Unreadable, Unwritable, Beyond, NoAnswer, NoMemory}
-use Rattle.vl_pipe.proofs.GroupLemmas.{append_nil, AllByRecursion-more, AllZip-length, AreGroups-more, AreGroups-weaken, AreGroups-whole, AreWhole, batches-more, intake-more, outcomes-more, refusals-more}
+use Rattle.vl_pipe.proofs.GroupLemmas.{append_nil, AllByRecursion-more, AllZip-length, AreGroups-more, AreGroups-weaken}
+use Rattle.vl_pipe.proofs.GroupLemmas.{AreGroups-whole, AreWhole, batches-more, intake-more, outcomes-more}
+use Rattle.vl_pipe.proofs.GroupLemmas.{refusals-more}
 use Rattle.vl_pipe.proofs.HeldLemmas.{held_all}
 use Rattle.vl_pipe.proofs.LineLemmas.{length-lines_of, lines_few, lines_some}
 
@@ -35,7 +39,7 @@ change before after faults_before faults_after =
     record { bytes_before = before; bytes_after = after; faults_before = faults_before; faults_after = faults_after }
 
 -- what is so at the start of each turn
-pub record Loading (arrival : Arrival) (source errors : Change) (reader : Reading) (shelf : Seen)
+pub record Loading (arrival : Arrival) (opened : List Batch) (source errors : Change) (reader : Reading) (shelf : Seen)
     (lines : ℕ) : Type 0 where
   pub taken : List ℕ
   pub groups : List (List Outcome)
@@ -52,19 +56,19 @@ pub record Loading (arrival : Arrival) (source errors : Change) (reader : Readin
   pub open_lines : reader.ended ≡ false → lines ≡ length (outcomes_in groups)
   pub over : reader.ended ≡ true → IsSpent source × (reader.ahead ≡ [])
   pub few : lines ≤ length taken + 1000
-  pub light : AreLight groups
-  pub held : IsHeld [] shelf (batches_of groups)
+  pub light : FitBatches groups
+  pub held : IsHeld opened shelf (batches_of groups)
   pub named : Took errors (refusals_of groups)
   pub source_stays : source.faults_before ≤ source.faults_after
   pub errors_stay : errors.faults_before ≤ errors.faults_after
 
-pub loading_starts : (arrival : Arrival) (left : Option (List ℕ)) (s : ℕ) (err : Option (List ℕ)) (f : ℕ) (reader : Reading)
-    (shelf : Seen)
+pub loading_starts : (arrival : Arrival) (opened : List Batch) (left : Option (List ℕ)) (s : ℕ) (err : Option (List ℕ))
+    (f : ℕ) (reader : Reading) (shelf : Seen)
     → reader ≡ record { lines = 1000; limit = input_limit; passed = 0; group = []; ahead = []; ended = false }
-    → IsHeld [] shelf []
-    → Loading arrival (change left left s s) (change err err f f) reader shelf 0
-loading_starts arrival left s err f reader shelf fresh held =
-    subst (λ r. Loading arrival (change left left s s) (change err err f f) r shelf 0) (sym fresh) (record {
+    → IsHeld opened shelf []
+    → Loading arrival opened (change left left s s) (change err err f f) reader shelf 0
+loading_starts arrival opened left s err f reader shelf fresh held =
+    subst (λ r. Loading arrival opened (change left left s s) (change err err f f) r shelf 0) (sym fresh) (record {
       taken = [];
       groups = [];
       gave = Consumes-nil left;
@@ -167,8 +171,8 @@ pub lines_at_most : (next : Reading) → next.lines ≡ 1000 → IsGroup next �
 lines_at_most next lines (inl whole) = omega (arith, length-lines_of next.lines next.group whole, lines)
 lines_at_most next lines (inr short) = omega (arith, lines_few next.group, short.1, lines)
 
-light_more : (groups : List (List Outcome)) (group : List Outcome) → AreLight groups
-    → batch_weight (rows_read group) ≤ batch_limit → AreLight (groups ++ group ∷ [])
+light_more : (groups : List (List Outcome)) (group : List Outcome) → FitBatches groups
+    → batch_weight (rows_read group) ≤ batch_limit → FitBatches (groups ++ group ∷ [])
 light_more groups group all light =
     AllByRecursion-more (λ g. batch_weight (rows_read g) ≤ batch_limit) groups group all light
 
@@ -191,11 +195,11 @@ behind : (taken group ahead before piece : List ℕ) → group ++ ahead ≡ befo
     ≡ taken ++ (group ++ ahead)
 behind taken group ahead before piece e = append_assoc taken before piece ∙ ap (λ l. taken ++ l) (sym e)
 
-module _ (arrival : Arrival) (left0 left1 left2 : Option (List ℕ)) (s0 s1 s2 : ℕ) (err0 err1 err2 : Option (List ℕ))
-    (f0 f1 f2 : ℕ) (reader next : Reading)
+module _ (arrival : Arrival) (opened : List Batch) (left0 left1 left2 : Option (List ℕ)) (s0 s1 s2 : ℕ)
+    (err0 err1 err2 : Option (List ℕ)) (f0 f1 f2 : ℕ) (reader next : Reading)
     (old new : Seen) (lines : ℕ) where
   abbrev Before : Type 0
-  Before = Loading arrival (change left0 left1 s0 s1) (change err0 err1 f0 f1) reader old lines
+  Before = Loading arrival opened (change left0 left1 s0 s1) (change err0 err1 f0 f1) reader old lines
 
   gave_more : (l : Before) → (advanced : Advanced left1 left2 reader next) → Consumes left0 left2
       (l.taken ++ (next.group ++ next.ahead))
@@ -208,10 +212,10 @@ module _ (arrival : Arrival) (left0 left1 left2 : Option (List ℕ)) (s0 s1 s2 :
   gave_group l advanced = subst (Consumes left0 left2) (sym (append_assoc l.taken next.group next.ahead))
       (gave_more l advanced)
 
-  held_group : (groups : List (List Outcome)) (group : List Outcome) → IsHeld [] old (batches_of groups)
-      → TakesGroup arrival next.group group old new → IsHeld [] new (batches_of (groups ++ group ∷ []))
-  held_group groups group held takes = subst (IsHeld [] new) (sym (batches-more groups group))
-      (takes.adds.1 [] (batches_of groups) held)
+  held_group : (groups : List (List Outcome)) (group : List Outcome) → IsHeld opened old (batches_of groups)
+      → TakesGroup arrival next.group group old new → IsHeld opened new (batches_of (groups ++ group ∷ []))
+  held_group groups group held takes = subst (IsHeld opened new) (sym (batches-more groups group))
+      (takes.adds.1 opened (batches_of groups) held)
 
   ahead_more : (l : Before) → length next.ahead ≤ max (length reader.ahead) piece_len → length next.ahead ≤ piece_len
   ahead_more l few = omega (arith, l.ahead)
@@ -222,7 +226,7 @@ module _ (arrival : Arrival) (left0 left1 left2 : Option (List ℕ)) (s0 s1 s2 :
       → IsGroup next → (next.ended ≡ true → IsAtEnd left2 × (next.ahead ≡ [])) → s1 ≤ s2 → f1 ≤ f2
       → (group : List Outcome) × TakesGroup arrival next.group group old new × Appends err1 err2
       (refusals_from (lines + 1) group)
-      → Loading arrival (change left0 left2 s0 s2) (change err0 err2 f0 f2) next new (lines + 1000)
+      → Loading arrival opened (change left0 left2 s0 s2) (change err0 err2 f0 f2) next new (lines + 1000)
   loading_more l goes_on advanced few is_group at_end source_stays errors_stay (group, takes, named) =
       let advances = advanced.2 in
       let same_lines : next.lines ≡ 1000 = advances.lines ∙ l.group_lines in
@@ -316,7 +320,8 @@ module _ (arrival : Arrival) (left0 left1 left2 : Option (List ℕ)) (s0 s1 s2 :
     where
       feeds : IsGroup next → HaveNoGroup next.group ⊎ AreLines 1000 next.group
       feeds (inl whole) = inr (subst (λ n. AreLines n next.group) (advanced.2.lines ∙ l.group_lines) whole)
-      feeds (inr few) = let fewer : HaveNoGroup next.group = omega (arith, few.1, advanced.2.lines, l.group_lines) in inl fewer
+      feeds (inr few) =
+          let fewer : HaveNoGroup next.group = omega (arith, few.1, advanced.2.lines, l.group_lines) in inl fewer
 
   -- the run stops at the next group
   pub stops_at_group : (l : Before) → reader.ended ≡ false → Advanced left1 left2 reader next
@@ -329,31 +334,32 @@ module _ (arrival : Arrival) (left0 left1 left2 : Option (List ℕ)) (s0 s1 s2 :
   stops_at_group l goes_on advanced few is_group at_end (NoAnswer overflow) h = absurd h
   stops_at_group l goes_on advanced few is_group at_end Unwritable (group, takes, cut) =
       let before : lines ≡ length (outcomes_in l.groups) = l.open_lines goes_on in
-      let held = held_group l.groups group l.held takes in
-      record {
-        groups = l.groups;
-        group = group;
-        begins = begins_with l goes_on advanced is_group at_end group takes.intake;
-        light = light_more l.groups group l.light takes.adds.0;
-        wait = held.few;
-        short = ahead_more l few;
-        named = subst (λ n. IsCut (change err0 err2 f0 f2) (refusals_of l.groups)
-            (refusals_from (n + 1) group)) before (record {
-              len = cut.len;
-              proper = cut.proper;
-              took = Appends-trans err0 err1 err2 _ _ l.named cut.took;
-              failed = Rose-earlier f0 f1 f2 l.errors_stay cut.failed;
-            });
-      }
+      let held = held_group l.groups group l.held takes in (
+        record {
+          groups = l.groups;
+          group = group;
+          begins = begins_with l goes_on advanced is_group at_end group takes.intake;
+          light = light_more l.groups group l.light takes.adds.0;
+          short = ahead_more l few;
+          named = subst (λ n. IsCut (change err0 err2 f0 f2) (refusals_of l.groups)
+              (refusals_from (n + 1) group)) before (record {
+                len = cut.len;
+                proper = cut.proper;
+                took = Appends-trans err0 err1 err2 _ _ l.named cut.took;
+                failed = Rose-earlier f0 f1 f2 l.errors_stay cut.failed;
+              });
+        },
+        held.few,
+      )
   stops_at_group l goes_on advanced few is_group at_end (Beyond limit) (same, (group, given, much)) = record {
     groups = l.groups;
     behind = record {
       begins = begins_before l goes_on advanced;
       light = l.light;
-      wait = l.held.few;
       few = few_behind l advanced (ahead_more l few) is_group;
       cause = beyond limit much (begins_with l goes_on advanced is_group at_end group given);
     };
+    unsettled = l.held.few;
     named = subst (λ e. Appends err0 e (refusals_of l.groups)) (sym same) l.named;
   }
     where
@@ -362,24 +368,23 @@ module _ (arrival : Arrival) (left0 left1 left2 : Option (List ℕ)) (s0 s1 s2 :
           → IsBeyond arrival (change left0 left2 s0 s2) l.groups (begins_before l goes_on advanced) (limit_of limit)
       beyond Long h begins = absurd h
       beyond (Large weight) h begins = (group, begins, h.0, h.1)
-      beyond Full h begins = (group, begins, held_all [] old (batches_of l.groups) l.held h.0, h.1, h.2)
+      beyond Full h begins = (group, begins, held_all opened old (batches_of l.groups) l.held h.0, h.1, h.2)
   stops_at_group l goes_on advanced few is_group at_end NoMemory same = record {
     groups = l.groups;
     behind = record {
       begins = begins_before l goes_on advanced;
       light = l.light;
-      wait = l.held.few;
       few = few_behind l advanced (ahead_more l few) is_group;
       cause = tt;
     };
+    unsettled = l.held.few;
     named = subst (λ e. Appends err0 e (refusals_of l.groups)) (sym same) l.named;
   }
 
-module _ (arrival : Arrival) (left0 left1 left2 : Option (List ℕ)) (s0 s1 s2 : ℕ) (err0 err1 : Option (List ℕ)) (f0 f1 : ℕ)
-    (reader : Reading)
-    (shelf : Seen) (lines : ℕ) where
+module _ (arrival : Arrival) (opened : List Batch) (left0 left1 left2 : Option (List ℕ)) (s0 s1 s2 : ℕ)
+    (err0 err1 : Option (List ℕ)) (f0 f1 : ℕ) (reader : Reading) (shelf : Seen) (lines : ℕ) where
   abbrev Until : Type 0
-  Until = Loading arrival (change left0 left1 s0 s1) (change err0 err1 f0 f1) reader shelf lines
+  Until = Loading arrival opened (change left0 left1 s0 s1) (change err0 err1 f0 f1) reader shelf lines
 
   abbrev Source : Change
   Source = change left0 left2 s0 s2
@@ -439,7 +444,6 @@ module _ (arrival : Arrival) (left0 left1 left2 : Option (List ℕ)) (s0 s1 s2 :
         behind = record {
           begins = begins_until l goes_on (too.piece ++ too.more) too.consumed;
           light = l.light;
-          wait = l.held.few;
           few = few_long l too.piece too.more too.one too.fewer;
           cause = (
             omega (
@@ -455,6 +459,7 @@ module _ (arrival : Arrival) (left0 left1 left2 : Option (List ℕ)) (s0 s1 s2 :
             subst HaveNoGroup (sym (within l too.piece too.more too.all)) (no_group l too.piece too.fewer),
           );
         };
+        unsettled = l.held.few;
         named = l.named;
       }
   stops_reading l goes_on faults.Failed long short failed =
@@ -464,10 +469,10 @@ module _ (arrival : Arrival) (left0 left1 left2 : Option (List ℕ)) (s0 s1 s2 :
         behind = record {
           begins = begins_until l goes_on few.piece few.consumed;
           light = l.light;
-          wait = l.held.few;
           few = few_short l few.piece few.fewer;
           cause = (Rose-earlier s0 s1 s2 l.source_stays (failed refl), no_group l few.piece few.fewer);
         };
+        unsettled = l.held.few;
         named = l.named;
       }
   stops_reading l goes_on faults.Memory long short failed =
@@ -477,10 +482,10 @@ module _ (arrival : Arrival) (left0 left1 left2 : Option (List ℕ)) (s0 s1 s2 :
         behind = record {
           begins = begins_until l goes_on few.piece few.consumed;
           light = l.light;
-          wait = l.held.few;
           few = few_short l few.piece few.fewer;
           cause = tt;
         };
+        unsettled = l.held.few;
         named = l.named;
       }
 
@@ -502,7 +507,7 @@ module _ (arrival : Arrival) (left0 left1 left2 : Option (List ℕ)) (s0 s1 s2 :
   pub loaded : (l : Until) → (next : Reading) → Advanced left1 left2 reader next → IsOver next
       → (reader.ended ≡ false → next.ended ≡ true → IsAtEnd left2 × (next.ahead ≡ [])) →
       (reader.ended ≡ true → left2 ≡ left1)
-      → IsLoaded arrival Source (change err0 err1 f0 f1) shelf
+      → IsLoaded arrival opened Source (change err0 err1 f0 f1) shelf
   loaded l next advanced over ended idle =
       let advances = advanced.2 in
       let left_over : [] ≡ reader.ahead ++ advanced.0 = sym (ap (λ g. g ++ next.ahead) over.group ∙ over.ahead)
@@ -526,10 +531,20 @@ module _ (arrival : Arrival) (left0 left1 left2 : Option (List ℕ)) (s0 s1 s2 :
         all = refl;
         spent = end;
         light = l.light;
-        wait = l.held.few;
         holding = l.held;
         named = l.named;
       }
+
+-- no bytes are at most one group
+pub nothing_few : AreFew 1 []
+nothing_few =
+    record {
+      grouped = [];
+      ahead = [];
+      parts = refl;
+      lines = inl (let none : count_by is_feed [] < 1000 = omega arith in none);
+      short = omega arith;
+    }
 
 -- the run stops before anything is read
 pub stops_unread : (arrival : Arrival) (left : Option (List ℕ)) (s0 s1 : ℕ) (err : Option (List ℕ)) (f0 f1 : ℕ)
@@ -547,9 +562,9 @@ stops_unread arrival left s0 s1 err f0 f1 = record {
       grouped = tt;
     };
     light = tt;
-    wait = omega arith;
-    few = record { grouped = []; ahead = []; parts = refl; lines = inl (let none : count_by is_feed [] < 1000 = omega arith in none); short = omega arith };
+    few = nothing_few;
     cause = tt;
   };
+  unsettled = omega arith;
   named = Appends-nil err;
 }

@@ -1,60 +1,70 @@
 -- From the input to the answer.
-use Rattle.std.proofs.Common.{◌<◌, ◌≡◌, inl, inr, ℕ, ℤ, pos, ◌≤◌, List, [], ◌++◌, take, Option, refl, sym, subst, arith}
+use Rattle.std.proofs.Common.{◌≡◌, ◌⊎◌, inl, inr, ℕ, ℤ, pos, ◌≤◌, false, true, List, [], ◌++◌, take, Option, refl}
+use Rattle.std.proofs.Common.{sym, subst}
+use Rattle.std.specs.List.{AllByRecursion}
 use Rattle.vl_io.specs.Bytes.{Appends}
-use Rattle.vl_io.specs.Change.{Change, Gave, IsCut, IsTold, Took}
-use Rattle.vl_io.specs.Lines.{is_feed}
-use Rattle.std.specs.Prelude.{count_by}
+use Rattle.vl_io.specs.Change.{Change, Gave, IsSpent, IsTold, Took}
 use Rattle.vl_io.proofs.Laws.{Appends-trans, Rose-earlier}
 use Rattle.log_model.specs.History.{rows_of}
+use Rattle.log_model.specs.Row.{Row}
+use Rattle.lone_desk.specs.Answer.{FailsOver, IsAnswerOver}
+use Rattle.lone_desk.specs.Asked.{IsNoReadableQuery, IsReadableQuery}
+use Rattle.lone_desk.specs.Patterns.{CanBeRead, all_patterns}
+use Rattle.lone_desk.specs.Query.{IsQueryText, batch_list_rows}
 use Rattle.lone_desk.specs.Question.{Question}
-use Rattle.lone_desk.specs.Evaluation as evaluation
-use Rattle.lone_desk.specs.Evaluation.{evaluate}
-use Rattle.lone_desk.specs.Answer.{IsAnswerOver}
 use Rattle.lone_desk.specs.Seen.{Seen}
 use Rattle.lone_desk.proofs.QueryLemmas.{history_rows}
-use Rattle.lone_desk.specs.Query.{batch_list_rows}
 use Rattle.vl_pipe.specs.Groups.{Arrival, batches_of, refusals_of}
 use Rattle.vl_pipe.specs.Program as model
-use Rattle.vl_pipe.specs.Program.{AreFew, IsAnswer, IsTakenIn, overflow_text, overflowing, said_of_query, stop_text}
+use Rattle.vl_pipe.specs.Program.{AreFew, IsAnswer, IsTakenIn, Overflows, fault_of, overflow_text, said_of_query}
+use Rattle.vl_pipe.specs.Program.{stop_text}
 use Rattle.vl_pipe.specs.Load.{IsLoaded, StopsLoad, StopsUntold}
 use Rattle.vl_pipe.specs.Interrupt.{limit_of, overflow_of}
-use Rattle.vl_pipe.specs.Pipe.{EndsPipe, OverflowsUntold, ReportsInterrupt, StopsAnswer, StopsPipe, WritesAnswer}
-use Rattle.vl_pipe.specs.Ended.{IsAnswered, IsStopped}
+use Rattle.vl_pipe.specs.Pipe.{EndsPipe, IsPiped, ReportsInterrupt, StopsAnswer, WritesAnswer}
+use Rattle.vl_pipe.specs.Ended.{IsAnswerCut, IsAnswered, IsNamingCut, IsStopped}
 use Rattle.vl_status.specs.declared.status.Status.{Status}
 use Rattle.vl_status.specs.declared.status.Status.TheVariants as statuses
 use Rattle.vl_pipe.specs.declared.interrupt.Interrupt.{Interrupt}
 use Rattle.vl_pipe.specs.declared.interrupt.Interrupt.TheVariants.{Unreadable, Unwritable, Beyond, NoAnswer, NoMemory}
+use Rattle.vl_pipe.specs.declared.pipe.Pipe.{Pipe}
 use Rattle.vl_pipe.proofs.GroupLemmas.{append_nil, AreGroups-weaken}
-use Rattle.vl_pipe.proofs.LoadLemmas.{change}
+use Rattle.vl_pipe.proofs.LoadLemmas.{change, nothing_few}
 
--- memory ran out after the input was loaded
-pub stops_loaded : (arrival : Arrival) (source errors : Change) (seen : Seen) → IsLoaded arrival source errors seen
-    → StopsUntold arrival source errors model.no_memory
-stops_loaded arrival source errors seen l = record {
-  groups = l.groups;
-  behind = record {
-    begins = l.begins;
-    light = l.light;
-    wait = l.wait;
-    few = subst (AreFew 1) (sym l.all)
-        (record { grouped = []; ahead = []; parts = refl; lines = inl (let none : count_by is_feed [] < 1000 = omega arith in none); short = omega arith });
-    cause = tt;
-  };
-  named = l.named;
-}
+-- The source gave an input to its end, and its refused lines are named. The evaluation over it overflows, and nothing
+-- is written about that yet.
+pub record OverflowsUntold (query : Question) (arrival : Arrival) (source errors : Change) (cause : model.Overflow)
+    : Type 0 where
+  pub input : List ℕ
+  pub refusals : List ℕ
+  pub gave : Gave source input
+  pub spent : IsSpent source
+  pub overflows : Overflows query arrival input refusals cause
+  pub named : Took errors refusals
+
+-- Why loading and answering stop, and what was written. Where the evaluation overflows, memory may run out before that
+-- is said.
+abbrev pub StopsPipe : Question → Arrival → Change → Change → Change → Interrupt → Type 0
+StopsPipe query arrival source output errors Unwritable =
+    IsAnswerCut query arrival source output errors ⊎ IsNamingCut arrival source output errors
+StopsPipe query arrival source output errors Unreadable = StopsLoad arrival source errors Unreadable
+StopsPipe query arrival source output errors (Beyond limit) = StopsLoad arrival source errors (Beyond limit)
+StopsPipe query arrival source output errors (NoAnswer overflow) =
+    OverflowsUntold query arrival source errors (overflow_of overflow) × StopsLoad arrival source errors NoMemory
+StopsPipe query arrival source output errors NoMemory = StopsLoad arrival source errors NoMemory
 
 -- the run stopped while it loaded, and nothing was written
 pub stops_load : (query : Question) (arrival : Arrival) (source errors : Change) (written : Option (List ℕ)) (f0 f1 : ℕ)
     (interrupt : Interrupt) → StopsLoad arrival source errors interrupt
     → StopsPipe query arrival source (change written written f0 f1) errors interrupt
-stops_load query arrival source errors written f0 f1 Unwritable stops = inr (record { fault = stops; unwritten = refl })
+stops_load query arrival source errors written f0 f1 Unwritable stops =
+    inr (record { fault = stops.0; unsettled = stops.1; unwritten = refl })
 stops_load query arrival source errors written f0 f1 Unreadable stops = stops
 stops_load query arrival source errors written f0 f1 (Beyond limit) stops = stops
 stops_load query arrival source errors written f0 f1 (NoAnswer overflow) stops = absurd stops
 stops_load query arrival source errors written f0 f1 NoMemory stops = stops
 
-module _ (query : Question) (arrival : Arrival) (now : ℤ) (at : now ≡ pos arrival.moment) (source output errors : Change)
-    (seen : Seen) (l : IsLoaded arrival source errors seen) where
+module _ (query : Question) (arrival : Arrival) (now : ℤ) (at : now ≡ pos arrival.moment)
+    (source output errors : Change) (seen : Seen) (l : IsLoaded arrival [] source errors seen) where
   -- what the input becomes
   taken : IsTakenIn arrival l.begins.taken (refusals_of l.groups) (batches_of l.groups)
   taken = record {
@@ -63,7 +73,6 @@ module _ (query : Question) (arrival : Arrival) (now : ℤ) (at : now ≡ pos ar
     intake = l.begins.given;
     grouped = AreGroups-weaken l.groups _ (Unit {0}) (λ _. tt) l.begins.grouped;
     light = l.light;
-    wait = l.wait;
     are = refl;
     named = refl;
   }
@@ -73,22 +82,20 @@ module _ (query : Question) (arrival : Arrival) (now : ℤ) (at : now ≡ pos ar
       subst (Gave source) (append_nil l.begins.taken)
       (subst (λ rest. Gave source (l.begins.taken ++ rest)) l.all l.begins.gave)
 
-  -- what is evaluated over what has been seen is evaluated over the rows of the batches
-  over : (outcome : evaluation.Outcome) → evaluate query now (rows_of seen.history) ≡ outcome
-      → evaluate query (pos arrival.moment) (batch_list_rows (batches_of l.groups)) ≡ outcome
-  over outcome is =
-      subst (λ moment. evaluate query moment (batch_list_rows (batches_of l.groups)) ≡ outcome) at
-      (subst (λ rows. evaluate query now rows ≡ outcome)
-      (history_rows seen.history (batches_of l.groups) l.holding.entered) is)
+  -- what holds of the rows that have been seen holds of the rows of the batches
+  over : (holds : ℤ → List Row → Type 0) → holds now (rows_of seen.history)
+      → holds (pos arrival.moment) (batch_list_rows (batches_of l.groups))
+  over holds is =
+      subst (λ moment. holds moment (batch_list_rows (batches_of l.groups))) at
+      (subst (holds now) (history_rows seen.history (batches_of l.groups) l.holding.entered) is)
 
   answer : (lines : List ℕ) → IsAnswerOver query now (rows_of seen.history) lines
       → IsAnswer query arrival l.begins.taken lines (refusals_of l.groups)
   answer lines is = record {
     batches = batches_of l.groups;
     taken = taken;
-    found = is.found;
-    evaluated = over _ is.evaluated;
-    answered = is.printed;
+    few = l.holding.few;
+    over = over (λ now rows. IsAnswerOver query now rows lines) is;
   }
 
   pub answered : WritesAnswer query now (rows_of seen.history) output → IsAnswered query arrival source output errors
@@ -103,14 +110,33 @@ module _ (query : Question) (arrival : Arrival) (now : ℤ) (at : now ≡ pos ar
     named = l.named;
   }
 
-  untold : (cause : model.Overflow) → evaluate query now (rows_of seen.history) ≡ overflowing cause
+  -- memory ran out after the input was loaded
+  stops_loaded : StopsUntold arrival source errors model.no_memory
+  stops_loaded = record {
+    groups = l.groups;
+    behind = record {
+      begins = l.begins;
+      light = l.light;
+      few = subst (AreFew 1) (sym l.all) nothing_few;
+      cause = tt;
+    };
+    unsettled = l.holding.few;
+    named = l.named;
+  }
+
+  untold : (cause : model.Overflow) → FailsOver query now (rows_of seen.history) (fault_of cause)
       → OverflowsUntold query arrival source errors cause
-  untold cause is = record {
+  untold cause fails = record {
     input = l.begins.taken;
     refusals = refusals_of l.groups;
     gave = gave_all;
     spent = l.spent;
-    overflows = record { batches = batches_of l.groups; taken = taken; evaluated = over _ is };
+    overflows = record {
+      batches = batches_of l.groups;
+      taken = taken;
+      few = l.holding.few;
+      fails = over (λ now rows. FailsOver query now rows (fault_of cause)) fails;
+    };
     named = l.named;
   }
 
@@ -129,8 +155,8 @@ module _ (query : Question) (arrival : Arrival) (now : ℤ) (at : now ≡ pos ar
     named = l.named;
   })
   unanswered (Beyond limit) h = absurd h
-  unanswered (NoAnswer overflow) h = (untold (overflow_of overflow) h, stops_loaded arrival source errors seen l)
-  unanswered NoMemory h = stops_loaded arrival source errors seen l
+  unanswered (NoAnswer overflow) fails = (untold (overflow_of overflow) fails, stops_loaded)
+  unanswered NoMemory h = stops_loaded
 
 module _ (arrival : Arrival) (source : Change) (err0 err1 err2 : Option (List ℕ)) (f0 f1 f2 : ℕ) where
   -- what is reported after the names
@@ -151,22 +177,23 @@ module _ (arrival : Arrival) (source : Change) (err0 err1 err2 : Option (List �
       record {
         groups = h.groups;
         behind = h.behind;
+        unsettled = h.unsettled;
         said = told_after (refusals_of h.groups)
             (stop_text stop) stays h.named told;
       }
 
   -- a limit was met, but there was no memory to say so
-  without_memory : (stop : model.Stop) → StopsUntold arrival source (change err0 err1 f0 f1) stop → StopsUntold arrival source
-      (change err0 err1 f0 f1) model.no_memory
+  without_memory : (stop : model.Stop) → StopsUntold arrival source (change err0 err1 f0 f1) stop
+      → StopsUntold arrival source (change err0 err1 f0 f1) model.no_memory
   without_memory stop h = record {
     groups = h.groups;
     behind = record {
       begins = h.behind.begins;
       light = h.behind.light;
-      wait = h.behind.wait;
       few = h.behind.few;
       cause = tt;
     };
+    unsettled = h.unsettled;
     named = h.named;
   }
 
@@ -180,7 +207,8 @@ module _ (arrival : Arrival) (source : Change) (err0 err1 err2 : Option (List �
       (subst (λ e. EndsPipe query arrival source output (change err0 e f0 f2) statuses.WriteFault) (sym r.1)
       (subst (λ f. EndsPipe query arrival source output (change err0 err1 f0 f) statuses.WriteFault) (sym r.2) h))
   reported query output Unreadable status stays h r =
-      subst (EndsPipe query arrival source output (change err0 err2 f0 f2)) (sym r.0) (stopped model.unreadable stays h r.1)
+      subst (EndsPipe query arrival source output (change err0 err2 f0 f2)) (sym r.0)
+      (stopped model.unreadable stays h r.1)
   reported query output (Beyond limit) status stays h (inl r) =
       subst (EndsPipe query arrival source output (change err0 err2 f0 f2)) (sym r.0)
       (limit_of limit, stopped (model.beyond (limit_of limit)) stays h r.1)
@@ -202,4 +230,21 @@ module _ (arrival : Arrival) (source : Change) (err0 err1 err2 : Option (List �
       subst (EndsPipe query arrival source output (change err0 err2 f0 f2)) (sym r.0)
       (stopped model.no_memory stays h.1 r.1)
   reported query output NoMemory status stays h r =
-      subst (EndsPipe query arrival source output (change err0 err2 f0 f2)) (sym r.0) (stopped model.no_memory stays h r.1)
+      subst (EndsPipe query arrival source output (change err0 err2 f0 f2)) (sym r.0)
+      (stopped model.no_memory stays h r.1)
+
+never : false ≡ true → ⊥
+never e = cc
+
+-- how the command ends, where its query can be asked
+pub ends_readable : (asked : Pipe) (source output errors : Change) (status : Status) (text : List ℕ) (query : Question)
+    → text ≡ asked.query → IsQueryText text query → AllByRecursion CanBeRead (all_patterns query)
+    → (IsNoReadableQuery text → false ≡ true) → EndsPipe query asked.arrival source output errors status
+    → IsPiped (record { asked = asked; source = source; output = output; errors = errors }) status
+ends_readable asked source output errors status text query same spelled readable refused ends = inl (record {
+  readable = subst IsReadableQuery same (query, spelled, readable);
+  askable = λ no. never (refused (subst IsNoReadableQuery (sym same) no));
+  query = query;
+  spelled = subst (λ text. IsQueryText text query) same spelled;
+  ends = ends;
+})

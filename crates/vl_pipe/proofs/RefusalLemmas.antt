@@ -1,5 +1,6 @@
 -- The names of refused lines, as a body has them and as the program writes them.
-use Rattle.std.proofs.Common.{◌≡◌, ℕ, suc, ◌+◌, ◌<◌, ◌≤◌, ◌^◌, List, [], ◌∷◌, ◌++◌, length, Option, refl, sym, ap, subst, ◌∙◌, arith}
+use Rattle.std.proofs.Common.{◌≡◌, ℕ, suc, ◌+◌, ◌<◌, ◌≤◌, ◌^◌, List, [], ◌∷◌, ◌++◌, length, Option, refl, sym, ap}
+use Rattle.std.proofs.Common.{subst, ◌∙◌, arith}
 use Rattle.std.specs.List.{AllByRecursion, AllZip}
 use Rattle.log_model.specs.Line.{lines_of}
 use Rattle.log_model.proofs.Lines.{lines_le}
@@ -19,7 +20,8 @@ numbers_fit before number (passed_over ∷ os) few = numbers_fit before (suc num
 numbers_fit before number (read row ∷ os) few = numbers_fit before (suc number) os (omega arith)
 numbers_fit before number (refused kind ∷ os) few = (omega arith, numbers_fit before (suc number) os (omega arith))
 
-same_length : (arrival : Arrival) (lines : List (List ℕ)) (outcomes : List Outcome) → AllZip (HasOutcome arrival) lines outcomes
+same_length : (arrival : Arrival) (lines : List (List ℕ)) (outcomes : List Outcome)
+    → AllZip (HasOutcome arrival) lines outcomes
     → length outcomes ≡ length lines
 same_length arrival [] [] all = refl
 same_length arrival [] (o ∷ os) all = absurd all

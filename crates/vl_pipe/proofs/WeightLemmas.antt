@@ -1,5 +1,6 @@
 -- What the rows of a group weigh at most.
-use Rattle.std.proofs.Common.{◌≡◌, ℕ, ℤ, pos, ◌*◌, ◌<◌, ◌≤◌, ◌^◌, Bool, true, false, cond, nat_lt, List, [], ◌∷◌, length, Option, Some, None, refl, sym, subst, arith}
+use Rattle.std.proofs.Common.{◌≡◌, ℕ, ℤ, pos, ◌*◌, ◌<◌, ◌≤◌, ◌^◌, Bool, true, false, cond, nat_lt, List, [], ◌∷◌}
+use Rattle.std.proofs.Common.{length, Option, Some, None, refl, sym, subst, arith}
 use Rattle.std.specs.List.{AllZip, list_any}
 use Rattle.std.specs.Prelude.{int_lt, if◌then◌else◌}
 use Rattle.std.proofs.lemmas.Bool.Decides.{nat_tests}
@@ -35,14 +36,16 @@ light_fields time fields none =
     light_size (list_any is_long_named (stored fields)) (length (stored fields)) (weight (stored fields)) kept
 
 -- a row of a line is as light as every row
-light_row : (arrival : Arrival) (line : List ℕ) (row : Row) → HasOutcome arrival line (read row) → weight row.fields ≤ 262_144
+light_row : (arrival : Arrival) (line : List ℕ) (row : Row) → HasOutcome arrival line (read row)
+    → weight row.fields ≤ 262_144
 light_row arrival line row given =
     let made = given.1.is_row in
     subst (λ (r : Row). weight r.fields ≤ 262_144) (sym made.is_row)
     (light_fields made.time (row_fields arrival.options given.1.fields) made.faultless)
 
 -- no more than each line may
-pub rows_light : (arrival : Arrival) (lines : List (List ℕ)) (outcomes : List Outcome) → AllZip (HasOutcome arrival) lines outcomes
+pub rows_light : (arrival : Arrival) (lines : List (List ℕ)) (outcomes : List Outcome)
+    → AllZip (HasOutcome arrival) lines outcomes
     → batch_weight (rows_read outcomes) ≤ 262_144 * length lines
 rows_light arrival [] [] all = omega arith
 rows_light arrival [] (o ∷ os) all = absurd all

@@ -4,7 +4,8 @@ use Rattle.vl_io.specs.Change.{Change, Gave, IsCut, IsSpent, IsTold, IsUntold, T
 use Rattle.vl_io.specs.Lines.{piece_len}
 use Rattle.lone_desk.specs.Question.{Question}
 use Rattle.ingest_row.specs.Intake.{Outcome}
-use Rattle.vl_pipe.specs.Groups.{Arrival, AreLight, BeginsWith, CanWait, outcomes_in, refusals_from, refusals_of}
+use Rattle.vl_pipe.specs.Groups.{Arrival, BeginsWith, FitBatches, FitUnsettled, outcomes_in, refusals_from}
+use Rattle.vl_pipe.specs.Groups.{refusals_of}
 use Rattle.vl_pipe.specs.Program.{IsAnswer, Overflow, Overflows, Stop, StopsBehind}
 use Rattle.vl_pipe.specs.Program.{overflow_text, said_of_query, stop_text}
 
@@ -47,18 +48,20 @@ pub record IsNamingFault (arrival : Arrival) (source errors : Change) : Type 0 w
   pub groups : List (List Outcome)
   pub group : List Outcome
   pub begins : BeginsWith arrival source (groups ++ group ∷ [])
-  pub light : AreLight (groups ++ group ∷ [])
-  pub wait : CanWait (groups ++ group ∷ [])
+  pub light : FitBatches (groups ++ group ∷ [])
   pub short : length begins.rest ≤ piece_len
   pub named : IsCut errors (refusals_of groups) (refusals_from (length (outcomes_in groups) + 1) group)
 
--- The error stream failed so, and nothing was written to the output.
+-- The error stream failed so, the batches are no more than may be unsettled, and nothing was written to the output.
 pub record IsNamingCut (arrival : Arrival) (source output errors : Change) : Type 0 where
   pub fault : IsNamingFault arrival source errors
+  pub unsettled : FitUnsettled (fault.groups ++ fault.group ∷ [])
   pub unwritten : IsUntold output
 
--- Groups were loaded and their refused lines named. Then the run stopped, and says why.
+-- Groups were loaded, whose batches are no more than may be unsettled, and their refused lines named. Then the run
+-- stopped, and says why.
 pub record IsStopped (arrival : Arrival) (source errors : Change) (stop : Stop) : Type 0 where
   pub groups : List (List Outcome)
   pub behind : StopsBehind arrival source groups stop
+  pub unsettled : FitUnsettled groups
   pub said : IsTold errors (refusals_of groups) (stop_text stop)

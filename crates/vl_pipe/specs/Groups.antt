@@ -60,13 +60,13 @@ refusals_of groups = refusals_from 1 (outcomes_in groups)
 abbrev pub batches_of : List (List Outcome) → List Batch
 batches_of groups = flat_map (λ group. batches_of_rows (rows_read group)) groups
 
--- the rows of no group weigh too much for a batch
-abbrev pub AreLight : List (List Outcome) → Type 0
-AreLight groups = AllByRecursion (λ group. batch_weight (rows_read group) ≤ batch_limit) groups
+-- the rows of each group weigh no more than a batch may
+abbrev pub FitBatches : List (List Outcome) → Type 0
+FitBatches groups = AllByRecursion (λ group. batch_weight (rows_read group) ≤ batch_limit) groups
 
--- the batches of these groups are no more than may wait to be settled
-abbrev pub CanWait : List (List Outcome) → Type 0
-CanWait groups = length (batches_of groups) ≤ held_limit
+-- the batches of the groups are no more than may be unsettled
+abbrev pub FitUnsettled : List (List Outcome) → Type 0
+FitUnsettled groups = length (batches_of groups) ≤ held_limit
 
 -- how many bytes an input may have
 abbrev pub input_limit : ℕ

@@ -1,5 +1,5 @@
 -- What becomes of an input on its way to the desk.
-use Rattle.std.specs.Prelude.{◌≡◌, ℕ, ◌+◌, ◌<◌, ◌≤◌, List, [], ◌++◌, length}
+use Rattle.std.specs.Prelude.{◌≡◌, ℕ, ◌+◌, ◌<◌, ◌≤◌, List, [], ◌∷◌, ◌++◌, length}
 use Rattle.vl_io.specs.Change.{Change, IsCut, IsSpent, IsUntold, Took}
 use Rattle.log_model.specs.Core.{held_limit}
 use Rattle.log_model.specs.History.{batches_in}
@@ -7,8 +7,8 @@ use Rattle.log_model.specs.Row.{Batch, Row, batch_limit, batch_weight}
 use Rattle.ingest_row.specs.Intake.{Outcome, rows_read}
 use Rattle.lone_desk.specs.Seen.{Seen}
 use Rattle.lone_desk.specs.Alone.{batches_of_rows}
-use Rattle.vl_pipe.specs.Groups.{Arrival, AreLight, BeginsWith, CanWait, HaveOutcomes, batches_of, refusals_from}
-use Rattle.vl_pipe.specs.Groups.{refusals_of}
+use Rattle.vl_pipe.specs.Groups.{Arrival, BeginsWith, FitBatches, FitUnsettled, HaveOutcomes, batches_of}
+use Rattle.vl_pipe.specs.Groups.{refusals_from, refusals_of}
 use Rattle.vl_pipe.specs.Program as model
 use Rattle.vl_pipe.specs.Program.{StopsBehind}
 use Rattle.vl_pipe.specs.Ended.{IsNamingFault}
@@ -64,27 +64,30 @@ StopsGroup arrival body before old new errors (Beyond limit) =
 StopsGroup arrival body before old new errors (NoAnswer overflow) = ⊥
 StopsGroup arrival body before old new errors NoMemory = IsUntold errors
 
--- The source gave all its input, the batches of its groups are all that is held, and its refused lines are named.
-pub record IsLoaded (arrival : Arrival) (source errors : Change) (seen : Seen) : Type 0 where
+-- The source gave all its input, the batches of its groups are held after the opened ones, and its refused lines are
+-- named.
+pub record IsLoaded (arrival : Arrival) (opened : List Batch) (source errors : Change) (seen : Seen) : Type 0 where
   pub groups : List (List Outcome)
   pub begins : BeginsWith arrival source groups
   pub all : begins.rest ≡ []
   pub spent : IsSpent source
-  pub light : AreLight groups
-  pub wait : CanWait groups
-  pub holding : IsHeld [] seen (batches_of groups)
+  pub light : FitBatches groups
+  pub holding : IsHeld opened seen (batches_of groups)
   pub named : Took errors (refusals_of groups)
 
--- Groups were loaded and their refused lines named. Then the run stopped, and did not say yet why.
+-- Groups were loaded, whose batches are no more than may be unsettled, and their refused lines named. Then the run
+-- stopped, and did not say yet why.
 pub record StopsUntold (arrival : Arrival) (source errors : Change) (stop : model.Stop) : Type 0 where
   pub groups : List (List Outcome)
   pub behind : StopsBehind arrival source groups stop
+  pub unsettled : FitUnsettled groups
   pub named : Took errors (refusals_of groups)
 
 -- why the run stops while it loads
 abbrev pub StopsLoad : Arrival → Change → Change → Interrupt → Type 0
 StopsLoad arrival source errors Unreadable = StopsUntold arrival source errors model.unreadable
-StopsLoad arrival source errors Unwritable = IsNamingFault arrival source errors
+StopsLoad arrival source errors Unwritable =
+    (fault : IsNamingFault arrival source errors) × FitUnsettled (fault.groups ++ fault.group ∷ [])
 StopsLoad arrival source errors (Beyond limit) = StopsUntold arrival source errors (model.beyond (limit_of limit))
 StopsLoad arrival source errors (NoAnswer overflow) = ⊥
 StopsLoad arrival source errors NoMemory = StopsUntold arrival source errors model.no_memory

@@ -1,10 +1,9 @@
 -- How a query ends.
 use Rattle.std.specs.Prelude.{◌≡◌, ◌⊎◌, ℕ, ℤ, List, []}
-use Rattle.vl_io.specs.Change.{Change, Gave, IsCut, IsSpent, IsTold, IsUntold, Took}
+use Rattle.vl_io.specs.Change.{Change, IsCut, IsTold, IsUntold, Took}
 use Rattle.log_model.specs.Row.{Row}
+use Rattle.lone_desk.specs.Answer.{FailsOver, IsAnswerOver}
 use Rattle.lone_desk.specs.Question.{Question}
-use Rattle.lone_desk.specs.Answer.{IsAnswerOver}
-use Rattle.lone_desk.specs.Evaluation.{evaluate}
 use Rattle.lone_desk.specs.Query.{IsQueryText}
 use Rattle.lone_desk.specs.Asked.{IsNoReadableQuery, IsReadableQuery, Refuses}
 use Rattle.lone_desk.specs.QueryRefusal.{QueryRefusal}
@@ -12,8 +11,7 @@ use Rattle.lone_desk.specs.QueryRefusal.TheVariants.{Memory}
 use Rattle.vl_pipe.specs.Groups.{Arrival}
 use Rattle.vl_pipe.specs.declared.pipe.Pipe.{Pipe}
 use Rattle.vl_pipe.specs.Program as model
-use Rattle.vl_pipe.specs.Program.{Overflows, overflow_text, overflowing, said_of_query, stop_text}
-use Rattle.vl_pipe.specs.Load.{StopsLoad}
+use Rattle.vl_pipe.specs.Program.{fault_of, overflow_text, said_of_query, stop_text}
 use Rattle.vl_pipe.specs.Refused.{ReportsRefused}
 use Rattle.vl_pipe.specs.Interrupt.{limit_of, overflow_of}
 use Rattle.vl_pipe.specs.Ended.{IsAnswerCut, IsAnswered, IsNamingCut, IsStopped, IsUnanswered}
@@ -32,30 +30,8 @@ StopsAnswer query now rows output Unreadable = ⊥
 StopsAnswer query now rows output Unwritable =
     (lines : List ℕ) × IsAnswerOver query now rows lines × IsCut output [] lines
 StopsAnswer query now rows output (Beyond limit) = ⊥
-StopsAnswer query now rows output (NoAnswer overflow) = evaluate query now rows ≡ overflowing (overflow_of overflow)
+StopsAnswer query now rows output (NoAnswer overflow) = FailsOver query now rows (fault_of (overflow_of overflow))
 StopsAnswer query now rows output NoMemory = Unit {0}
-
--- The source gave an input to its end, and its refused lines are named. The evaluation over it overflows, and nothing
--- is written about that yet.
-pub record OverflowsUntold (query : Question) (arrival : Arrival) (source errors : Change) (cause : model.Overflow)
-    : Type 0 where
-  pub input : List ℕ
-  pub refusals : List ℕ
-  pub gave : Gave source input
-  pub spent : IsSpent source
-  pub overflows : Overflows query arrival input refusals cause
-  pub named : Took errors refusals
-
--- Why loading and answering stop, and what was written. Where the evaluation overflows, memory may run out before that
--- is said.
-abbrev pub StopsPipe : Question → Arrival → Change → Change → Change → Interrupt → Type 0
-StopsPipe query arrival source output errors Unwritable =
-    IsAnswerCut query arrival source output errors ⊎ IsNamingCut arrival source output errors
-StopsPipe query arrival source output errors Unreadable = StopsLoad arrival source errors Unreadable
-StopsPipe query arrival source output errors (Beyond limit) = StopsLoad arrival source errors (Beyond limit)
-StopsPipe query arrival source output errors (NoAnswer overflow) =
-    OverflowsUntold query arrival source errors (overflow_of overflow) × StopsLoad arrival source errors NoMemory
-StopsPipe query arrival source output errors NoMemory = StopsLoad arrival source errors NoMemory
 
 -- The error text of an interrupt, and its status. A stream that can't be written to has no text.
 abbrev pub ReportsInterrupt : Change → Interrupt → Status → Type 0

@@ -4,11 +4,10 @@ use Rattle.std.specs.Prelude.{decimal}
 use Rattle.vl_io.specs.Change.{Change, HasFailed}
 use Rattle.vl_io.specs.Lines.{AreFewer, AreLines, piece_len}
 use Rattle.log_model.specs.Core.{held_limit}
-use Rattle.log_model.specs.Field.{Field}
-use Rattle.log_model.specs.Print.{lines_text}
 use Rattle.log_model.specs.Row.{Batch, batch_limit, batch_weight}
-use Rattle.lone_desk.specs.Evaluation as evaluation
-use Rattle.lone_desk.specs.Evaluation.{evaluate, records}
+use Rattle.lone_desk.specs.Answer.{FailsOver, IsAnswerOver}
+use Rattle.lone_desk.specs.RunFault.{RunFault}
+use Rattle.lone_desk.specs.RunFault.TheVariants as running
 use Rattle.lone_desk.specs.Question.{Question}
 use Rattle.lone_desk.specs.Faults.{fault_text}
 use Rattle.lone_desk.specs.QueryFault.{QueryFault}
@@ -16,7 +15,7 @@ use Rattle.ingest_row.specs.Intake.{Outcome, rows_read}
 use Rattle.lone_desk.specs.Asked.{HasUnreadablePattern, IsUnspelled}
 use Rattle.lone_desk.specs.Query.{batch_list_rows}
 use Rattle.vl_status.specs.Status.{no_memory_text}
-use Rattle.vl_pipe.specs.Groups.{Arrival, AreGroups, AreLight, BeginsWith, CanWait, HaveOutcomes, batches_of}
+use Rattle.vl_pipe.specs.Groups.{Arrival, AreGroups, BeginsWith, FitBatches, HaveOutcomes, batches_of}
 use Rattle.vl_pipe.specs.Groups.{input_limit, outcomes_in, refusals_of}
 
 -- The lines of the input become these batches, and `refusals` names the lines that are not rows.
@@ -25,18 +24,17 @@ pub record IsTakenIn (arrival : Arrival) (input refusals : List ℕ) (batches : 
   pub groups : List (List Outcome)
   pub intake : HaveOutcomes arrival input (outcomes_in groups)
   pub grouped : AreGroups groups (Unit {0})
-  pub light : AreLight groups
-  pub wait : CanWait groups
+  pub light : FitBatches groups
   pub are : batches ≡ batches_of groups
   pub named : refusals ≡ refusals_of groups
 
--- `answer` is what the query gives over the rows of the batches that the input becomes.
+-- The input becomes batches, which are no more than may be unsettled, and the answer is that to the query over their
+-- rows.
 pub record IsAnswer (query : Question) (arrival : Arrival) (input answer refusals : List ℕ) : Type 0 where
   pub batches : List Batch
   pub taken : IsTakenIn arrival input refusals batches
-  pub found : List (List Field)
-  pub evaluated : evaluate query (pos arrival.moment) (batch_list_rows batches) ≡ records found
-  pub answered : answer ≡ lines_text found
+  pub few : length batches ≤ held_limit
+  pub over : IsAnswerOver query (pos arrival.moment) (batch_list_rows batches) answer
 
 -- why the evaluation of a query has no records
 pub data Overflow : Type 0 where
@@ -45,15 +43,16 @@ pub data Overflow : Type 0 where
   -- the total of the function of `stats` with this name is not a 64-bit integer
   total : List ℕ → Overflow
 
-abbrev pub overflowing : Overflow → evaluation.Outcome
-overflowing many_rows = evaluation.many_rows
-overflowing (total name) = evaluation.overflow name
+abbrev pub fault_of : Overflow → RunFault
+fault_of many_rows = running.ManyRows
+fault_of (total name) = running.Overflow name
 
--- The evaluation over these rows overflows for this cause.
+-- The same, but the evaluation over their rows overflows for this cause.
 pub record Overflows (query : Question) (arrival : Arrival) (input refusals : List ℕ) (cause : Overflow) : Type 0 where
   pub batches : List Batch
   pub taken : IsTakenIn arrival input refusals batches
-  pub evaluated : evaluate query (pos arrival.moment) (batch_list_rows batches) ≡ overflowing cause
+  pub few : length batches ≤ held_limit
+  pub fails : FailsOver query (pos arrival.moment) (batch_list_rows batches) (fault_of cause)
 
 -- a limit that an input may meet
 pub data Limit : Type 0 where
@@ -74,7 +73,7 @@ pub data Stop : Type 0 where
 abbrev pub HaveNoGroup : List ℕ → Type 0
 HaveNoGroup bytes = AreFewer 1000 bytes
 
--- These bytes are at most so many groups and what one read gives.
+-- These bytes are at most `groups` groups and what one read gives.
 pub record AreFew (groups : ℕ) (bytes : List ℕ) : Type 0 where
   -- the bytes of the groups
   pub grouped : List ℕ
@@ -105,12 +104,11 @@ IsCause arrival source groups begins unreadable = HasFailed source × HaveNoGrou
 IsCause arrival source groups begins (beyond limit) = IsBeyond arrival source groups begins limit
 IsCause arrival source groups begins no_memory = Unit {0}
 
--- The first groups of the input were loaded, and their batches can be held. Then the run stopped. No more was read
--- after them than one group and what one read gives.
+-- The first groups of the input were loaded. Then the run stopped. No more was read after them than one group and what
+-- one read gives.
 pub record StopsBehind (arrival : Arrival) (source : Change) (groups : List (List Outcome)) (stop : Stop) : Type 0 where
   pub begins : BeginsWith arrival source groups
-  pub light : AreLight groups
-  pub wait : CanWait groups
+  pub light : FitBatches groups
   pub few : AreFew 1 begins.rest
   pub cause : IsCause arrival source groups begins stop
 

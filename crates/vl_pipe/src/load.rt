@@ -1,9 +1,11 @@
 //! The way of an input to the desk.
 ghost use Rattle.std.specs.Prelude.{◌≡◌, ◌+◌, ◌^◌, ◌≤◌, ◌<◌, List, [], OnOk, IfErr, IfOk, length};
 ghost use Rattle.vl_io.specs.Change.{Took, change_of};
+ghost use Rattle.log_model.specs.Core.{held_limit};
+ghost use Rattle.log_model.specs.History.{batches_in};
 ghost use Rattle.log_model.specs.Line.{lines_of};
-ghost use Rattle.log_model.specs.Row.{Batch as Rows};
 ghost use Rattle.ingest_row.specs.Intake.{Outcome, refused_from};
+ghost use Rattle.lone_desk.specs.Alone.{last_number};
 ghost use Rattle.vl_pipe.specs.Groups.{refusals_from};
 ghost use Rattle.vl_pipe.specs.Load.{IsHeld, IsLoaded, RefusesGroup, StopsGroup, StopsLoad, TakesGroup};
 
@@ -11,7 +13,7 @@ use crate::arrival::Arrival;
 use crate::interrupt::{Interrupt, Limit};
 use crate::names::names_after;
 use lone_desk::{Insertion, InsertionFault, LoneDesk};
-use std::alloc::AllocGlobal;
+use std::alloc::{AllocGlobal, Global};
 use std::sync::Wait;
 use vl_io::{Failed, GroupReader, Sink, Source, put_all};
 
@@ -21,28 +23,48 @@ const GROUP_LINES: usize = 1_000;
 /// The most bytes that an input may have.
 const INPUT_LIMIT: usize = 4_294_967_296;
 
-/// Returns a desk with the input, which is taken in group by group: the rows of a group become one batch, and then its
-/// refused lines are named.
-pub(crate) fn load<'r, R: AllocGlobal + Wait, S: Source, E: Sink>(
+/// Returns a desk of only the input.
+pub(crate) fn load_fresh<'r, R: AllocGlobal + Wait, S: Source, E: Sink>(
     rt: &'r R,
     arrival: &Arrival,
     src: &mut S,
     err: &mut E,
 ) -> Result<LoneDesk<'r, R>, Interrupt>
-    ensures loaded { IfOk result (IsLoaded arrival.now (change_of S.left S.faults src.old src.new)
+    ensures loaded { IfOk result (IsLoaded arrival.now [] (change_of S.left S.faults src.old src.new)
         (change_of E.written E.faults err.old err.new)) }
     ensures stopped { IfErr result (StopsLoad arrival.now (change_of S.left S.faults src.old src.new)
         (change_of E.written E.faults err.old err.new)) }
     ensures faults { E.faults err.old ≤ E.faults err.new }
 {
     let mut desk = LoneDesk::fresh(rt, rt.alloc())?;
-    let mut reader = GroupReader::of(rt.alloc(), GROUP_LINES, INPUT_LIMIT)?;
+    load(&mut desk, rt.alloc(), arrival, src, err)?;
+    Ok(desk)
+}
+
+/// Loads the input into the desk, group by group: the rows of a group become one batch, and then its refused lines are
+/// named.
+fn load<R: Wait, S: Source, E: Sink>(
+    desk: &mut LoneDesk<'_, R>,
+    alloc: Global,
+    arrival: &Arrival,
+    src: &mut S,
+    err: &mut E,
+) -> Result<(), Interrupt>
+    requires opened { IsHeld (batches_in desk.old.history) desk.old [] }
+    requires numbers { length desk.old.history + held_limit < last_number }
+    ensures loaded { OnOk result (IsLoaded arrival.now (batches_in desk.old.history)
+        (change_of S.left S.faults src.old src.new) (change_of E.written E.faults err.old err.new) desk.new) }
+    ensures stopped { IfErr result (StopsLoad arrival.now (change_of S.left S.faults src.old src.new)
+        (change_of E.written E.faults err.old err.new)) }
+    ensures faults { E.faults err.old ≤ E.faults err.new }
+{
+    let mut reader = GroupReader::of(alloc, GROUP_LINES, INPUT_LIMIT)?;
     let mut lines: u64 = 0;
     while reader.advance(src)? {
-        take_group(&mut desk, arrival, reader.group(), lines, err)?;
+        take_group(desk, arrival, reader.group(), lines, err)?;
         lines += GROUP_LINES as u64;
     }
-    Ok(desk)
+    Ok(())
 }
 
 /// Takes one group in, where this many lines came before it.
@@ -55,7 +77,7 @@ fn take_group<R: Wait, E: Sink>(
 ) -> Result<(), Interrupt>
     requires numbers { lines_before + length body.now < 2 ^ 64 }
     requires lines { length (lines_of body.now) ≤ 1000 }
-    requires held { (batches : List Rows) × IsHeld [] desk.old batches }
+    requires numbered { length desk.old.history < last_number }
     ensures taken { OnOk result ((group : List Outcome)
         × TakesGroup arrival.now body.now group desk.old desk.new
         × Took (change_of E.written E.faults err.old err.new) (refusals_from (lines_before + 1) group)) }
@@ -79,7 +101,7 @@ fn insert_group<R: Wait>(
     body: &[u8],
 ) -> Result<Insertion, Interrupt>
     requires lines { length (lines_of body.now) ≤ 1000 }
-    requires held { (batches : List Rows) × IsHeld [] desk.old batches }
+    requires numbered { length desk.old.history < last_number }
     ensures taken { IfOk result (λ insertion. (group : List Outcome)
         × TakesGroup arrival.now body.now group desk.old desk.new
         × (insertion.refused ≡ refused_from 1 group)) }

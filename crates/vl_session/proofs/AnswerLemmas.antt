@@ -1,6 +1,7 @@
 -- Replies to requests, and what the caller has seen by then.
-use Rattle.std.proofs.Common.{◌≡◌, inl, inr, ℕ, ◌^◌, ◌<◌, List, [], ◌∷◌, length, codes, decimal, pos, Option, Some, None, Ok, refl, sym, ap, subst, ◌∙◌, arith}
-use Rattle.std.specs.Prelude.{IfSome, is_some}
+use Rattle.std.proofs.Common.{◌≡◌, inl, inr, ℕ, ◌^◌, ◌<◌, List, [], ◌∷◌, length, codes, decimal, pos, Option, Some, None}
+use Rattle.std.proofs.Common.{Ok, Err, Result, refl, sym, ap, subst, ◌∙◌, arith}
+use Rattle.std.specs.Prelude.{IfOk, IfSome, IsOkAnd, is_some}
 use Rattle.log_model.specs.Print.{line_text}
 use Rattle.log_model.specs.Row.{Batch}
 use Rattle.log_desk.specs.Seen.{Caller, Follows, Gains, Seen}
@@ -154,6 +155,20 @@ insert_unread caller options now body seen delivery reply (Large weight) outcome
 insert_unread caller options now body seen delivery reply (Full limit) outcome unread is_outcome said = absurd unread
 insert_unread caller options now body seen delivery reply Spent outcome unread is_outcome said = absurd unread
 insert_unread caller options now body seen delivery reply Memory outcome unread is_outcome said = absurd cc
+
+-- The same for a reply that is made of the refusal's text, where memory does not run out.
+pub insert_unread_reply : {R S E F : Type 0} (whole : Result R E) (text : Result S F) (reply_of : R → List ℕ)
+    (text_of : S → List ℕ) (caller : Caller) (options : Options) (now : ℕ) (body : List ℕ) (seen : Seen)
+    (delivery : Delivery) (fault : InsertionFault) → IsNoBatch options (pos now) body fault
+    → IfOk whole (λ reply. IsOkAnd text (λ t. reply_of reply ≡ text_of t))
+    → IfOk text (λ t. (outcome : InsertOutcome) × (insert_outcome_of fault ≡ Some outcome)
+    × (text_of t ≡ reply_bytes (insert_status outcome) (refusal_text outcome) delivery))
+    → IfOk whole (λ reply. Answered caller (Ok (insert options)) body now seen seen delivery (reply_of reply))
+insert_unread_reply (Ok reply) (Ok t) reply_of text_of caller options now body seen delivery fault unread same said =
+    insert_unread caller options now body seen delivery (reply_of reply) fault said.0 unread said.1 (same ∙ said.2)
+insert_unread_reply (Ok reply) (Err e) reply_of text_of caller options now body seen delivery fault unread same said =
+    absurd same
+insert_unread_reply (Err e) text reply_of text_of caller options now body seen delivery fault unread same said = tt
 
 -- Why rows are not inserted, nothing was added.
 pub refused_follows : (caller : Caller) (old new : Seen) (why : InsertFault) → IsRefused caller old new why

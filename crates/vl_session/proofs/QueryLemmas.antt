@@ -1,23 +1,24 @@
 -- Queries over what is held.
 use Rattle.std.proofs.lemmas.Int.{ints}
-use Rattle.std.proofs.Common.{arith, ◌≡◌, ◌≢◌, ℕ, ℤ, pos, negsuc, unsigned_abs, ◌≤ℤ◌, List, [], ◌∷◌, ◌++◌, length, Some, refl, sym, ap, subst, ◌∙◌}
+use Rattle.std.proofs.Common.{arith, ◌≡◌, ◌≢◌, ℕ, ℤ, pos, negsuc, unsigned_abs, ◌≤ℤ◌, List, [], ◌∷◌, ◌++◌, Some, refl}
+use Rattle.std.proofs.Common.{sym, ap, subst, ◌∙◌}
 use Rattle.std.specs.List.{AllByRecursion}
 use Rattle.log_model.specs.History.{History, batches_in, entry_rows, rows_of}
-use Rattle.log_model.specs.Row.{Batch, Row}
-use Rattle.query_run.specs.Evaluation as evaluation
-use Rattle.query_run.specs.Evaluation.{evaluate}
+use Rattle.log_model.specs.Row.{Batch}
 use Rattle.query_run.specs.Patterns.{CanBeRead, all_patterns}
 use Rattle.query_run.specs.Question.{Question}
 use Rattle.query_run.specs.Query.{IsQueryText}
 use Rattle.query_run.specs.QueryFault.TheVariants as spelling
-use Rattle.query_run.specs.Answer.{FailsOver, IsAnswerOver}
-use Rattle.query_run.specs.Asked.{Refuses}
+use Rattle.query_run.specs.Answer.{FailsOver}
+use Rattle.query_run.specs.Asked.{ForReadableQuery, Refuses}
 use Rattle.query_run.specs.declared.evaluation.RunFault.{RunFault}
 use Rattle.query_run.specs.declared.evaluation.RunFault.TheVariants.{ManyRows, Overflow, Memory}
 use Rattle.query_run.specs.declared.query.QueryRefusal.{QueryRefusal}
 use Rattle.query_run.specs.declared.query.QueryRefusal.TheVariants as refusals
-use Rattle.vl_session.specs.Answer.{FailsQuery, IsQueryAnswer, fault_of_refusal, fault_of_run, query_outcome_of}
-use Rattle.vl_session.specs.Query.{Evaluates, HasQueryOutcome, batch_list_rows, QueryOutcome, many_rows, overflows, unreadable, unspelled}
+use Rattle.vl_session.specs.Answer.{FailsQuery, IsQueryAnswer, IsSearchAnswer}
+use Rattle.vl_session.specs.Answer.{fault_of_refusal, fault_of_run, query_outcome_of}
+use Rattle.vl_session.specs.Query.{HasQueryOutcome, QueryOutcome, batch_list_rows, many_rows, overflows, unreadable}
+use Rattle.vl_session.specs.Query.{unspelled}
 use Rattle.vl_session.specs.declared.answer.Answer.{Answer}
 use Rattle.vl_session.specs.declared.answer.AnswerFault.{AnswerFault}
 use Rattle.vl_session.specs.declared.answer.AnswerFault.TheVariants as answers
@@ -28,16 +29,15 @@ pub same_moment : (now : ℤ) → pos 0 ≤ℤ now → now ≡ pos (unsigned_abs
 same_moment (pos n) from = refl
 same_moment (negsuc n) from = absurd (omega (arith, ints))
 
-pub evaluates : (text : List ℕ) (now : ℤ) (query : Question) (rows : List Row) (history : History)
-    (outcome : evaluation.Outcome) → pos 0 ≤ℤ now → rows_of history ≡ rows → IsQueryText text query
-    → AllByRecursion CanBeRead (all_patterns query) → evaluate query now rows ≡ outcome
-    → Evaluates text (unsigned_abs now) history outcome
-evaluates text now query rows history outcome from are spelled readable evaluated = record {
+-- what holds of a query at a moment that is not negative
+asks : (text : List ℕ) (now : ℤ) (query : Question) (holds : Question → ℤ → Type 0) → pos 0 ≤ℤ now
+    → IsQueryText text query → AllByRecursion CanBeRead (all_patterns query) → holds query now
+    → ForReadableQuery text (λ query. holds query (pos (unsigned_abs now)))
+asks text now query holds from spelled readable is = record {
   query = query;
   spelled = spelled;
   readable = readable;
-  evaluated = ap (λ moment. evaluate query moment (rows_of history)) (sym (same_moment now from))
-      ∙ ap (evaluate query now) are ∙ evaluated;
+  facts = subst (holds query) (same_moment now from) is;
 }
 
 -- A history has the rows of its batches.
@@ -64,40 +64,33 @@ refused_as text now history refusal fault is refuses lasting =
     subst (FailsQuery text now history) (sym is) (refused_text text now history refusal refuses lasting)
 
 -- why a query has no answer
-pub failed_run : (text : List ℕ) (now : ℤ) (query : Question) (rows : List Row) (history : History) (fault : RunFault)
-    → pos 0 ≤ℤ now → rows_of history ≡ rows → IsQueryText text query
-    → AllByRecursion CanBeRead (all_patterns query)
-    → FailsOver query now rows fault
-    → FailsQuery text (unsigned_abs now) history (fault_of_run fault)
-failed_run text now query rows history ManyRows from are spelled readable fails =
-    evaluates text now query rows history evaluation.many_rows from are spelled readable fails
-failed_run text now query rows history (Overflow name) from are spelled readable fails =
-    evaluates text now query rows history (evaluation.overflow name) from are spelled readable fails
-failed_run text now query rows history Memory from are spelled readable fails = tt
+failed_run : (text : List ℕ) (now : ℤ) (query : Question) (history : History) (fault : RunFault) → pos 0 ≤ℤ now
+    → IsQueryText text query → AllByRecursion CanBeRead (all_patterns query)
+    → FailsOver query now (rows_of history) fault → FailsQuery text (unsigned_abs now) history (fault_of_run fault)
+failed_run text now query history ManyRows from spelled readable fails =
+    asks text now query (λ query now. FailsOver query now (rows_of history) ManyRows) from spelled readable fails
+failed_run text now query history (Overflow name) from spelled readable fails =
+    asks text now query (λ query now. FailsOver query now (rows_of history) (Overflow name)) from spelled readable fails
+failed_run text now query history Memory from spelled readable fails = tt
 
 pub failed_as : (text : List ℕ) (now : ℤ) (query : Question) (history : History) (run : RunFault) (fault : AnswerFault)
     → fault ≡ fault_of_run run → pos 0 ≤ℤ now → IsQueryText text query → AllByRecursion CanBeRead (all_patterns query)
     → FailsOver query now (rows_of history) run → FailsQuery text (unsigned_abs now) history fault
 failed_as text now query history run fault is from spelled readable fails =
     subst (FailsQuery text (unsigned_abs now) history) (sym is)
-    (failed_run text now query (rows_of history) history run from refl spelled readable fails)
+    (failed_run text now query history run from spelled readable fails)
 
 -- the answer to a query
-pub answered_run : (text : List ℕ) (now : ℤ) (query : Question) (rows : List Row) (history : History) (answer : Answer)
-    → pos 0 ≤ℤ now → rows_of history ≡ rows → IsQueryText text query
-    → AllByRecursion CanBeRead (all_patterns query) → answer.front ≡ length history
-    → IsAnswerOver query now rows answer.lines
+pub answered_as : (text : List ℕ) (now : ℤ) (query : Question) (history : History) (answer : Answer) → pos 0 ≤ℤ now
+    → IsQueryText text query → AllByRecursion CanBeRead (all_patterns query) → IsSearchAnswer query now history answer
     → IsQueryAnswer text (unsigned_abs now) history answer
-answered_run text now query rows history answer from are spelled readable front over = record {
-  records = over.found;
-  evaluated = evaluates text now query rows history (evaluation.records over.found) from are spelled readable over.evaluated;
-  lines = over.printed;
-  front = front;
-}
+answered_as text now query history answer from spelled readable found =
+    asks text now query (λ query now. IsSearchAnswer query now history answer) from spelled readable found
 
 -- what comes of it for a session
 pub outcome_has : (text : List ℕ) (now : ℕ) (history : History) (fault : AnswerFault) (outcome : QueryOutcome)
-    → FailsQuery text now history fault → query_outcome_of fault ≡ Some outcome → HasQueryOutcome text now history outcome
+    → FailsQuery text now history fault → query_outcome_of fault ≡ Some outcome
+    → HasQueryOutcome text now history outcome
 outcome_has text now history (Query fault) outcome fails is =
     let same : unspelled fault ≡ outcome = cc in subst (HasQueryOutcome text now history) same fails.1
 outcome_has text now history (RegexRefused nth) outcome fails is =

@@ -1,5 +1,6 @@
 -- A query has one outcome.
-use Rattle.std.proofs.Common.{◌≡◌, ◌⊎◌, inl, inr, refl, ℕ, zero, suc, pos, List, [], ◌∷◌, Result, Ok, Err, sym, ap, subst, ◌∙◌}
+use Rattle.std.proofs.Common.{◌≡◌, ◌⊎◌, inl, inr, refl, ℕ, zero, suc, pos, List, [], ◌∷◌, Result, Ok, Err, sym, ap}
+use Rattle.std.proofs.Common.{subst, ◌∙◌}
 use Rattle.std.specs.Prelude.{slice_get, IsSomeAnd}
 use Rattle.std.specs.List.{AllByRecursion}
 use Rattle.log_model.specs.History.{History, rows_of}
@@ -82,9 +83,9 @@ module _ (have : HaveOne) (text : List ℕ) where
   one_outcome : (now : ℕ) (history : History) (first second : evaluation.Outcome) → Evaluates text now history first
       → Evaluates text now history second → second ≡ first
   one_outcome now history first second one other =
-      sym other.evaluated
+      sym other.facts
       ∙ ap (λ query. evaluate query (pos now) (rows_of history)) (same_query other.query one.query other.spelled one.spelled)
-      ∙ one.evaluated
+      ∙ one.facts
 
   abbrev HasFound : evaluation.Outcome → Type 0
   HasFound (evaluation.records records) = Unit {0}

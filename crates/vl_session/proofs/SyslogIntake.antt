@@ -11,9 +11,8 @@ use Rattle.log_desk.specs.Seen.{Caller, Seen}
 use Rattle.log_desk.specs.declared.fault.InsertFault.{InsertFault}
 use Rattle.log_desk.specs.declared.fault.InsertFault.TheVariants as desk
 use Rattle.vl_session.specs.Seen.{Has, IsRefused, Takes, batches_of_rows}
-use Rattle.vl_session.specs.SyslogSession.{AreBatches, IsMessageOutcome, TakesAll, end_effect, moment_of, message_rows}
+use Rattle.vl_session.specs.SyslogSession.{AreBatches, IsMessageOutcome, TakesAll, end_effect, message_rows}
 use Rattle.vl_session.specs.SyslogTaking.{BeginWith, HoldsUp, TakesSome, TakesUp, end_of_insert}
-use Rattle.vl_session.specs.Turns.{GaveMoments}
 use Rattle.vl_session.specs.declared.syslog_intake.Counts.{Counts}
 use Rattle.vl_session.specs.declared.syslog_report.SyslogEnd.{SyslogEnd}
 use Rattle.vl_session.proofs.SyslogLists.{batches_append, none_append, one_batch, one_full, rows_append, rows_or_none}
@@ -138,23 +137,6 @@ pub few_counted : (caller : Caller) (now : ℕ) (messages : List (List ℕ)) (ol
     → after.accepted + after.refused ≡ before.accepted + before.refused + length outcomes
 few_counted caller now messages old new before after outcomes batches t =
     omega (arith, t.accepted, t.refused, rows_or_none outcomes)
-
--- no message came
-pub takes_none : (caller : Caller) (messages : List (List ℕ)) (seen : Seen) (counts : Counts) (t : Option (List ℕ)) → messages ≡ []
-    → (now : ℕ) × (outcomes : List (Option Row)) × (batches : List Batch) × GaveMoments t t (moment_of messages now)
-    × TakesUp caller now messages seen seen counts counts outcomes batches × (length outcomes ≡ length messages)
-takes_none caller messages seen counts t none = (
-  0,
-  [],
-  [],
-  subst (λ l. GaveMoments t t (moment_of l 0)) (sym none) (silent t),
-  takes_first caller 0 messages seen counts,
-  sym (ap length none),
-)
-  where
-    silent : (t : Option (List ℕ)) → GaveMoments t t []
-    silent None = tt
-    silent (Some moments) = sym (append-nil moments)
 
 -- No more could be taken up.
 pub takes_some : (caller : Caller) (now : ℕ) (messages : List (List ℕ)) (old mid new : Seen) (before after : Counts)

@@ -1,9 +1,8 @@
 -- The answer to a query over the shared state, and why there is none.
-use Rattle.std.specs.Prelude.{◌≡◌, ◌≢◌, ℕ, ℤ, List, length, Option, None, Some}
+use Rattle.std.specs.Prelude.{◌≡◌, ◌≢◌, ℕ, ℤ, pos, List, length, Option, None, Some}
 use Rattle.log_model.specs.History.{History, rows_of}
-use Rattle.log_model.specs.Print.{lines_text}
 pub use Rattle.query_run.specs.Answer.{FailsOver, IsAnswerOver}
-use Rattle.query_run.specs.Evaluation as evaluation
+use Rattle.query_run.specs.Asked.{ForReadableQuery, HasUnreadablePattern, IsUnspelled}
 use Rattle.query_run.specs.Question.{Question}
 use Rattle.query_run.specs.Records.{Record}
 use Rattle.query_run.specs.QueryFault.TheVariants as spelling
@@ -11,32 +10,30 @@ use Rattle.query_run.specs.declared.evaluation.RunFault.{RunFault}
 use Rattle.query_run.specs.declared.evaluation.RunFault.TheVariants as running
 use Rattle.query_run.specs.declared.query.QueryRefusal.{QueryRefusal}
 use Rattle.query_run.specs.declared.query.QueryRefusal.TheVariants as refusals
-use Rattle.vl_session.specs.Query.{Evaluates, HasQueryOutcome, QueryOutcome, found, many_rows, overflows, unreadable}
+use Rattle.vl_session.specs.Query.{HasQueryOutcome, QueryOutcome, found, many_rows, overflows, unreadable}
 use Rattle.vl_session.specs.Query.{unspelled}
 use Rattle.vl_session.specs.Seen.{Effect, asks, looks, nothing}
 use Rattle.vl_session.specs.declared.answer.Answer.{Answer}
 use Rattle.vl_session.specs.declared.answer.AnswerFault.{AnswerFault}
 use Rattle.vl_session.specs.declared.answer.AnswerFault.TheVariants.{Query, RegexRefused, ManyRows, Overflow, Memory}
 
--- The answer is the lines of the records that the query of this text has over the history.
-pub record IsQueryAnswer (text : List ℕ) (now : ℕ) (history : History) (answer : Answer) : Type 0 where
-  pub records : List Record
-  pub evaluated : Evaluates text now history (evaluation.records records)
-  pub lines : answer.lines ≡ lines_text records
-  pub front : answer.front ≡ length history
-
 -- The answer is that to this query over all rows of the history.
 pub record IsSearchAnswer (query : Question) (now : ℤ) (history : History) (answer : Answer) : Type 0 where
   pub over : IsAnswerOver query now (rows_of history) answer.lines
   pub front : answer.front ≡ length history
 
+-- The text spells a query that can be asked, and the answer is that to it.
+abbrev pub IsQueryAnswer : List ℕ → ℕ → History → Answer → Type 0
+IsQueryAnswer text now history answer = ForReadableQuery text (λ query. IsSearchAnswer query (pos now) history answer)
+
 -- Why there is none. `Memory` may always be returned.
 abbrev pub FailsQuery : List ℕ → ℕ → History → AnswerFault → Type 0
-FailsQuery text now history (Query fault) =
-    (fault ≢ spelling.Memory) × HasQueryOutcome text now history (unspelled fault)
-FailsQuery text now history (RegexRefused nth) = HasQueryOutcome text now history (unreadable nth)
-FailsQuery text now history ManyRows = HasQueryOutcome text now history many_rows
-FailsQuery text now history (Overflow name) = HasQueryOutcome text now history (overflows name)
+FailsQuery text now history (Query fault) = (fault ≢ spelling.Memory) × IsUnspelled text fault
+FailsQuery text now history (RegexRefused nth) = HasUnreadablePattern text nth
+FailsQuery text now history ManyRows =
+    ForReadableQuery text (λ query. FailsOver query (pos now) (rows_of history) running.ManyRows)
+FailsQuery text now history (Overflow name) =
+    ForReadableQuery text (λ query. FailsOver query (pos now) (rows_of history) (running.Overflow name))
 FailsQuery text now history Memory = Unit {0}
 
 -- The text spells a query that can be asked, and its evaluation over the history has records.

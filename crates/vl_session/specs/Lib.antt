@@ -19,6 +19,7 @@ pub mod Laws
 pub use Rattle.query_run.specs.Asked
 pub use Rattle.query_run.specs.Evaluation
 pub use Rattle.query_run.specs.Faults
+pub use Rattle.query_run.specs.Patterns
 pub use Rattle.query_run.specs.QueryFault
 pub use Rattle.query_run.specs.Question
 pub use Rattle.query_run.specs.Records

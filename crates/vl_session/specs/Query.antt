@@ -1,6 +1,5 @@
 -- The answer to a query over the history that was seen (VictoriaLogs, "Querying").
 use Rattle.std.specs.Prelude.{◌≡◌, ℕ, pos, List, ◌++◌, codes, decimal, flat_map}
-use Rattle.std.specs.List.{AllByRecursion}
 use Rattle.log_model.specs.History.{History, rows_of}
 use Rattle.log_model.specs.Print.{lines_text}
 use Rattle.log_model.specs.Row.{Batch, Row}
@@ -9,13 +8,11 @@ use Rattle.http_reply.specs.declared.status.Status.{Status}
 use Rattle.http_reply.specs.declared.status.Status.TheVariants as statuses
 use Rattle.query_run.specs.Evaluation as evaluation
 use Rattle.query_run.specs.Evaluation.{evaluate}
-use Rattle.query_run.specs.Patterns.{CanBeRead, all_patterns}
-use Rattle.query_run.specs.Question.{Question}
 use Rattle.query_run.specs.Records.{Record}
 use Rattle.query_run.specs.Faults.{fault_text}
 pub use Rattle.query_run.specs.Query.{IsQueryText}
 use Rattle.query_run.specs.QueryFault.{QueryFault}
-use Rattle.query_run.specs.Asked.{HasUnreadablePattern, IsUnspelled}
+use Rattle.query_run.specs.Asked.{ForReadableQuery, HasUnreadablePattern, IsUnspelled}
 use Rattle.vl_session.specs.Seen.{Effect, looks, nothing}
 
 -- the result of a query
@@ -35,16 +32,10 @@ pub data QueryOutcome : Type 0 where
 abbrev pub batch_list_rows : List Batch → List Row
 batch_list_rows batches = flat_map (λ batch. batch) batches
 
--- The text spells a query whose patterns can all be read, and this is its evaluation over the rows at that moment.
-pub record EvaluatesOver (text : List ℕ) (now : ℕ) (rows : List Row) (outcome : evaluation.Outcome) : Type 0 where
-  pub query : Question
-  pub spelled : IsQueryText text query
-  pub readable : AllByRecursion CanBeRead (all_patterns query)
-  pub evaluated : evaluate query (pos now) rows ≡ outcome
-
--- the same over all rows of the history
+-- The text spells a query whose patterns can all be read, and this is its evaluation over all rows of the history.
 abbrev pub Evaluates : List ℕ → ℕ → History → evaluation.Outcome → Type 0
-Evaluates text now history outcome = EvaluatesOver text now (rows_of history) outcome
+Evaluates text now history outcome =
+    ForReadableQuery text (λ query. evaluate query (pos now) (rows_of history) ≡ outcome)
 
 -- the text of a query, over the history that was seen
 abbrev pub HasQueryOutcome : List ℕ → ℕ → History → QueryOutcome → Type 0

@@ -13,10 +13,10 @@ use vl_row::{Batch, RowList};
 
 /// The desk, and what its calls take besides a pass.
 #[derive(Drop)]
-pub(crate) struct Access<'d, R> {
-    pub(crate) rt: &'d R,
-    pub(crate) alloc: Global,
-    pub(crate) desk: &'d Desk,
+pub struct Access<'d, R> {
+    pub rt: &'d R,
+    pub alloc: Global,
+    pub desk: &'d Desk,
 }
 
 impl<R: Wait> Access<'_, R> {

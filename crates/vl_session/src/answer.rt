@@ -4,7 +4,8 @@ ghost use Rattle.log_desk.specs.Passes.{IsPassOf};
 ghost use Rattle.log_desk.specs.Seen.{caller_of, seen_of};
 ghost use Rattle.log_model.specs.History.{rows_of};
 ghost use Rattle.query_run.specs.Answer.{FailsOver};
-ghost use Rattle.query_run.specs.Asked.{HasReadablePipes, IsReadableQuery, asked_by};
+ghost use Rattle.query_run.specs.Asked.{IsReadableQuery};
+ghost use Rattle.query_run.specs.Question.{question};
 ghost use Rattle.vl_session.specs.Answer.{FailsQuery, HasRecords, IsOfEvaluation, IsQueryAnswer, IsSearchAnswer};
 ghost use Rattle.vl_session.specs.Answer.{fault_effect};
 ghost use Rattle.vl_session.specs.Seen.{Has, Looks};
@@ -12,7 +13,7 @@ ghost use Rattle.vl_session.specs.Seen.{Has, Looks};
 use crate::access::Access;
 use crate::law::select_law;
 use log_desk::{Desk, Pass};
-use query_run::{HashSeed, QueryFault, QueryRefusal, RunFault, Search, answer_seeded, read_query};
+use query_run::{HashSeed, QueryFault, QueryRefusal, RunFault, Search, answer, read_query};
 use std::alloc::{AllocError, Global};
 use std::random::RandomSource;
 use std::sync::Wait;
@@ -106,38 +107,33 @@ pub fn answer_query<R: Wait + RandomSource>(
         Ok(search) => search,
         Err(refusal) => return Err(AnswerFault::from(refusal)),
     };
-    match answer_search(rt, alloc, desk, pass, &search, now) {
+    let access = Access { rt, alloc, desk };
+    match access.answer(pass, &search, now) {
         Ok(answer) => Ok(answer),
         Err(fault) => Err(AnswerFault::from(fault)),
     }
 }
 
-/// Answers a query that was read, as [`answer_query`] does. A look at the log takes one turn.
-pub fn answer_search<R: Wait + RandomSource>(
-    rt: &R,
-    alloc: Global,
-    desk: &Desk,
-    pass: &mut Pass,
-    search: &Search,
-    now: i64,
-) -> Result<Answer, RunFault>
-    requires pass { IsPassOf desk.now pass.old }
-    requires readable { HasReadablePipes search.now }
-    ensures answered { IfOk result (IsSearchAnswer (asked_by search.now) now (seen_of pass.new).history) }
-    ensures refused { IfErr result (FailsOver (asked_by search.now) now (rows_of (seen_of pass.new).history)) }
-    ensures looks { Looks (caller_of pass.old) (seen_of pass.old) (seen_of pass.new) }
-    ensures pass { IsPassOf desk.now pass.new }
-    ensures caller { caller_of pass.new ≡ caller_of pass.old }
-{
-    let access = Access { rt, alloc, desk };
-    let snapshot = match access.look(pass) {
-        Ok(snapshot) => snapshot,
-        Err(AllocError) => return Err(RunFault::Memory),
-    };
-    let front = snapshot.front();
-    let seed = HashSeed::random(rt);
-    match answer_seeded(alloc, seed, search, now, &snapshot) {
-        Ok(lines) => Ok(Answer { front, lines }),
-        Err(fault) => Err(fault),
+impl<R: Wait + RandomSource> Access<'_, R> {
+    /// Answers a prepared query, as [`answer_query`] does. Hashes with a new seed, where the system gives one. A look
+    /// at the log takes one turn.
+    pub fn answer(&self, pass: &mut Pass, search: &Search, now: i64) -> Result<Answer, RunFault>
+        requires { IsPassOf self.now.desk.now pass.old }
+        ensures answered { IfOk result (IsSearchAnswer (question search.now) now (seen_of pass.new).history) }
+        ensures refused { IfErr result (FailsOver (question search.now) now (rows_of (seen_of pass.new).history)) }
+        ensures looks { Looks (caller_of pass.old) (seen_of pass.old) (seen_of pass.new) }
+        ensures pass { IsPassOf self.now.desk.now pass.new }
+        ensures caller { caller_of pass.new ≡ caller_of pass.old }
+    {
+        let snapshot = match self.look(pass) {
+            Ok(snapshot) => snapshot,
+            Err(AllocError) => return Err(RunFault::Memory),
+        };
+        let front = snapshot.front();
+        let seed = HashSeed::random(self.rt);
+        match answer(self.alloc, seed, search, now, &snapshot) {
+            Ok(lines) => Ok(Answer { front, lines }),
+            Err(fault) => Err(fault),
+        }
     }
 }

@@ -22,7 +22,8 @@ mod syslog_report;
 mod syslog_stream;
 mod turn;
 
-pub use answer::{Answer, AnswerFault, answer_query, answer_search};
+pub use access::Access;
+pub use answer::{Answer, AnswerFault, answer_query};
 pub use insert::{Insertion, InsertionFault, insert_lines};
 pub use law::{alone_law, insert_law, select_law, session_law, syslog_law};
 pub use query_run::{QueryFault, QueryRefusal, RunFault, Search, read_query};

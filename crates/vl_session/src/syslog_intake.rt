@@ -1,16 +1,17 @@
 //! Inserts messages of syslog into the desk.
-ghost use Rattle.std.specs.Prelude.{◌≡◌, ℕ, ◌+◌, ◌*◌, ◌^◌, ◌<◌, ◌≤◌, ◌≤ℤ◌, IfErr, IfOk, IfSome, List, OnOk, Option};
+ghost use Rattle.std.specs.Prelude.{◌≡◌, ◌+◌, ◌*◌, ◌^◌, ◌<◌, ◌≤◌, ◌≤ℤ◌, IfErr, IfOk, IfSome, List, OnOk, Option};
 ghost use Rattle.std.specs.Prelude.{length, pos, unsigned_abs, vec_len};
 ghost use Rattle.log_model.specs.Row.{Batch as Rows, IsRow, Row as Event, batch_weight};
+ghost use Rattle.vl_io.specs.Moments.{IsMoment};
 ghost use Rattle.log_desk.specs.Passes.{IsPassOf};
 ghost use Rattle.log_desk.specs.Seen.{caller_of, seen_of};
 ghost use Rattle.vl_session.specs.Seen.{Has, batches_of_rows};
 ghost use Rattle.vl_session.specs.SyslogSession.{IsMessageOutcome, TakesAll, batch_rows, end_effect, moment_of};
-ghost use Rattle.vl_session.specs.SyslogTaking.{HoldsUp, IsChunk, TakesSome, TakesUp};
+ghost use Rattle.vl_session.specs.SyslogTaking.{HoldsUp, IsChunk, TakesSome, TakesUp, report_of};
 ghost use Rattle.vl_session.specs.Turns.{GaveMoments};
 
 use crate::access::Access;
-use crate::syslog_report::SyslogEnd;
+use crate::syslog_report::{SyslogEnd, SyslogReport};
 use ingest_row::{SyslogKind, row_of_syslog};
 use log_desk::Pass;
 use std::alloc::{AllocError, Global};
@@ -29,6 +30,19 @@ pub(crate) struct Counts {
     pub(crate) refused: u64,
 }
 
+impl Counts {
+    /// Returns the report of a session with these counts that ended so.
+    pub(crate) fn report(self, end: SyslogEnd) -> SyslogReport
+        ensures { result ≡ report_of self end }
+    {
+        SyslogReport {
+            accepted: self.accepted,
+            refused: self.refused,
+            end,
+        }
+    }
+}
+
 /// Rows that are one batch, if there are any.
 #[derive(Drop)]
 struct Chunk {
@@ -37,37 +51,21 @@ struct Chunk {
     end: usize,
 }
 
-/// Inserts the messages that a read completed. The clock is asked once, if there are any. Messages that an end keeps
-/// back are not counted.
-pub(crate) fn take_in<R: Wait, C: Clock>(
-    access: &Access<'_, R>,
-    pass: &mut Pass,
-    messages: &Frames,
-    clock: &mut C,
-    counts: &mut Counts,
-) -> Result<(), SyslogEnd>
-    requires pass { IsPassOf access.now.desk.now pass.old }
-    requires room { counts.old.accepted + counts.old.refused + length messages.now < 2 ^ 64 }
-    ensures all { OnOk result ((now : ℕ) × (outcomes : List (Option Event)) × (batches : List Rows)
-        × GaveMoments (C.moments clock.old) (C.moments clock.new) (moment_of messages.now now)
-        × TakesUp (caller_of pass.old) now messages.now (seen_of pass.old) (seen_of pass.new) counts.old counts.new
-        outcomes batches × (length outcomes ≡ length messages.now)) }
-    ensures some { IfErr result (λ end. (now : ℕ) × (outcomes : List (Option Event)) × (batches : List Rows)
-        × GaveMoments (C.moments clock.old) (C.moments clock.new) (moment_of messages.now now)
-        × TakesSome (caller_of pass.old) now messages.now (seen_of pass.old) (seen_of pass.new) counts.old counts.new
-        outcomes batches end) }
-    ensures pass { IsPassOf access.now.desk.now pass.new }
-    ensures caller { caller_of pass.new ≡ caller_of pass.old }
+/// Returns the moment at which the messages came that a read completed. The clock is asked only if there are any.
+pub(crate) fn arrival_moment<C: Clock>(messages: &Frames, clock: &mut C) -> i64
+    ensures told { GaveMoments (C.moments clock.old) (C.moments clock.new)
+        (moment_of messages.now (unsigned_abs result)) }
+    ensures in_range { IsMoment result }
 {
     if messages.is_empty() {
-        return Ok(());
+        return 0;
     }
-    let now = clock.now();
-    take_batches(access, pass, messages, now, counts)
+    clock.now()
 }
 
-/// Inserts messages that arrived at this moment, one batch at a time.
-fn take_batches<R: Wait>(
+/// Inserts the messages that a read completed, which came at the moment `now`, one batch at a time. Messages that an
+/// end keeps back are not counted.
+pub(crate) fn take_in<R: Wait>(
     access: &Access<'_, R>,
     pass: &mut Pass,
     messages: &Frames,

@@ -4,11 +4,10 @@ ghost use Rattle.vl_io.specs.Change.{change_of};
 ghost use Rattle.log_desk.specs.Passes.{IsPassOf};
 ghost use Rattle.log_desk.specs.Seen.{caller_of, seen_of};
 ghost use Rattle.vl_session.specs.SyslogSession.{IsSyslogSession};
-ghost use Rattle.vl_session.specs.SyslogTaking.{report_of};
 
 use crate::access::Access;
 use crate::syslog_inflow::{Inflow, piece_buffer};
-use crate::syslog_intake::{Counts, take_in};
+use crate::syslog_intake::{Counts, arrival_moment, take_in};
 use crate::syslog_report::{SyslogEnd, SyslogReport};
 use log_desk::{Desk, Pass};
 use std::alloc::{AllocError, Global};
@@ -40,45 +39,21 @@ pub fn syslog_session<R: Wait, S: Source, C: Clock>(
         accepted: 0,
         refused: 0,
     };
-    let end = take_stream(&access, pass, src, clock, &mut counts);
-    SyslogReport {
-        accepted: counts.accepted,
-        refused: counts.refused,
-        end,
-    }
-}
-
-/// Inserts the messages of a stream, counts them, and says why there are no more.
-fn take_stream<R: Wait, S: Source, C: Clock>(
-    access: &Access<'_, R>,
-    pass: &mut Pass,
-    src: &mut S,
-    clock: &mut C,
-    counts: &mut Counts,
-) -> SyslogEnd
-    requires pass { IsPassOf access.now.desk.now pass.old }
-    requires none { counts.old.accepted ≡ 0 }
-    requires nothing { counts.old.refused ≡ 0 }
-    ensures session { IsSyslogSession (caller_of pass.old) (seen_of pass.old) (seen_of pass.new)
-        (change_of S.left S.faults src.old src.new) (C.moments clock.old) (C.moments clock.new)
-        (report_of counts.new result) }
-    ensures pass { IsPassOf access.now.desk.now pass.new }
-    ensures caller { caller_of pass.new ≡ caller_of pass.old }
-{
-    let mut inflow = Inflow::new(access.alloc);
-    let mut buffer = match piece_buffer(access.alloc) {
+    let mut inflow = Inflow::new(alloc);
+    let mut buffer = match piece_buffer(alloc) {
         Ok(buffer) => buffer,
-        Err(AllocError) => return SyslogEnd::Memory,
+        Err(AllocError) => return counts.report(SyslogEnd::Memory),
     };
     let piece = buffer.as_mut_slice();
     'reads: loop {
-        let ended = inflow.advance(access.alloc, src, piece);
-        match take_in(access, pass, &inflow.messages, clock, counts) {
+        let ended = inflow.advance(alloc, src, piece);
+        let now = arrival_moment(&inflow.messages, clock);
+        match take_in(&access, pass, &inflow.messages, now, &mut counts) {
             Ok(()) => {}
-            Err(end) => return end,
+            Err(end) => return counts.report(end),
         }
         match ended {
-            Some(end) => return end,
+            Some(end) => return counts.report(end),
             None => {}
         }
     }

@@ -21,7 +21,7 @@ has_records text asked now seed rows history spelled none always few are =
         query = asked;
         spelled = spelled;
         readable = subst (AllByRecursion CanBeRead) (sym none) tt;
-        evaluated = ap (evaluate asked (pos now)) are ∙ found.1;
+        facts = ap (evaluate asked (pos now)) are ∙ found.1;
       },
     )
 

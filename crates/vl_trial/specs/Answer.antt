@@ -1,18 +1,15 @@
 -- The answer of a trial.
-use Rattle.std.specs.Prelude.{◌≡◌, ℕ, List, ◌++◌}
-use Rattle.log_model.specs.Print.{lines_text}
+use Rattle.std.specs.Prelude.{◌≡◌, ℕ, pos, List, ◌++◌}
 use Rattle.log_model.specs.Row.{Row}
-use Rattle.lq_ast.specs.Evaluation as evaluation
-use Rattle.lq_ast.specs.Records.{Record}
-use Rattle.lone_desk.specs.Query.{EvaluatesOver, batch_list_rows}
+use Rattle.lone_desk.specs.Answer.{IsAnswerOver}
+use Rattle.lone_desk.specs.Asked.{ForReadableQuery}
+use Rattle.lone_desk.specs.Query.{batch_list_rows}
 use Rattle.vl_trial.specs.QueryTexts.{count_text, errors_text, slow_text}
 use Rattle.vl_trial.specs.Trial.{trial_batches}
 
--- The lines are those of the records that the query of this text has over the rows.
-pub record AreLines (text : List ℕ) (now : ℕ) (rows : List Row) (lines : List ℕ) : Type 0 where
-  pub records : List Record
-  pub evaluated : EvaluatesOver text now rows (evaluation.records records)
-  pub printed : lines ≡ lines_text records
+-- The lines are the answer over the rows to the query that the text spells.
+abbrev pub AreLines : List ℕ → ℕ → List Row → List ℕ → Type 0
+AreLines text now rows lines = ForReadableQuery text (λ query. IsAnswerOver query (pos now) rows lines)
 
 -- The answer is the lines of the three queries over the rows of the trial's batches, one query after another.
 pub record IsTrialAnswer (seed rows now : ℕ) (answer : List ℕ) : Type 0 where

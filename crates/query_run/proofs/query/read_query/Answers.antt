@@ -1,10 +1,9 @@
-use Rattle.std.proofs.Common.{◌≡◌, ◌∙◌, map, sym, subst}
+use Rattle.std.proofs.Common.{◌≡◌, ◌∙◌, sym, subst}
 use Rattle.std.specs.List.{AllByRecursion}
 use Rattle.lq_ast.specs.Patterns.{CanBeRead, all_patterns}
-use Rattle.lq_ast.specs.PipeView.{stage}
 use Rattle.lq_ast.specs.Question.{question}
 use Rattle.query_run.proofs.AnswerLemmas.{if_err}
-use Rattle.query_run.proofs.QueryLemmas.{not_asked, only_memory, only_memory_of, readable_pipes, same_query}
+use Rattle.query_run.proofs.QueryLemmas.{not_asked, only_memory, only_memory_of, same_query}
 use Rattle.query_run.proofs.query.read_query.Goals as goal
 
 pub returns-in_err-query-clause-readable : goal.returns-in_err-query-clause-readable
@@ -29,13 +28,7 @@ returns-clause-unasked c none =
     (λ other spelled. same_query _ c.in_ok-query.query read other (c.in_ok-query.ensures.complete other spelled))
     c.in_ok-filter.ensures.readable none)
 
-pub returns-clause-pipes : goal.returns-clause-pipes
-returns-clause-pipes c = readable_pipes (question c.in_ok-query.query) c.in_ok-filter.ensures.readable
-
 pub returns-clause-patterns : goal.returns-clause-patterns
 returns-clause-patterns c =
-    subst
-    (λ condition. AllByRecursion CanBeRead (all_patterns (record {
-      condition = condition;
-      stages = map stage c.in_ok-query.query.pipes;
-    }))) (sym c.in_ok-filter.ensures.same) c.in_ok-filter.ensures.readable
+    subst (λ query. AllByRecursion CanBeRead (all_patterns (question query))) (sym c.of.ensures)
+    c.in_ok-filter.ensures.readable

@@ -19,7 +19,8 @@ pub returns-in-Err-Large-clause-refused : goal.returns-in-Err-Large-clause-refus
 returns-in-Err-Large-clause-refused g c =
     let fits : FitsSigned w64 c.moment.result = fits_signed_from_abs w64 c.moment.result c.moment.ensures.in_range.0 in
     let arrival = c.args.arrival.now in
-    let refused = rw (c.moment.ensures.value, c.options.ensures) at (simp to_z-of_z at c.in-Err-Large.ensures.refused) in
+    let refused = rw (c.moment.ensures.value, c.options.ensures)
+    at (simp to_z-of_z at c.in-Err-Large.ensures.refused) in
     let named = subst (RefusesAlone arrival.options arrival.moment c.args.body.now c.args.desk.now
     c.insert_lines.new.self) c.in-Err-Large.field-0-is refused in
     large_group arrival c.args.body.now c.args.desk.now c.insert_lines.new.self
@@ -29,7 +30,8 @@ pub returns-in-Err-Full-clause-refused : goal.returns-in-Err-Full-clause-refused
 returns-in-Err-Full-clause-refused g c =
     let fits : FitsSigned w64 c.moment.result = fits_signed_from_abs w64 c.moment.result c.moment.ensures.in_range.0 in
     let arrival = c.args.arrival.now in
-    let refused = rw (c.moment.ensures.value, c.options.ensures) at (simp to_z-of_z at c.in-Err-Full.ensures.refused) in
+    let refused = rw (c.moment.ensures.value, c.options.ensures)
+    at (simp to_z-of_z at c.in-Err-Full.ensures.refused) in
     let named = subst (RefusesAlone arrival.options arrival.moment c.args.body.now c.args.desk.now
     c.insert_lines.new.self) c.in-Err-Full.field-0-is refused in
     full_group arrival c.args.body.now c.args.desk.now c.insert_lines.new.self _ named
@@ -38,8 +40,8 @@ pub unreachable-requires : goal.unreachable-requires
 unreachable-requires g c =
     let fits : FitsSigned w64 c.moment.result = fits_signed_from_abs w64 c.moment.result c.moment.ensures.in_range.0 in
     let arrival = c.args.arrival.now in
-    let refused = rw (c.moment.ensures.value, c.options.ensures) at (simp to_z-of_z at c.in-Err-Spent.ensures.refused) in
+    let refused = rw (c.moment.ensures.value, c.options.ensures)
+    at (simp to_z-of_z at c.in-Err-Spent.ensures.refused) in
     let named = subst (RefusesAlone arrival.options arrival.moment c.args.body.now c.args.desk.now
     c.insert_lines.new.self) c.in-Err-Spent.field-0-is refused in
-    absurd (never_last arrival c.args.body.now c.args.desk.now c.insert_lines.new.self
-    c.requires.held.0 c.requires.held.1 named)
+    absurd (never_last arrival c.args.body.now c.args.desk.now c.insert_lines.new.self c.requires.numbered named)

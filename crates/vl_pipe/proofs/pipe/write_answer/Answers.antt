@@ -3,23 +3,24 @@ use Rattle.std.proofs.lemmas.Int.{to_z-of_z}
 use Rattle.log_model.specs.History.{rows_of}
 use Rattle.vl_io.specs.Change.{change_of}
 use Rattle.lone_desk.specs.Answer.{FailsOver, IsAnswerOver}
-use Rattle.lone_desk.specs.Asked.{asked_by}
+use Rattle.lone_desk.specs.Question.{question}
 use Rattle.vl_pipe.specs.Pipe.{StopsAnswer}
 use Rattle.vl_pipe.proofs.AnswerLemmas.{stops_answer}
 use Rattle.vl_pipe.proofs.pipe.write_answer.Goals as goal
 
 pub returns-in-Err-clause-stopped : goal.returns-in-Err-clause-stopped
 returns-in-Err-clause-stopped g c =
-    let query = asked_by c.args.search.now in
+    let query = question c.args.search.now in
     let rows = rows_of c.args.desk.now.history in
     let fits : FitsSigned w64 c.args.now = c.ranges.now in
     let moment : to_z w64 (of_z w64 c.args.now) ≡ c.args.now = to_z-of_z w64 c.args.now fits in
     let fails = subst (λ now. FailsOver query now rows c.in-Err.fault) moment c.in-Err.ensures.refused in
-    subst (StopsAnswer query c.args.now rows _) (sym c.from.ensures) (stops_answer query c.args.now rows _ c.in-Err.fault fails)
+    subst (StopsAnswer query c.args.now rows _) (sym c.from.ensures)
+    (stops_answer query c.args.now rows _ c.in-Err.fault fails)
 
 pub returns-in-Ok-put_all-clause-done : goal.returns-in-Ok-put_all-clause-done
 returns-in-Ok-put_all-clause-done g c =
-    let query = asked_by c.args.search.now in
+    let query = question c.args.search.now in
     let rows = rows_of c.args.desk.now.history in
     let fits : FitsSigned w64 c.args.now = c.ranges.now in
     let moment : to_z w64 (of_z w64 c.args.now) ≡ c.args.now = to_z-of_z w64 c.args.now fits in (
@@ -30,7 +31,7 @@ returns-in-Ok-put_all-clause-done g c =
 
 pub returns-clause-stopped : goal.returns-clause-stopped
 returns-clause-stopped g c =
-    let query = asked_by c.args.search.now in
+    let query = question c.args.search.now in
     let rows = rows_of c.args.desk.now.history in
     let fits : FitsSigned w64 c.args.now = c.ranges.now in
     let moment : to_z w64 (of_z w64 c.args.now) ≡ c.args.now = to_z-of_z w64 c.args.now fits in

@@ -18,12 +18,18 @@ returns-in_ok-reply-in-Ok-clause-said g c =
     let moment : to_z w64 (of_z w64 c.args.now) ≡ c.args.now = to_z-of_z w64 c.args.now fits in
     let answered = subst (λ now. IsQueryAnswer c.args.text.now (unsigned_abs now) history c.in-Ok.answer) moment
     c.in-Ok.ensures.answered in
+    let over = answered.facts.over in
     record {
-      outcome = found answered.records;
+      outcome = found over.found;
       has = c.in-Ok.ensures.looks;
-      has_outcome = answered.evaluated;
+      has_outcome = record {
+        query = answered.query;
+        spelled = answered.spelled;
+        readable = answered.readable;
+        facts = over.evaluated;
+      };
       said = c.in_ok-reply-in-Ok.ensures
-          ∙ ap (λ lines. reply_bytes (statuses.Served kinds.JsonLines) lines c.args.delivery) answered.lines;
+          ∙ ap (λ lines. reply_bytes (statuses.Served kinds.JsonLines) lines c.args.delivery) over.printed;
     }
 
 pub returns-in_ok-text-in-Err-clause-said : goal.returns-in_ok-text-in-Err-clause-said

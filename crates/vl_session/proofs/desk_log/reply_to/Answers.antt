@@ -1,11 +1,11 @@
-use Rattle.std.proofs.Common.{◌≡◌, Ok, ap, sym, subst, ◌∙◌, string_bytes, pos, unsigned_abs, FitsSigned, w64, to_z, of_z}
+use Rattle.std.proofs.Common.{◌≡◌, IfOk, Ok, ap, sym, subst, ◌∙◌, string_bytes, pos, unsigned_abs, FitsSigned, w64, to_z, of_z}
 use Rattle.std.proofs.lemmas.Int.{to_z-of_z}
 use Rattle.http_route.specs.Route.{wanted_by}
 use Rattle.log_desk.specs.Seen.{caller_of, seen_of}
 use Rattle.vl_session.specs.Answering.{Answered, SaysOutcome}
-use Rattle.vl_session.specs.Incoming.{IsIncoming}
+use Rattle.vl_session.specs.Incoming.{IsIncoming, IsNoBatch}
 use Rattle.vl_session.specs.Sent.{bytes_of}
-use Rattle.vl_session.proofs.AnswerLemmas.{insert_answered, query_answered, status_answered}
+use Rattle.vl_session.proofs.AnswerLemmas.{insert_answered, insert_unread_reply, query_answered, status_answered}
 use Rattle.vl_session.proofs.EffectLemmas.{on_err}
 use Rattle.vl_session.proofs.QueryLemmas.{same_moment}
 use Rattle.vl_session.proofs.SeenLemmas.{follows_none}
@@ -30,6 +30,26 @@ returns-in-Ok-clause-answered g c =
     (sym wanted)
     (insert_answered caller options (unsigned_abs c.args.now) body c.in-Ok.incoming old new c.args.delivery
     (bytes_of c.in_ok-reply-in-Ok.reply) read.0 is c.in_ok-reply-in-Ok.ensures.taken)
+
+pub returns-in-Ok-Insert-clause-answered : goal.returns-in-Ok-Insert-clause-answered
+returns-in-Ok-Insert-clause-answered g c =
+    let options = c.in-Ok-Insert.options in
+    let body = c.args.request.now.body in
+    let caller = caller_of c.args.pass.now in
+    let seen = seen_of c.args.pass.now in
+    let fault = c.in-Err.fault in
+    let fits : FitsSigned w64 c.args.now = c.ranges.now in
+    let moment : to_z w64 (of_z w64 c.args.now) ≡ pos (unsigned_abs c.args.now) =
+    to_z-of_z w64 c.args.now fits ∙ same_moment c.args.now c.requires.moment in
+    let at_now = subst (λ now. IsNoBatch options now c.as_slice-body.result.now fault) moment c.in-Err.ensures.unread in
+    let unread = subst (λ bytes. IsNoBatch options (pos (unsigned_abs c.args.now)) bytes fault) c.as_slice-body.ensures at_now in
+    let wanted = c.in-Ok-Insert.ensures.ok ∙ ap (λ want. Ok (wanted_by want)) c.in-Ok-Insert.field-0-is in
+    subst
+    (λ wanted. IfOk c.whole.result
+    (λ reply. Answered caller wanted body (unsigned_abs c.args.now) seen seen c.args.delivery (bytes_of reply)))
+    (sym wanted)
+    (insert_unread_reply c.whole.result c.refusal_reply.result bytes_of string_bytes caller options
+    (unsigned_abs c.args.now) body seen c.args.delivery fault unread c.whole.ensures c.refusal_reply.ensures)
 
 pub returns-in-Ok-Status-clause-answered : goal.returns-in-Ok-Status-clause-answered
 returns-in-Ok-Status-clause-answered g c =

@@ -2,7 +2,7 @@ use Rattle.std.proofs.Common.{◌^◌, lit<}
 use Rattle.lq_pipes.specs.RowRecords.{records_left}
 use Rattle.lq_pipes.specs.Steps.{stage_of}
 use Rattle.lq_pipes.proofs.Fewer.{fewer}
-use Rattle.lq_pipes.proofs.rows.run_rows.Goals as goal
+use Rattle.lq_pipes.proofs.rows.apply_steps_to_rows.Goals as goal
 
 pub run_all-requires-clause-few : goal.run_all-requires-clause-few
 run_all-requires-clause-few c =

@@ -3,7 +3,7 @@ use Rattle.log_model.specs.Row.{Batch, Row}
 use Rattle.log_desk.specs.Passes.{IsPassOf}
 use Rattle.log_desk.specs.Seen.{caller_of, seen_of}
 use Rattle.vl_session.specs.SyslogTaking.{TakesUp}
-use Rattle.vl_session.proofs.syslog_intake.take_batches.Given as goal
+use Rattle.vl_session.proofs.syslog_intake.take_in.Given as goal
 
 abbrev pub invariant-batches : goal.invariant-batches
 invariant-batches g l = record {

@@ -1,13 +1,14 @@
 use Rattle.std.proofs.Common.{◌≡◌, ◌<◌, ◌^◌, ◌++◌, List, length}
+use Rattle.lq_ast.specs.PipeView.{grouping}
 use Rattle.lq_ast.specs.Records.{Record}
-use Rattle.lq_order.specs.Tally.{Tallies}
 use Rattle.lq_pipes.specs.RowRecords.{records_left}
-use Rattle.lq_pipes.proofs.rows.tally_of.Given as goal
+use Rattle.lq_stats.specs.Plan.{IsGathered}
+use Rattle.lq_pipes.proofs.rows.statistics_of_rows.Given as goal
 
 abbrev pub invariant-loop-rows : goal.invariant-loop-rows
 invariant-loop-rows l = record {
   done : List Record;
-  tallies : Tallies l.tally l.names done;
+  taken : IsGathered l.gathered (grouping l.pipe) done;
   split : records_left l.initial.rows ≡ done ++ records_left l.rows;
   few : length (records_left l.initial.rows) < 2 ^ 32;
 }

@@ -1,7 +1,7 @@
 use Rattle.std.proofs.Common.{◌++◌, ◌^◌, arith}
 use Rattle.lq_pipes.specs.RowRecords.{records_left}
 use Rattle.lq_pipes.proofs.Rowwise.{pieces_few, pieces_more}
-use Rattle.lq_pipes.proofs.rows.tally_of.Goals as goal
+use Rattle.lq_pipes.proofs.rows.tally_of_rows.Goals as goal
 
 pub loop-rows-preserved : goal.loop-rows-preserved
 loop-rows-preserved c =

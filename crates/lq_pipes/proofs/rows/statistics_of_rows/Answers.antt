@@ -6,7 +6,7 @@ use Rattle.lq_pipes.specs.Faults.{IsMadeFault, of_statistics}
 use Rattle.lq_stats.specs.Finish.{IsFault}
 use Rattle.lq_pipes.proofs.Refusing.{handed_on, made_fault}
 use Rattle.lq_pipes.proofs.Rowwise.{pieces_end, pieces_more}
-use Rattle.lq_pipes.proofs.rows.statistics_of.Goals as goal
+use Rattle.lq_pipes.proofs.rows.statistics_of_rows.Goals as goal
 
 pub loop-rows-init : goal.loop-rows-init
 loop-rows-init c =

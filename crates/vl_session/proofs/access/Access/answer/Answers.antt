@@ -3,18 +3,18 @@ use Rattle.std.proofs.lemmas.Int.{to_z-of_z}
 use Rattle.log_model.specs.History.{rows_of}
 use Rattle.log_desk.specs.Seen.{seen_of}
 use Rattle.query_run.specs.Answer.{FailsOver, IsAnswerOver}
-use Rattle.query_run.specs.Asked.{asked_by}
-use Rattle.vl_session.proofs.answer.answer_search.Goals as goal
+use Rattle.query_run.specs.Question.{question}
+use Rattle.vl_session.proofs.access.Access.answer.Goals as goal
 
-pub returns-in-Ok-answer_seeded-clause-answered : goal.returns-in-Ok-answer_seeded-clause-answered
-returns-in-Ok-answer_seeded-clause-answered g c =
+pub returns-in-Ok-answer-clause-answered : goal.returns-in-Ok-answer-clause-answered
+returns-in-Ok-answer-clause-answered g c =
     let stands = c.in-Ok.ensures.stands in
     let history = (seen_of c.look.new.pass).history in
     let fits : FitsSigned w64 c.args.now = c.ranges.now in
     let moment : to_z w64 (of_z w64 c.args.now) ≡ c.args.now = to_z-of_z w64 c.args.now fits in
     record {
-      over = subst (λ now. IsAnswerOver (asked_by c.args.search.now) now (rows_of history) c.in-Ok-answer_seeded.lines) moment
-          (c.in-Ok-answer_seeded.ensures.answered history stands);
+      over = subst (λ now. IsAnswerOver (question c.args.search.now) now (rows_of history) c.in-Ok-answer.lines) moment
+          (c.in-Ok-answer.ensures.answered history stands);
       front = c.front-front.ensures ∙ stands.counted;
     }
 
@@ -23,5 +23,5 @@ returns-clause-refused g c =
     let history = (seen_of c.look.new.pass).history in
     let fits : FitsSigned w64 c.args.now = c.ranges.now in
     let moment : to_z w64 (of_z w64 c.args.now) ≡ c.args.now = to_z-of_z w64 c.args.now fits in
-    subst (λ now. FailsOver (asked_by c.args.search.now) now (rows_of history) c.in-Err-answer_seeded.fault) moment
-    (c.in-Err-answer_seeded.ensures.fault history c.in-Ok.ensures.stands)
+    subst (λ now. FailsOver (question c.args.search.now) now (rows_of history) c.in-Err-answer.fault) moment
+    (c.in-Err-answer.ensures.fault history c.in-Ok.ensures.stands)
