@@ -13,7 +13,9 @@ work=$(mktemp -d) || exit 2
 trap 'rm -rf "$work"' EXIT
 passed=0 failed=0 skipped=0
 check() { # NAME WANTED GOT
-  if [ "$2" = "$3" ]; then passed=$((passed + 1)); else failed=$((failed + 1)); printf 'FAILED %s\n  wanted: %s\n  got:    %s\n' "$1" "$2" "$3"; fi
+  if [ "$2" = "$3" ]; then passed=$((passed + 1)); return; fi
+  failed=$((failed + 1))
+  printf 'FAILED %s\n  wanted: %s\n  got:    %s\n' "$1" "$2" "$3"
 }
 
 # The same calls on both vaults.
@@ -31,6 +33,8 @@ for _ in range(int(sys.argv[1])):
 print("write 5 0 3000000 1\nread 5 0 4000000\nsync 5")
 for call in ("write {} 0 3 1", "length {}", "sync {}", "read {} 0 4"):
     for file in range(100, 180): print(call.format(file))
+# Whatever came before, this file is there at the end.
+print("write 3 0 5 1\nsync 3")
 PYTHON
 "$vault" memory <"$work/calls" >"$work/memory" 2>"$work/err"
 "$vault" write "$work/same" <"$work/calls" >"$work/directory" 2>>"$work/err"
@@ -48,12 +52,13 @@ check "only a write creates a file" "0 files, faults 0" "$(ls -A "$work/empty" |
 under_strace() {
 # What is not durable yet when a sync is answered.
 { head -400 "$work/calls"; tail -323 "$work/calls"; } >"$work/few"
-strace -o "$work/trace" -e trace=openat,open,pwrite64,ftruncate,unlink,unlinkat,fsync,fdatasync,mkdir,mkdirat,write,close \
-  "$vault" write "$work/traced" <"$work/few" >/dev/null
-check "each change is synced before the answer" "nothing pending" "$(python3 - "$work/trace" "$work/few" "$work/traced" <<'PYTHON'
+traced=openat,open,pwrite64,ftruncate,unlink,unlinkat,fsync,fdatasync,mkdir,mkdirat,write,close
+strace -o "$work/trace" -e "trace=$traced" "$vault" write "$work/traced" <"$work/few" >/dev/null
+python3 - "$work/trace" "$work/few" "$work/traced" >"$work/pending" <<'PYTHON'
 import os, re, sys
 trace, lines, directory = sys.argv[1:]
-names, answers, dirty, entry = {}, 0, set(), False     # entry: a name was made or removed and the directory is not synced
+names, answers, dirty = {}, 0, set()
+entry = False     # whether a name was made or removed since the directory was synced
 wanted = [line.split() for line in open(lines)]
 made, parent_synced, seen_change, longest = False, False, 0, 0
 for event in open(trace):
@@ -86,9 +91,10 @@ for event in open(trace):
             answers += 1
 if not (made and parent_synced): sys.exit(print("the directory is not synced into its parent"))
 if longest != 2 ** 20: sys.exit(print(f"the longest piece has {longest} bytes"))
-print("nothing pending" if answers > len(wanted) and seen_change > 50 else f"only {answers} answers, {seen_change} changes")
+seen = answers > len(wanted) and seen_change > 50
+print("nothing pending" if seen else f"only {answers} answers, {seen_change} changes")
 PYTHON
-)"
+check "each change is synced before the answer" "nothing pending" "$(cat "$work/pending")"
 
 { cat "$work/lengths"; printf 'read 3 0 9\nsync 3\n'; } >"$work/reading"
 strace -o "$work/trace" "$vault" read "$work/same" <"$work/reading" >/dev/null
@@ -135,20 +141,28 @@ fail "a removal" "$file" unlink 1 EIO 'remove 3\nlength 3\n' 1 "$file: $io"
 fail "a removal and a signal" "$file" unlink 1 EINTR 'write 3 0 5 1\nremove 3\nlength 3\n' 0 ""
 fail "a sync" "$file" fsync 1 EIO 'write 3 0 5 1\nsync 3\nlength 3\n' 1 "$file: $io"
 fail "a sync and a signal" "$file" fsync 1 EINTR 'write 3 0 5 1\nsync 3\nlength 3\n' 0 ""
-fail "a sync after one that failed" "$file" fsync 1 EIO 'write 3 0 5 1\nsync 3\nsync 3\nsync 9\nlength 3\n' 3 "$file: $io"
+fail "a sync after one that failed" "$file" fsync 1 EIO 'write 3 0 5 1\nsync 3\nsync 3\nsync 9\nlength 3\n' 3 \
+  "$file: $io"
 fail "a sync of a closed file, and the next" "$file" fsync 1 EIO 'sync 3\nsync 3\n' 2 "$file: $io"
 fail "a sync of the directory" "$directory" fsync 1 EIO 'write 3 0 5 1\nsync 3\nlength 3\n' 1 "$directory: $io"
 fail "a sync after one of the directory that failed" "$directory" fsync 1 EIO 'sync 3\nsync 3\n' 2 "$directory: $io"
-fail "a sync of the parent" "$work" fsync 1 EIO 'length 3\n' 1 "$directory: $io"
+fail "a sync of the parent" "$work" fsync 1 EIO 'length 3\n' 1 "$directory/..: $io"
 fail "a parent that has no sync" "$work" fsync 1 EINVAL 'length 3\nsync 3\n' 0 ""
+fail "a writer's sync that the system does not have" "$file" fsync 1 EINVAL 'write 3 0 5 1\nsync 3\n' 1 \
+  "$file: Invalid argument (os error 22)"
+fail "a writer's sync of the directory that the system does not have" "$directory" fsync 1 EINVAL \
+  'write 3 0 5 1\nsync 3\n' 1 "$directory: Invalid argument (os error 22)"
 fail "a parent that may not be opened" "$directory/.." openat 1 EACCES 'length 3\nsync 3\n' 0 ""
 fail "a creation without space" "$work/broken/8" openat 2 ENOSPC 'write 8 0 5 1\nlength 3\n' 1 "$work/broken/8: $space"
 fail "a creation with too many files" "$work/broken/8" openat 2 EMFILE 'write 8 0 5 1\nlength 8\n' 1 \
   "$work/broken/8: Too many open files (os error 24)"
 fail "a length of an open file" "$file" statx 2 EIO 'write 3 0 5 1\nlength 3\n' 1 "$file: $io"
-many=$(printf 'write %s 0 1 1\\n' $(seq 100 164))
-fail "an early sync of the file that was opened first" "$work/broken/100" fsync 1 EIO "${many}sync 164\n" 2 "$work/broken/100: $io"
-fail "a sync that a writer is refused" "$file" fsync 1 EROFS 'write 3 0 5 1\nsync 3\n' 1 "$file: Read-only file system (os error 30)"
+# 64 files are open, one of them goes, and two more come.
+many="$(printf 'write %s 0 1 1\\n' $(seq 99 162))remove 99\\n$(printf 'write %s 0 1 1\\n' 163 164)"
+fail "an early sync of the file that was opened first" "$work/broken/100" fsync 1 EIO "${many}sync 164\n" 2 \
+  "$work/broken/100: $io"
+fail "a sync that a writer is refused" "$file" fsync 1 EROFS 'write 3 0 5 1\nsync 3\n' 1 \
+  "$file: Read-only file system (os error 30)"
 fail "a sync of the directory and a signal" "$directory" fsync 1 EINTR 'sync 3\nsync 3\n' 0 ""
 fail "an opening" "$file" openat 1 EIO 'read 3 0 5\nlength 3\n' 1 "$file: $io"
 fail "an opening and a signal" "$file" openat 1 EINTR 'read 3 0 5\nlength 3\n' 0 ""
@@ -158,6 +172,17 @@ fail "a lock" "$directory" flock 1 EIO 'length 3\nsync 3\n' 2 "$directory: $io"
 fail "a lock and a signal" "$directory" flock 1 EINTR 'length 3\nsync 3\n' 0 ""
 fail "the directory's creation" "$directory" mkdir 1 EIO 'length 3\n' 1 "$directory: $io"
 fail "the directory's creation and a signal" "$directory" mkdir 1 EINTR 'length 3\n' 0 ""
+# A directory that was made is removed again if it cannot be synced into its parent, so that the next start fails too.
+fresh() { # NAME PATH SYSTEM_CALL ERROR
+  echo 'length 3' | strace -o "$work/trace" -e trace="$3" -P "$2" -e inject="$3:error=$4" "$vault" write "$work/fresh" \
+    >"$work/out" 2>/dev/null
+  check "$1" "failed, faults 1, removed" \
+    "$(paste -sd, "$work/out" | sed 's/,/, /'), $([ -d "$work/fresh" ] || echo removed)"
+  rm -rf "$work/fresh"
+}
+fresh "a new directory whose parent has no sync" "$work" fsync EINVAL
+fresh "a new directory whose parent's sync fails" "$work" fsync EIO
+fresh "a new directory whose parent may not be opened" "$work/fresh/.." openat EACCES
 }
 printf 'write 3 0 5 1\nsync 3\n' | "$vault" write "$work/broken" >/dev/null
 if ! command -v strace >/dev/null; then

@@ -1,5 +1,6 @@
 -- What the bytes of a slot say.
-use Rattle.std.proofs.Common.{◌≡◌, ℕ, ◌∙◌, Bool, true, false, List, ◌∷◌, Result, Ok, Err, refl, sym, ap}
+use Rattle.std.proofs.Common.{◌≡◌, ℕ, ◌∙◌, Bool, true, false, List, [], ◌∷◌, Result, Ok, Err, refl, sym, ap}
+use Rattle.std.proofs.Common.{length, take}
 use Rattle.std.specs.Prelude.{◌==◌, ◌%◌, Option, Some, None, if◌then◌else◌}
 use Rattle.std.proofs.lemmas.Bool.{eq-eqb, eqb-true}
 use Rattle.byte_format.proofs.Cases.{both_true, some_from}
@@ -47,3 +48,10 @@ slot_of-parity slot bytes = by_test (is_open bytes)
     by_test : (t : Bool) → HasParity slot (if t then opened (slot_reading slot bytes) else Closed)
     by_test true = opened-parity slot bytes (slot_reading slot bytes) refl
     by_test false = tt
+
+-- the slot is closed where it has fewer than two bytes
+pub short-closed : (count : ℕ) (bytes : List ℕ) → count ≡ length (take 2 bytes) → (count ≡ 2 → ⊥)
+    → is_open bytes ≡ false
+short-closed count [] is other = refl
+short-closed count (gate ∷ []) is other = refl
+short-closed count (gate ∷ b ∷ body) is other = absurd (other is)

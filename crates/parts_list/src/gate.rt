@@ -4,10 +4,21 @@ ghost use Rattle.vl_io.specs.Faults.{HasCause};
 ghost use Rattle.vl_vault.specs.Calls.{DidRead};
 ghost use Rattle.vl_vault.specs.Disk.{content};
 ghost use Rattle.vl_vault.specs.Moments.{Always, ChangesFile, IsDurable};
-ghost use Rattle.parts_list.specs.Slots.{IsClosedOrNew, IsClosedOrOld, IsShut};
+ghost use Rattle.parts_list.specs.Slots.{IsClosedOrNew, IsClosedOrOld, IsShut, is_open};
 
 use vl_io::Failed;
 use vl_vault::Vault;
+
+/// Returns whether the slot is open.
+pub(crate) fn has_open_gate<V: Vault>(vault: &mut V, slot: u64) -> Result<bool, Failed>
+    ensures told { V.is_told → DidRead (V.past vault.old) (V.past vault.new) result }
+    ensures open { V.is_told → IfOk result (λ is. is ≡ is_open (content (V.past vault.old) slot)) }
+    ensures cause { HasCause (V.faults vault.old) (V.faults vault.new) result }
+{
+    let mut front = [0; 2];
+    let count = vault.read(slot, 0, &mut front)?;
+    Ok(count == 2 && front[0] == 1)
+}
 
 /// Returns whether a gate stands in the slot that is not open.
 fn has_shut_gate<V: Vault>(vault: &mut V, slot: u64) -> Result<bool, Failed>

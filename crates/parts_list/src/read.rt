@@ -10,6 +10,7 @@ ghost use Rattle.parts_list.specs.Reading.{HasOtherVersion, IsBroken, IsFaultIn,
 ghost use Rattle.parts_list.specs.Slots.{found_in, is_open, live, slot_of};
 
 use crate::format::{HEAD, VERSION};
+use crate::gate::has_open_gate;
 use crate::list::{List, ListFault};
 use byte_format::{Fault, read_exactly};
 use std::alloc::Global;
@@ -28,8 +29,27 @@ pub fn read_list<V: Vault>(alloc: Global, vault: &mut V) -> Result<Option<List>,
     Ok(newer(first, second))
 }
 
-/// Reads the list in the slot. Returns `None` if its gate is closed.
+/// Reads the list in the slot. Returns `None` if the slot is closed, of which only the front is read.
 fn read_slot<V: Vault>(alloc: Global, vault: &mut V, slot: u64) -> Result<Option<List>, ListFault>
+    ensures moments { V.is_told → Always (IsUnchanged (V.past vault.old)) (V.past vault.old) (V.past vault.new) }
+    ensures found { V.is_told → IfOk result (λ list.
+        slot_of slot (content (V.past vault.old) slot) ≡ slot_with list) }
+    ensures damaged { V.is_told → IfErr result (λ fault. IsFaultIn fault slot (content (V.past vault.old) slot)) }
+    ensures fault { result ≡ Err ListFault.VaultFault → Rose (V.faults vault.old) (V.faults vault.new) }
+    ensures stays { V.faults vault.old ≤ V.faults vault.new }
+{
+    if !has_open_gate(vault, slot)? {
+        return Ok(None);
+    }
+    read_open_slot(alloc, vault, slot)
+}
+
+/// Reads the list in the slot from all its bytes.
+fn read_open_slot<V: Vault>(
+    alloc: Global,
+    vault: &mut V,
+    slot: u64,
+) -> Result<Option<List>, ListFault>
     ensures moments { V.is_told → Always (IsUnchanged (V.past vault.old)) (V.past vault.old) (V.past vault.new) }
     ensures found { V.is_told → IfOk result (λ list.
         slot_of slot (content (V.past vault.old) slot) ≡ slot_with list) }

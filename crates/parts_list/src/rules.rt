@@ -21,7 +21,7 @@ use std::collections::BTreeSet;
 pub(crate) const LIMIT: u64 = 1 << 63;
 
 /// A list has fewer parts than this.
-const MOST_PARTS: usize = 1 << 32;
+const PARTS_LIMIT: usize = 1 << 32;
 
 /// The first file that a part can have.
 pub(crate) const FIRST_FILE: u64 = 2;
@@ -37,7 +37,7 @@ pub(crate) fn is_list_of(alloc: Global, slot: u64, list: &List) -> Result<bool, 
             && is_within(1, LIMIT, list.generation)
             && is_within(0, LIMIT, list.front)
             && is_within(FIRST_FILE, LIMIT, list.next_file)
-            && entries.len() < MOST_PARTS
+            && entries.len() < PARTS_LIMIT
             && are_below(list.next_file, entries)
             && are_in_order(entries)
             && distinct,

@@ -207,6 +207,14 @@ fn the_bytes_of_a_slot(rt: HostRuntime) -> Result<(), Fail> {
     Ok(())
 }
 
+/// Returns whether this is no list, or the list of generation 1.
+fn is_none_or_first(list: Option<List>) -> bool {
+    match list {
+        None => true,
+        Some(list) => list.generation == 1,
+    }
+}
+
 #[test]
 fn each_call_that_fails_is_a_fault(rt: HostRuntime) -> Result<(), Fail> {
     let alloc = rt.alloc();
@@ -216,6 +224,18 @@ fn each_call_that_fails_is_a_fault(rt: HostRuntime) -> Result<(), Fail> {
         assert_eq!(rt; written, Err(ListFault::VaultFault), "call {failing}");
         assert_eq!(rt; vault.faults(), 1);
         assert_eq!(rt; vault.calls(), failing.saturating_add(1));
+        // What the call that failed left is read from then on.
+        assert!(rt;
+            is_none_or_first(read_list(alloc, &mut vault)?),
+            "call {failing}"
+        );
+        for choice in 0..400 {
+            let mut image = vault.image(vault.calls(), choice)?;
+            assert!(rt;
+                is_none_or_first(read_list(alloc, &mut image)?),
+                "call {failing}, image {choice}"
+            );
+        }
     }
     Ok(())
 }

@@ -1,7 +1,7 @@
 //! The record of the calls on a vault in memory.
-ghost use Rattle.std.specs.Prelude.{◌≡◌, ◌+◌, ◌∷◌, ◌≤◌, IfOk, OnErr, OnOk, false, length, take, vec_len};
+ghost use Rattle.std.specs.Prelude.{◌≡◌, ◌+◌, ◌∷◌, ◌≤◌, IfOk, OnErr, OnOk, length, take, true, vec_len};
 ghost use Rattle.vl_vault.specs.Calls.{overwritten};
-ghost use Rattle.vl_vault.specs.Disk.{IsCut, IsTorn, content, content_after};
+ghost use Rattle.vl_vault.specs.Disk.{IsCut, content, content_after};
 ghost use Rattle.vl_vault.specs.Record.{event_of, past_of};
 ghost use Rattle.vl_vault.specs.Replay.{file_of};
 
@@ -96,30 +96,12 @@ pub fn overwrite(alloc: Global, old: &[u8], at: usize, piece: &[u8]) -> Result<V
     Ok(new)
 }
 
-/// Returns what a read gives after a write. A write that fails leaves what was there.
-pub fn after_write(
-    alloc: Global,
-    old: &[u8],
-    at: usize,
-    piece: &[u8],
-    fails: bool,
-) -> Result<Vec<u8>, AllocError>
-    requires { at ≤ length old.now }
-    ensures torn { IfOk result (λ new. IsTorn at (length piece.now) old.now new.items) }
-    ensures whole { fails ≡ false → IfOk result (λ new. new.items ≡ overwritten old.now at piece.now) }
-{
-    if fails {
-        return Vec::from_slice(alloc, old);
-    }
-    overwrite(alloc, old, at, piece)
-}
-
-/// Returns what a read gives after a cut. A cut that fails leaves what was there.
-pub fn after_cut(alloc: Global, old: &[u8], length: u64, fails: bool) -> Result<Vec<u8>, AllocError>
+/// Returns what a read gives after a cut, which is done or leaves what was there.
+pub fn after_cut(alloc: Global, old: &[u8], length: u64, done: bool) -> Result<Vec<u8>, AllocError>
     ensures cut { IfOk result (λ new. IsCut length old.now new.items) }
-    ensures whole { fails ≡ false → IfOk result (λ new. new.items ≡ take length old.now) }
+    ensures whole { done ≡ true → IfOk result (λ new. new.items ≡ take length old.now) }
 {
-    if fails || length >= old.len() as u64 {
+    if !done || length >= old.len() as u64 {
         return Vec::from_slice(alloc, old);
     }
     Vec::from_slice(alloc, &old[..length as usize])

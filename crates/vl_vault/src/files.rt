@@ -2,7 +2,7 @@
 //! no clause says what these functions do there.
 ghost use Rattle.std.specs.Prelude.{◌≡◌, ◌<◌, ◌≤◌, [], IfOk, IfSome, IsSome, OnErr, OnOk, false, length};
 ghost use Rattle.std.specs.Prelude.{string_bytes, true, vec_len};
-ghost use Rattle.vl_vault.specs.Directory.{HasOtherPath, IsFound, IsOpen, place_of};
+ghost use Rattle.vl_vault.specs.Directory.{HasOtherPath, IsFound, IsOpen, KeepsSyncs, place_of};
 
 use std::alloc::{AllocError, Global};
 use std::fs::{File, Files, OpenOptions, TryLockError};
@@ -71,13 +71,10 @@ impl FileTable {
         path.reserve(DIGITS + 1)?;
         let mut changed = Vec::new(alloc);
         changed.reserve(OPEN_FILES)?;
-        path.push_str("/..")?;
-        let (directory, refused) = match lock_directory(rt, directory, path.as_str(), access) {
+        let (directory, refused) = match open_directory(rt, directory, &mut path, access) {
             Ok(handle) => (Some(handle), None),
             Err(reason) => (None, Some(reason)),
         };
-        path.clear();
-        path.push_str(name.as_str())?;
         Ok(FileTable {
             access,
             directory,
@@ -99,7 +96,8 @@ impl FileTable {
 
     /// Returns the length of the file.
     pub fn length<R: Files<File = File>>(&mut self, rt: &R, file: u64) -> io::Result<u64>
-        ensures { OnOk result (IsFound self.old self.new) }
+        ensures kept { KeepsSyncs self.old self.new }
+        ensures found { OnOk result (IsFound self.old self.new) }
     {
         self.find(file)?;
         if let Some(i) = self.place(file) {
@@ -121,19 +119,21 @@ impl FileTable {
         at: u64,
         buf: &mut [u8],
     ) -> io::Result<usize>
+        ensures kept { KeepsSyncs self.old self.new }
         ensures bound { IfOk result (λ n. n ≤ length buf.new) }
         ensures same { OnOk result (IsFound self.old self.new) }
     {
         self.find(file)?;
-        if at.saturating_add(buf.len() as u64) > i64::MAX as u64 {
-            // No file is that long, and the system refuses such a range.
-            return Ok(0);
-        }
+        // No file is longer than 2^63 - 1 bytes, and the system refuses a range that ends after them.
+        let end = buf
+            .len()
+            .min((i64::MAX as usize).saturating_sub(at as usize));
+        let room = &mut buf[..end];
         if let Some(i) = self.place(file) {
-            return read_all_at(&self.changed[i].handle, at, buf);
+            return read_all_at(&self.changed[i].handle, at, room);
         }
         match File::open(rt, self.path.as_str()) {
-            Ok(handle) => read_all_at(&handle, at, buf),
+            Ok(handle) => read_all_at(&handle, at, room),
             Err(reason) if reason.kind() == ErrorKind::NotFound => Ok(0),
             Err(reason) => Err(reason),
         }
@@ -147,6 +147,7 @@ impl FileTable {
         at: u64,
         piece: &[u8],
     ) -> io::Result<()>
+        ensures kept { KeepsSyncs self.old self.new }
         ensures writes { OnOk result (self.old.access ≡ Access.Write) }
         ensures open { OnOk result (IsOpen self.new file) }
     {
@@ -163,7 +164,8 @@ impl FileTable {
 
     /// Shortens the file. A shorter or a missing one stays as it is.
     pub fn cut<R: Files<File = File>>(&mut self, rt: &R, file: u64, length: u64) -> io::Result<()>
-        ensures { OnOk result (self.old.access ≡ Access.Write) }
+        ensures kept { KeepsSyncs self.old self.new }
+        ensures writes { OnOk result (self.old.access ≡ Access.Write) }
     {
         self.find_for_change(file)?;
         if self.place(file).is_none() {
@@ -181,6 +183,7 @@ impl FileTable {
 
     /// Removes the file.
     pub fn remove<R: Files<File = File>>(&mut self, rt: &R, file: u64) -> io::Result<()>
+        ensures kept { KeepsSyncs self.old self.new }
         ensures writes { OnOk result (self.old.access ≡ Access.Write) }
         ensures names { OnOk result (self.new.names_changed ≡ true) }
     {
@@ -200,6 +203,7 @@ impl FileTable {
     /// Syncs the file, and the directory where a file was created or removed since it was last synced. After a sync
     /// that failed, every later one fails.
     pub fn sync<R: Files<File = File>>(&mut self, rt: &R, file: u64) -> io::Result<()>
+        ensures kept { KeepsSyncs self.old self.new }
         ensures names { OnOk result (self.new.names_changed ≡ false) }
         ensures none_failed { OnOk result (self.old.sync_failed ≡ false) }
         ensures last { OnErr result (self.new.sync_failed ≡ true) }
@@ -211,6 +215,7 @@ impl FileTable {
 
     /// Syncs the file and the directory, unless an earlier sync failed.
     fn try_sync<R: Files<File = File>>(&mut self, rt: &R, file: u64) -> io::Result<()>
+        ensures kept { KeepsSyncs self.old self.new }
         ensures names { OnOk result (self.new.names_changed ≡ false) }
         ensures none_failed { OnOk result (self.old.sync_failed ≡ false) }
     {
@@ -228,6 +233,7 @@ impl FileTable {
     /// Syncs an open file, and closes it.
     fn sync_open(&mut self, i: usize) -> io::Result<()>
         requires { i < vec_len self.old.changed }
+        ensures kept { KeepsSyncs self.old self.new }
         ensures last { OnErr result (self.new.sync_failed ≡ true) }
         ensures same { OnOk result (self.new.sync_failed ≡ self.old.sync_failed) }
         ensures directory { self.new.directory ≡ self.old.directory }
@@ -245,7 +251,8 @@ impl FileTable {
 
     /// Syncs the directory where a file was created or removed since it was last synced.
     fn sync_names(&mut self) -> io::Result<()>
-        ensures { OnOk result (IsSome self.old.directory → self.new.names_changed ≡ false) }
+        ensures kept { KeepsSyncs self.old self.new }
+        ensures names { OnOk result (IsSome self.old.directory → self.new.names_changed ≡ false) }
     {
         if let Some(directory) = &self.directory {
             if self.names_changed {
@@ -262,7 +269,8 @@ impl FileTable {
 
     /// Sets the path to that of the file. It fails where the directory cannot be used.
     fn find(&mut self, file: u64) -> io::Result<()>
-        ensures { OnOk result (IsFound self.old self.new) }
+        ensures kept { KeepsSyncs self.old self.new }
+        ensures found { OnOk result (IsFound self.old self.new) }
     {
         if self.directory.is_none() {
             let reason = self.refused.take();
@@ -284,6 +292,7 @@ impl FileTable {
 
     /// As `find`, for a call that changes the file.
     fn find_for_change(&mut self, file: u64) -> io::Result<()>
+        ensures kept { KeepsSyncs self.old self.new }
         ensures found { OnOk result (IsFound self.old self.new) }
         ensures writes { OnOk result (self.old.access ≡ Access.Write) }
     {
@@ -306,7 +315,9 @@ impl FileTable {
     }
 
     /// Opens the file at the path for a change, and creates it if it is missing.
-    fn open_or_create<R: Files<File = File>>(&mut self, rt: &R) -> io::Result<File> {
+    fn open_or_create<R: Files<File = File>>(&mut self, rt: &R) -> io::Result<File>
+        ensures kept { KeepsSyncs self.old self.new }
+    {
         match changing().open(rt, self.path.as_str()) {
             Err(reason) if reason.kind() == ErrorKind::NotFound => {
                 self.names_changed = true;
@@ -317,7 +328,9 @@ impl FileTable {
     }
 
     /// Keeps the file open until it is synced. Where too many are open, the one that was opened first is synced.
-    fn keep_open(&mut self, number: u64, handle: File) -> io::Result<()> {
+    fn keep_open(&mut self, number: u64, handle: File) -> io::Result<()>
+        ensures kept { KeepsSyncs self.old self.new }
+    {
         if self.changed.len() >= OPEN_FILES {
             self.sync_open(0)?;
         }
@@ -419,17 +432,27 @@ fn write_all_at(handle: &File, at: u64, piece: &[u8]) -> io::Result<()> {
     Ok(())
 }
 
-/// Opens the directory and locks it. For writing it is created if it does not exist. `outer` is the path of the
-/// directory that it stands in.
-fn lock_directory<R: Files<File = File>>(
+/// Opens the directory and locks it. For writing it is created if it does not exist, and synced into the one that it
+/// stands in: a program that created it may have ended before that. `path`, which is the directory's, is left as the
+/// path of what was refused.
+fn open_directory<R: Files<File = File>>(
     rt: &R,
-    path: &str,
-    outer: &str,
+    name: &str,
+    path: &mut String,
     access: Access,
 ) -> io::Result<File> {
     if access == Access::Write {
-        create_directory(rt, path, outer)?;
+        let exists = create_directory(rt, name)?;
+        path.push_str("/..")?;
+        sync_parent(rt, name, path.as_str(), exists)?;
+        path.clear();
+        path.push_str(name)?;
     }
+    lock_directory(rt, name, access)
+}
+
+/// Opens the directory and locks it.
+fn lock_directory<R: Files<File = File>>(rt: &R, path: &str, access: Access) -> io::Result<File> {
     let directory = File::open(rt, path)?;
     let locked = match access {
         Access::Read => directory.try_lock_shared(),
@@ -445,16 +468,30 @@ fn lock_directory<R: Files<File = File>>(
     }
 }
 
-/// Creates the directory if it does not exist, and syncs the directory that it stands in: a program that created it may
-/// have ended before that. One that exists may stand where this program may not look, or where nothing can be written.
-fn create_directory<R: Files<File = File>>(rt: &R, path: &str, outer: &str) -> io::Result<()> {
-    let exists = match uninterrupted(|| fs::create_dir(rt, path)) {
-        Ok(()) => false,
-        Err(reason) if reason.kind() == ErrorKind::AlreadyExists => true,
-        Err(reason) => return Err(reason),
-    };
+/// Creates the directory if it does not exist. Returns whether it existed.
+fn create_directory<R: Files<File = File>>(rt: &R, path: &str) -> io::Result<bool> {
+    match uninterrupted(|| fs::create_dir(rt, path)) {
+        Ok(()) => Ok(false),
+        Err(reason) if reason.kind() == ErrorKind::AlreadyExists => Ok(true),
+        Err(reason) => Err(reason),
+    }
+}
+
+/// Syncs the directory that this one stands in. One that was there may stand where this program may not look, or where
+/// there is no sync. One that was created and cannot be synced there is removed again, so that the next program is
+/// refused too.
+fn sync_parent<R: Files<File = File>>(
+    rt: &R,
+    path: &str,
+    outer: &str,
+    exists: bool,
+) -> io::Result<()> {
     match sync_directory(rt, outer) {
-        Err(reason) if exists && has_nothing_to_sync(reason.kind()) => Ok(()),
+        Err(reason) if exists && may_stay_unsynced(reason.kind()) => Ok(()),
+        Err(reason) if !exists => {
+            let _ = fs::remove_dir(rt, path);
+            Err(reason)
+        }
         synced => synced,
     }
 }
@@ -465,7 +502,7 @@ fn sync_directory<R: Files<File = File>>(rt: &R, path: &str) -> io::Result<()> {
     directory.sync_all()
 }
 
-/// Returns whether this is how a directory refuses a sync that this program may not look into, or that has no sync.
-fn has_nothing_to_sync(kind: ErrorKind) -> bool {
+/// Returns whether a directory that this program may not look into, or that has no sync, refuses one so.
+fn may_stay_unsynced(kind: ErrorKind) -> bool {
     kind == ErrorKind::PermissionDenied || kind == ErrorKind::InvalidInput
 }

@@ -99,10 +99,17 @@ fn outcome_count(call: &Call) -> u64
     ensures { 0 < result }
 {
     match call {
-        Call::Write { piece, .. } => (piece.len() as u64).saturating_mul(4).saturating_add(1),
+        Call::Write { piece, .. } => write_outcomes(piece.len()),
         Call::Shorten { .. } => 2,
         _ => 1,
     }
+}
+
+/// Returns how many outcomes a write of this many bytes has.
+pub fn write_outcomes(length: usize) -> u64
+    ensures { 0 < result }
+{
+    (length as u64).saturating_mul(4).saturating_add(1)
 }
 
 /// Returns what a crash leaves of the file, where each call has this outcome.
@@ -142,7 +149,7 @@ fn left_after(
     match call {
         Call::Initial { bytes, .. } => Vec::from_slice(alloc, bytes),
         Call::Write { at, piece, .. } => torn(alloc, &left, *at, piece, outcome),
-        Call::Shorten { length, .. } => after_cut(alloc, &left, *length, outcome == 0),
+        Call::Shorten { length, .. } => after_cut(alloc, &left, *length, outcome != 0),
         Call::Sync { .. } => Vec::from_slice(alloc, now),
         Call::Unchanged => Ok(left),
     }
@@ -151,7 +158,7 @@ fn left_after(
 /// Returns one outcome of a torn write. At 0 the write did not happen. Else a front of its range has other bytes, and
 /// so has what lies between the end of the file and that range.
 #[tactic(auto, using(crate::proofs::Tearing::torn_over))]
-fn torn(
+pub fn torn(
     alloc: Global,
     left: &[u8],
     at: u64,

@@ -17,14 +17,14 @@ ghost use Rattle.std.specs.Prelude.{
   ⊤,
 };
 ghost use Rattle.vl_io.specs.Faults.{HasCause, Rose};
-ghost use Rattle.vl_vault.specs.Calls.{Adds, DidCut, DidRead, DidSync, DidWrite};
-ghost use Rattle.vl_vault.specs.Disk.{IsCrashImage, content};
+ghost use Rattle.vl_vault.specs.Calls.{Adds, DidCut, DidRead, DidSync, DidWrite, overwritten};
+ghost use Rattle.vl_vault.specs.Disk.{IsCrashImage, IsCut, IsTorn, content};
 ghost use Rattle.vl_vault.specs.Memory.{CountsCall, moment};
 ghost use Rattle.vl_vault.specs.Moments.{IsDurable};
 ghost use Rattle.vl_vault.specs.Record.{event_of};
 
-use crate::call::{Call, after_cut, after_write, content, note};
-use crate::image::crash_contents;
+use crate::call::{Call, after_cut, content, note, overwrite};
+use crate::image::{crash_contents, torn, write_outcomes};
 use crate::vault::Vault;
 use std::alloc::{AllocError, Global};
 use std::marker::Model;
@@ -111,6 +111,38 @@ impl MemoryVault {
         ensures { IsTrue result ↔ Contains self.now.failing self.now.calls }
     {
         self.failing.contains(&self.calls())
+    }
+
+    /// Returns what a read gives after a write. One that fails leaves an outcome that its number chooses: nothing was
+    /// written, or a front of the range has its own bytes, or 0, 1 or 255 throughout.
+    fn content_after_write(
+        &self,
+        file: u64,
+        at: u64,
+        piece: &[u8],
+        fails: bool,
+    ) -> Result<Vec<u8>, AllocError>
+        requires { at ≤ length (content self.now.past file) }
+        ensures torn { IfOk result (λ new. IsTorn at (length piece.now) (content self.now.past file) new.items) }
+        ensures whole { fails ≡ false → IfOk result (λ new.
+            new.items ≡ overwritten (content self.now.past file) at piece.now) }
+    {
+        let old = content(&self.entries, file);
+        if fails {
+            let outcome = self.calls() % write_outcomes(piece.len());
+            return torn(self.alloc, old, at, piece, outcome);
+        }
+        overwrite(self.alloc, old, at as usize, piece)
+    }
+
+    /// Returns what a read gives after a cut. One that fails is done if its number is odd.
+    fn content_after_cut(&self, file: u64, length: u64, fails: bool) -> Result<Vec<u8>, AllocError>
+        ensures cut { IfOk result (λ new. IsCut length (content self.now.past file) new.items) }
+        ensures whole { fails ≡ false → IfOk result (λ new. new.items ≡ take length (content self.now.past file)) }
+    {
+        let old = content(&self.entries, file);
+        let done = !fails || self.calls() % 2 == 1;
+        after_cut(self.alloc, old, length, done)
     }
 
     /// Adds the call to the record. Fails if the call is to fail, or if there is no memory for it.
@@ -201,8 +233,7 @@ impl Vault for MemoryVault {
         ensures counts { CountsCall self.old self.new result }
     {
         let fails = self.fails_next();
-        let old = content(&self.entries, file);
-        let Ok(after) = after_write(self.alloc, old, at as usize, piece, fails) else {
+        let Ok(after) = self.content_after_write(file, at, piece, fails) else {
             return Err(count_fault(&mut self.faults));
         };
         let Ok(piece) = Vec::from_slice(self.alloc, piece) else {
@@ -226,8 +257,7 @@ impl Vault for MemoryVault {
         ensures counts { CountsCall self.old self.new result }
     {
         let fails = self.fails_next();
-        let old = content(&self.entries, file);
-        let Ok(after) = after_cut(self.alloc, old, length, fails) else {
+        let Ok(after) = self.content_after_cut(file, length, fails) else {
             return Err(count_fault(&mut self.faults));
         };
         let call = Call::Shorten {

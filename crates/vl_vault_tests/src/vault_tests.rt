@@ -34,8 +34,9 @@ fn the_chosen_calls_fail(rt: HostRuntime) -> Result<(), Fail> {
     assert!(rt; vault.length(3).is_err());
     assert!(rt; vault.length(3).is_ok());
     assert!(rt; vault.read(3, 0, &mut buf).is_err());
-    assert!(rt; vault.write_at(3, 0, &[1, 2]).is_err());
-    assert_eq!(rt; vault.length(3)?, 0);
+    assert!(rt; vault.write_at(3, 0, &[7, 8]).is_err());
+    // The fourth call fails with a front of the range.
+    assert_eq!(rt; vault.length(3)?, 1);
     assert!(rt; vault.cut(3, 0).is_err());
     assert!(rt; vault.cut(3, 0).is_ok());
     assert!(rt; vault.sync(3).is_err());
@@ -59,6 +60,46 @@ fn a_write_that_failed_may_have_happened(rt: HostRuntime) -> Result<(), Fail> {
             [wanted].as_slice()
         );
         assert_eq!(rt; image.faults(), 0);
+    }
+    Ok(())
+}
+
+#[test]
+fn a_read_gives_what_a_failed_write_left(rt: HostRuntime) -> Result<(), Fail> {
+    let alloc = rt.alloc();
+    let wanted: &[(u64, &[u8])] = &[
+        (2, &[0, 6]),
+        (3, &[1, 6]),
+        (4, &[255, 6]),
+        (5, &[7, 8]),
+        (6, &[0, 0]),
+        (9, &[5, 6]),
+        (10, &[7, 6]),
+        (101, &[0, 6]),
+    ];
+    for (number, left) in wanted {
+        let mut vault = MemoryVault::of(alloc, &[*number])?;
+        put(&mut vault, 3, 0, &[5, 6])?;
+        for _ in 2..*number {
+            let _ = vault.length(3)?;
+        }
+        assert!(rt; vault.write_at(3, 0, &[7, 8]).is_err());
+        assert_eq!(rt; bytes_of(alloc, &mut vault, 3)?.as_slice(), *left);
+    }
+    Ok(())
+}
+
+#[test]
+fn a_cut_that_fails_is_done_if_its_number_is_odd(rt: HostRuntime) -> Result<(), Fail> {
+    let alloc = rt.alloc();
+    for (number, left) in [(2, 2), (3, 1)] {
+        let mut vault = MemoryVault::of(alloc, &[number])?;
+        put(&mut vault, 3, 0, &[5, 6])?;
+        for _ in 2..number {
+            let _ = vault.length(3)?;
+        }
+        assert!(rt; vault.cut(3, 1).is_err());
+        assert_eq!(rt; vault.length(3)?, left);
     }
     Ok(())
 }

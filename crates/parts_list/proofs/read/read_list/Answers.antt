@@ -17,7 +17,8 @@ pub returns-in_err-second-clause-damaged : goal.returns-in_err-second-clause-dam
 returns-in_err-second-clause-damaged g c = λ told.
     let p = err_from_is_err_and c.from_residual-in_err-second.result c.from_residual-in_err-second.ensures.1 in
     rw (p.1, p.2) (second_fault (g.V.Vault.past c.args.vault.now) _ c.in_ok-first.first
-    (c.in_ok-first.ensures.found told) (c.read_slot.ensures.moments told) c.in_err-second.field-0.0 (c.in_err-second.ensures.damaged told))
+    (c.in_ok-first.ensures.found told) (c.read_slot.ensures.moments told) c.in_err-second.field-0.0
+    (c.in_err-second.ensures.damaged told))
 
 pub returns-clause-moments : goal.returns-clause-moments
 returns-clause-moments g c = λ told.

@@ -10,4 +10,6 @@ awaits_first : Awaits [] 1
 awaits_first = record { durable = λ file inside. durable_new file; live = None; found = refl; next = refl }
 
 pub returns : goal.returns
-returns c = if_ok c.of.result (λ (v : VaultState) is. subst (λ (s : VaultState). Awaits s.past 1) (sym is) awaits_first) c.of.ensures
+returns c =
+    if_ok c.of.result (λ (v : VaultState) is. subst (λ (s : VaultState). Awaits s.past 1) (sym is) awaits_first)
+    c.of.ensures
