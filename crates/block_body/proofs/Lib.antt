@@ -1,4 +1,5 @@
 pub mod HeldLaws
+pub mod FilterLaws
 pub mod OutlineLaws
 pub mod SpellingLaws
 pub mod SpanLaws

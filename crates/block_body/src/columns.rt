@@ -1,7 +1,8 @@
 //! The columns of a block.
 
 ghost use Rattle.std.specs.Prelude.{◌≡◌, ◌<◌, ◌≤◌, ◌^◌, IfOk, length, map, sum_by};
-ghost use Rattle.word_filter.specs.Words.{filter_of};
+ghost use Rattle.std.specs.List.{All};
+ghost use Rattle.word_filter.specs.Words.{HasWords, filter_of};
 ghost use Rattle.block_model.specs.Columns.{values_of};
 ghost use Rattle.block_body.specs.Outlines.{filter_named};
 
@@ -59,6 +60,7 @@ pub fn filter_of_column(
     requires values { map (λ t. t.now) values.now ≡ column.now }
     requires small { sum_by length column.now < 2 ^ 32 }
     ensures filter { IfOk result (λ bloom. bloom ≡ filter_of column.now) }
+    ensures words { IfOk result (λ bloom. All (HasWords bloom) column.now) }
     ensures small { IfOk result (λ bloom. length bloom < 2 ^ 32) }
 {
     match column.members(alloc)? {
@@ -71,4 +73,36 @@ pub fn filter_of_column(
             Ok(bloom)
         }
     }
+}
+
+/// The same, of a column whose texts are not at hand. They are lent only where the column does not hold distinct
+/// values.
+pub fn filter_of_held(alloc: Global, column: &ValueColumn) -> Result<Bloom, AllocError>
+    requires { sum_by length column.now < 2 ^ 32 }
+    ensures filter { IfOk result (λ bloom. bloom ≡ filter_of column.now) }
+    ensures words { IfOk result (λ bloom. All (HasWords bloom) column.now) }
+    ensures small { IfOk result (λ bloom. length bloom < 2 ^ 32) }
+{
+    match column.members(alloc)? {
+        Some(members) => {
+            let bloom = filter_of(alloc, members.as_slice())?;
+            Ok(bloom)
+        }
+        None => {
+            let bloom = filter_of_texts(alloc, column)?;
+            Ok(bloom)
+        }
+    }
+}
+
+fn filter_of_texts(alloc: Global, column: &ValueColumn) -> Result<Bloom, AllocError>
+    requires { sum_by length column.now < 2 ^ 32 }
+    ensures filter { IfOk result (λ bloom. bloom ≡ filter_of column.now) }
+    ensures words { IfOk result (λ bloom. All (HasWords bloom) column.now) }
+    ensures small { IfOk result (λ bloom. length bloom < 2 ^ 32) }
+{
+    let lent = column.row_texts(alloc)?;
+    let texts = lent.texts(alloc)?;
+    let bloom = filter_of(alloc, texts.as_slice())?;
+    Ok(bloom)
 }

@@ -7,6 +7,6 @@ mod head;
 mod stored;
 mod write;
 
-pub use columns::filter_of_column;
+pub use columns::{filter_of_column, filter_of_held};
 pub use head::{ColumnHead, Extent, Head};
 pub use stored::StoredRows;

@@ -3,6 +3,5 @@ pub mod FirstLaws
 pub mod BodyLaws
 pub mod Again
 pub mod Whole
-pub mod Within
 pub mod Apart
 pub mod Listed

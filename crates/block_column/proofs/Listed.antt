@@ -1,11 +1,10 @@
 -- A dictionary that is as it would be made.
-use Rattle.std.proofs.Common.{◌≡◌, ℕ, zero, suc, ◌+◌, ◌<◌, ◌≤◌, Bool, true, false, List, [], ◌∷◌, length, map, get_or, set}
-use Rattle.std.proofs.Common.{take, inl, inr, refl, sym, ap, ◌∙◌, arith}
+use Rattle.std.proofs.Common.{◌≡◌, ℕ, zero, suc, ◌<◌, ◌≤◌, Bool, true, false, List, [], ◌∷◌, length, map, get_or}
+use Rattle.std.proofs.Common.{refl, sym, ap, ◌∙◌, arith}
 use Rattle.std.specs.Prelude.{◌||◌, bytes_eq, nat_eq, nat_le, nat_lt}
 use Rattle.std.specs.List.{list_all, list_any}
-use Rattle.std.proofs.lemmas.Bool.{cases_eq, eq-eqb, eqb-true, le-leb, ltb-true}
-use Rattle.std.proofs.lemmas.List.{get_or-set_other}
-use Rattle.std.proofs.lemmas.List.Folds.{list_any_at, list_any_more}
+use Rattle.std.proofs.lemmas.Bool.{eqb-true, le-leb, ltb-true}
+use Rattle.std.proofs.lemmas.List.Folds.{list_any_at}
 use Rattle.std.proofs.lemmas.Slice.Eq.{bytes_eq-Decides}
 use Rattle.byte_format.proofs.Cases.{both_true}
 use Rattle.block_model.specs.Distinct.{HaveSameTexts, code_of, distinct, is_listed, is_short, text_at}
@@ -111,21 +110,6 @@ held-fits held codes few short below e =
 -- Those that were marked are there.
 abbrev pub AreThere : List Bool → List ℕ → Type 0
 AreThere used codes = (code : ℕ) → get_or used code false ≡ true → list_any (nat_eq code) codes ≡ true
-
-pub one-used : (used : List Bool) (codes : List ℕ) (i d : ℕ) → i < length codes → AreThere used (take i codes)
-    → AreThere (set used (get_or codes i d) true) (take (i + 1) codes)
-one-used used codes i d lt there code marked =
-    list_any_more (nat_eq code) codes i d lt
-    ∙ elim (cases_eq code (get_or codes i d)) [
-      | inl here ↦ right_true (list_any (nat_eq code) (take i codes)) (nat_eq code (get_or codes i d))
-          (eq-eqb code (get_or codes i d) here)
-      | inr other ↦ left (list_any (nat_eq code) (take i codes)) (nat_eq code (get_or codes i d)) (there code
-          (sym (get_or-set_other used (get_or codes i d) code true false other) ∙ marked))
-    ]
-  where
-    left : (a b : Bool) → a ≡ true → (a || b) ≡ true
-    left true b e = refl
-    left false b e = absurd cc
 
 -- where all are marked, each code is there
 pub all-used : (used : List Bool) (codes : List ℕ) (count : ℕ) → length used ≡ count

@@ -1,14 +1,9 @@
 -- The texts of all values.
-use Rattle.std.proofs.Common.{◌≡◌, ℕ, ℤ, ◌+◌, ◌<◌, true, List, [], ◌∷◌, ◌++◌, length, get_or, take}
-use Rattle.std.proofs.Common.{Some, refl, sym, ap, ◌∙◌, arith}
-use Rattle.std.specs.Prelude.{sum_by, IsUtf8}
-use Rattle.std.specs.List.{list_all, slice_get}
-use Rattle.std.specs.Str.{is_utf8}
+use Rattle.std.proofs.Common.{◌≡◌, ℕ, ℤ, ◌+◌, ◌<◌, List, [], ◌∷◌, ◌++◌, length, get_or, take}
+use Rattle.std.proofs.Common.{Some, sym, ap, ◌∙◌, arith}
+use Rattle.std.specs.List.{slice_get}
 use Rattle.std.proofs.lemmas.List.{take_more}
-use Rattle.std.proofs.lemmas.List.Folds.{list_all-append}
-use Rattle.std.proofs.lemmas.List.Sums.{sum_by-append, sum_by-cons}
 use Rattle.std.proofs.lemmas.Option.{slice_get-get_or}
-use Rattle.std.proofs.lemmas.Str.{is_utf8-from_IsUtf8}
 use Rattle.byte_format.proofs.Cases.{some_is}
 
 pub one-more : (found : List (List ℕ)) (i : ℕ) (t : List ℕ) → i < length found → slice_get found i ≡ Some t
@@ -29,10 +24,3 @@ text-at texts i t lt e = some_is (get_or texts i []) t (sym (slice_get-get_or te
 
 pub integer-at : (zs : List ℤ) (i : ℕ) (z d : ℤ) → i < length zs → slice_get zs i ≡ Some z → get_or zs i d ≡ z
 integer-at zs i z d lt e = some_is (get_or zs i d) z (sym (slice_get-get_or zs i d lt) ∙ e)
-
-pub more-size : (ts : List (List ℕ)) (t : List ℕ) → sum_by length (ts ++ t ∷ []) ≡ sum_by length ts + length t
-more-size ts t = omega (arith, sum_by-append length ts (t ∷ []), sum_by-cons length t [])
-
-pub more-utf8 : (ts : List (List ℕ)) (t : List ℕ) → list_all is_utf8 ts ≡ true → IsUtf8 t
-    → list_all is_utf8 (ts ++ t ∷ []) ≡ true
-more-utf8 ts t all one = rw (list_all-append is_utf8 ts (t ∷ []), all, is_utf8-from_IsUtf8 t one) refl

@@ -1,5 +1,4 @@
 pub mod Kinds
 pub mod Cells
 pub mod Body
-pub mod Lengths
 pub mod Values

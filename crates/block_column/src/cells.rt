@@ -5,10 +5,10 @@ ghost use Rattle.std.specs.List.{list_all};
 ghost use Rattle.block_model.specs.Distinct.{text_at};
 ghost use Rattle.block_column.specs.Cells.{IsCells, kind_in, texts_of};
 ghost use Rattle.block_column.specs.Kinds.{code_of_kind};
-ghost use Rattle.block_column.specs.Values.{lent_texts, value_text};
+ghost use Rattle.block_column.specs.Values.{value_text};
 
 use crate::codes::is_value;
-use crate::column::{Lent, Value};
+use crate::column::Value;
 use col_codec::{IntColumn, TextColumn};
 use vl_row::Text;
 
@@ -60,18 +60,6 @@ pub(crate) fn value_at(cells: &Cells, i: usize) -> Value<'_>
         Cells::Integers(ints) => Value::Int(ints.get(i)),
         Cells::Dictionary(texts, codes) => Value::Str(coded(texts, codes.as_slice(), i)),
         Cells::Plain(texts) => Value::Str(texts.get(i)),
-    }
-}
-
-/// The same, lent.
-pub(crate) fn lent_of(cells: &Cells) -> Lent<'_>
-    ensures { lent_texts result ≡ texts_of cells.now }
-{
-    match cells {
-        Cells::Constant(text, rows) => Lent::Constant(text.as_str(), *rows),
-        Cells::Integers(ints) => Lent::Integers(ints),
-        Cells::Dictionary(texts, codes) => Lent::Dictionary(texts, codes.as_slice()),
-        Cells::Plain(texts) => Lent::Plain(texts),
     }
 }
 

@@ -10,9 +10,9 @@ ghost use Rattle.block_column.specs.Body.{body};
 ghost use Rattle.block_column.specs.Cells.{IsFirst, texts_of};
 ghost use Rattle.block_model.specs.Distinct.{distinct};
 ghost use Rattle.block_column.specs.Kinds.{body_of, code_of_kind, is_held_once, kind_of};
-ghost use Rattle.block_column.specs.Values.{lent_texts, value_text};
+ghost use Rattle.block_column.specs.Values.{value_text};
 
-use crate::cells::{Cells, are_all, kind_of, len_of, lent_of, value_at};
+use crate::cells::{Cells, are_all, kind_of, len_of, value_at};
 use crate::kept::into_first;
 use crate::kinds::first_kind;
 use crate::members::members_of;
@@ -20,7 +20,6 @@ use crate::put::put_cells;
 use crate::row_texts::RowTexts;
 use crate::take::take_cells;
 use byte_format::Stop;
-use col_codec::{IntColumn, TextColumn};
 use itoa::Buffer;
 use std::alloc::{AllocError, Global};
 use std::marker::Model;
@@ -63,19 +62,6 @@ fn decimal_len(integer: i64) -> usize
     len_of_text(buffer.format(integer))
 }
 
-/// How a column holds its values.
-#[derive(Clone, Copy)]
-pub enum Lent<'a> {
-    /// So many rows have this text.
-    Constant(&'a str, usize),
-    /// Each value is the decimal text of an integer.
-    Integers(&'a IntColumn),
-    /// Some texts, and for each row the place of its text among them.
-    Dictionary(&'a TextColumn, &'a [u8]),
-    /// Any texts.
-    Plain(&'a TextColumn),
-}
-
 /// The values that one field has in the rows, in the first of four kinds that fits.
 ///
 /// A contract sees it as their list, each as the bytes of its text.
@@ -96,13 +82,6 @@ impl Model for ValueColumn {
 }
 
 impl ValueColumn {
-    pub(crate) fn of(cells: Cells) -> ValueColumn
-        requires { IsFirst cells }
-        ensures { result ≡ texts_of cells }
-    {
-        ValueColumn { cells }
-    }
-
     /// A column of these values.
     pub fn try_of(alloc: Global, values: &[&str]) -> Result<ValueColumn, AllocError>
         requires { sum_by (λ t. length t.now) values.now < 2 ^ 32 }
@@ -138,11 +117,11 @@ impl ValueColumn {
         members_of(alloc, &self.cells)
     }
 
-    /// How the values are held, which is lent.
-    pub fn lent(&self) -> Lent<'_>
-        ensures { lent_texts result ≡ self.now }
+    /// The same values, with what is needed to lend their texts.
+    pub fn row_texts(&self, alloc: Global) -> Result<RowTexts<'_>, AllocError>
+        ensures { IfOk result (λ texts. texts ≡ self.now) }
     {
-        lent_of(&self.cells)
+        RowTexts::try_of(alloc, &self.cells)
     }
 
     /// The number of the kind.
@@ -201,13 +180,6 @@ impl FoundColumn {
     {
         let cells = into_first(alloc, self.cells)?;
         Ok(ValueColumn { cells })
-    }
-
-    /// The same values, with what is needed to lend their texts.
-    pub fn row_texts(&self, alloc: Global) -> Result<RowTexts<'_>, AllocError>
-        ensures { IfOk result (λ texts. texts ≡ self.now) }
-    {
-        RowTexts::try_of(alloc, &self.cells)
     }
 
     /// How many rows there are.

@@ -8,14 +8,12 @@ mod column;
 mod dictionary;
 mod kept;
 mod kinds;
-mod lengths;
 mod many;
 mod members;
 mod put;
 mod row_texts;
 mod take;
 
-pub use column::{FoundColumn, Lent, Value, ValueColumn};
-pub use lengths::Lengths;
+pub use column::{FoundColumn, Value, ValueColumn};
 pub use row_texts::RowTexts;
 pub use take::take_kind;

@@ -1,18 +1,13 @@
 //! Values whose texts can be lent.
 
-ghost use Rattle.std.specs.Prelude.{◌≡◌, IfNone, IfOk, IfSome, false, length, map, nat_lt, replicate, true};
+ghost use Rattle.std.specs.Prelude.{◌≡◌, IfOk, length, map, nat_lt, replicate, true};
 ghost use Rattle.std.specs.Fmt.{signed_decimal};
 ghost use Rattle.std.specs.List.{list_all};
-ghost use Rattle.std.specs.Str.{is_utf8};
 ghost use Rattle.block_model.specs.Distinct.{text_at};
 ghost use Rattle.block_column.specs.Cells.{IsCells, decimals_in, texts_of};
-ghost use Rattle.block_column.specs.Lengths.{HasLengths, are_within};
 
 use crate::cells::{Cells, coded};
 use crate::codes::lent;
-use crate::column::ValueColumn;
-use crate::kinds::first_kind;
-use crate::lengths::{Lengths, lengths_of};
 use crate::members::each_of;
 use col_codec::{IntColumn, TextColumn};
 use itoa::Buffer;
@@ -54,27 +49,6 @@ impl<'a> RowTexts<'a> {
         ensures { IfOk result (λ texts. map (λ t. t.now) texts.items ≡ self.now) }
     {
         texts_of(alloc, self.cells, self.decimals.as_slice())
-    }
-
-    /// The same values in the first kind that fits, and how long they are, unless one of them has more bytes than
-    /// `most`, or all together 2^32 or more. All are in UTF-8.
-    pub fn to_column(
-        &self,
-        alloc: Global,
-        most: usize,
-    ) -> Result<Option<(ValueColumn, Lengths)>, AllocError>
-        ensures column { IfOk result (λ found. IfSome found (λ x. x.0 ≡ self.now)) }
-        ensures lengths { IfOk result (λ found. IfSome found (λ x. HasLengths x.1 self.now)) }
-        ensures texts { IfOk result (λ found. IfSome found (λ x. list_all is_utf8 self.now ≡ true)) }
-        ensures within { IfOk result (λ found. IfSome found (λ x. are_within most self.now ≡ true)) }
-        ensures none { IfOk result (λ found. IfNone found (are_within most self.now ≡ false)) }
-    {
-        let texts = self.texts(alloc)?;
-        let Some(lengths) = lengths_of(texts.as_slice(), most) else {
-            return Ok(None);
-        };
-        let cells = first_kind(alloc, texts.as_slice())?;
-        Ok(Some((ValueColumn::of(cells), lengths)))
     }
 }
 

@@ -1,12 +1,15 @@
 //! What the parts of columns answer, and what bytes of any kind say.
-ghost use Rattle.std.specs.Prelude.{◌<◌, ◌^◌, length, sum_by};
+ghost use Rattle.std.specs.Prelude.{◌<◌, ◌^◌, IfSome, length, sum_by};
 
 use crate::column_tests::push_column;
 use crate::hex_tests::{bytes_of, push_digits};
-use block_column::{FoundColumn, Lengths, Value, ValueColumn, take_kind};
+use block_column::{FoundColumn, Value, ValueColumn, take_kind};
 use byte_format::Stop;
 use std::alloc::{AllocError, Global};
 use std::fmt::Write;
+
+/// The bytes of all values, which are fewer than this.
+const MAX_SIZE: usize = 4_294_967_296;
 
 /// The kind, the body and the members of the column of these values.
 pub fn parts_text(alloc: Global, values: &[&str]) -> Result<String, AllocError>
@@ -39,7 +42,7 @@ pub fn found_text(alloc: Global, rows: usize, rest: &str) -> Result<String, Allo
         Ok((found, left)) => {
             let mut answer = format!(in alloc; "{left} left")?;
             push_found(&mut answer, &found);
-            push_made(alloc, &mut answer, &found, most)?;
+            push_made(alloc, &mut answer, found, most)?;
             Ok(answer)
         }
         Err(Stop::Left(left)) => format!(in alloc; "damaged {left} before the end"),
@@ -65,19 +68,58 @@ fn push_found(answer: &mut String, found: &FoundColumn) {
 fn push_made(
     alloc: Global,
     answer: &mut String,
-    found: &FoundColumn,
+    found: FoundColumn,
     most: usize,
 ) -> Result<(), AllocError> {
-    let lent = found.row_texts(alloc)?;
-    match lent.to_column(alloc, most)? {
-        Some((column, lengths)) => {
-            answer.push(' ')?;
-            push_column(alloc, answer, &column)?;
-            push_lengths(answer, lengths);
-        }
-        None => answer.push_str(" too long")?,
-    }
+    let Some(lengths) = lengths_of(&found, most) else {
+        answer.push_str(" too long")?;
+        return Ok(());
+    };
+    let column = found.into_column(alloc)?;
+    answer.push(' ')?;
+    push_column(alloc, answer, &column)?;
+    push_lengths(answer, lengths);
     Ok(())
+}
+
+/// How long values are.
+#[derive(Clone, Copy, Drop)]
+struct Lengths {
+    /// The bytes of the longest.
+    longest: usize,
+    /// Whether one of them is not empty.
+    some: bool,
+    /// Whether none of them is empty.
+    all: bool,
+}
+
+/// How long the values are, unless one is longer than `most`, or all are too long together.
+fn lengths_of(found: &FoundColumn, most: usize) -> Option<Lengths>
+    ensures { IfSome result (λ lengths. sum_by length found.now < 2 ^ 32) }
+{
+    let mut size = 0;
+    let mut lengths = Lengths {
+        longest: 0,
+        some: false,
+        all: true,
+    };
+    for i in 0..found.len() {
+        let len = found.value(i).len();
+        if len > most || len >= MAX_SIZE - size {
+            return None;
+        }
+        size += len;
+        lengths = with_length(lengths, len);
+    }
+    Some(lengths)
+}
+
+fn with_length(lengths: Lengths, len: usize) -> Lengths {
+    Lengths {
+        longest: lengths.longest.max(len),
+        some: lengths.some || len > 0,
+        all: lengths.all && len > 0,
+    }
 }
 
 fn push_lengths(answer: &mut String, lengths: Lengths) {

@@ -3,23 +3,24 @@ use Rattle.std.proofs.Common.{◌≡◌, ℕ, ℤ, zero, suc, pos, negsuc, ◌+�
 use Rattle.std.proofs.Common.{cond, eqb, List}
 use Rattle.std.proofs.Common.{[], ◌∷◌, ◌++◌, length, map, take, get_or, filter, Some, FitsSigned, refl, sym, ap}
 use Rattle.std.proofs.Common.{◌∙◌, arith, w64, slice_get}
-use Rattle.std.specs.Prelude.{not, int_lt}
+use Rattle.std.specs.Prelude.{bytes_eq, not, int_lt}
 use Rattle.std.specs.List.{list_all}
 use Rattle.std.specs.Fmt.{decimal, signed_decimal}
 use Rattle.std.proofs.lemmas.Bool.{cases_Bool, eqb-true, le-ltb, lt-ltb}
 use Rattle.std.proofs.lemmas.Fmt.{decimal_nonempty}
 use Rattle.std.proofs.lemmas.Int.{ints}
-use Rattle.std.proofs.lemmas.List.{append-nil, map-append, take_more}
-use Rattle.std.proofs.lemmas.List.Elements.{filter_more}
+use Rattle.std.proofs.lemmas.List.{map-append}
 use Rattle.std.proofs.lemmas.List.Folds.{list_all_at, list_all_more}
 use Rattle.std.proofs.lemmas.List.Sums.{fold_push}
 use Rattle.std.proofs.lemmas.Option.{slice_get-get_or}
-use Rattle.byte_format.proofs.Cases.{some_is}
+use Rattle.std.proofs.lemmas.Slice.Eq.{bytes_eq-Decides}
+use Rattle.byte_format.proofs.Cases.{both_true, some_is}
 use Rattle.block_format.specs.Found.{Found}
 use Rattle.log_model.specs.Field.{Field, is_empty, is_reserved, set_all, set_field}
 use Rattle.log_model.specs.History.{Numbered}
 use Rattle.block_model.specs.Columns.{Column, fields_at, row_of, rows_from}
 use Rattle.block_model.specs.declared.keys.Key.{Key}
+use Rattle.block_model.proofs.Distinct.{right_true}
 use Rattle.vl_row.specs.Faults.{stored}
 use Rattle.block_format.specs.Reading.{are_said, has_name, has_spelling, in_order, is_named, is_numbered, is_row}
 use Rattle.block_format.specs.Reading.{rows_found, rows_said}
@@ -36,12 +37,6 @@ integer-some (negsuc n) fits = le-ltb (length (45 ∷ decimal (suc n))) 1 (omega
 
 -- ---- fields that are set
 
-pub set-more : (fields : List Field) (i : ℕ) (field : Field) → i < length fields → field ≡ get_or fields i field
-    → set_all [] (take (i + 1) fields) ≡ set_field (set_all [] (take i fields)) field.0 field.1
-set-more fields i field lt e =
-    ap (set_all []) (take_more fields i field lt ∙ ap (λ (f : Field). take i fields ++ f ∷ []) (sym e))
-    ∙ fold_push (λ (old : List Field) (f : Field). set_field old f.0 f.1) [] (take i fields) field
-
 abbrev said_at : ℕ → Column → Field
 said_at i column = (column.0, get_or column.1 i [])
 
@@ -51,22 +46,6 @@ said-push columns column i =
     ap (set_all []) (map-append (said_at i) columns (column ∷ []))
     ∙ fold_push (λ (old : List Field) (f : Field). set_field old f.0 f.1) [] (map (said_at i) columns)
     (said_at i column)
-
-pub said-more : (columns : List Column) (k i : ℕ) (column : Column) → k < length columns
-    → column ≡ get_or columns k column
-    → fields_at (filter has_name (take (k + 1) columns)) i
-    ≡ cond (has_name column) (set_field (fields_at (filter has_name (take k columns)) i) column.0
-    (get_or column.1 i [])) (fields_at (filter has_name (take k columns)) i)
-said-more columns k i column lt e =
-    ap (λ (l : List Column). fields_at l i) (filter_more has_name columns k column lt)
-    ∙ ap (λ (c : Column). fields_at (filter has_name (take k columns) ++ cond (has_name c) (c ∷ []) []) i) (sym e)
-    ∙ by (has_name column)
-  where
-    by : (b : Bool) → fields_at (filter has_name (take k columns) ++ cond b (column ∷ []) []) i
-        ≡ cond b (set_field (fields_at (filter has_name (take k columns)) i) column.0 (get_or column.1 i []))
-        (fields_at (filter has_name (take k columns)) i)
-    by true = said-push (filter has_name (take k columns)) column i
-    by false = ap (λ (l : List Column). fields_at l i) (append-nil (filter has_name (take k columns)))
 
 pub value-is : (values : List (List ℕ)) (i : ℕ) (text : List ℕ) → i < length values
     → slice_get values i ≡ Some text → get_or values i [] ≡ text
@@ -135,6 +114,18 @@ pub unnamed : (column : Column) (i : ℕ) (text : List ℕ) → has_name column 
     → slice_get column.1 i ≡ Some text → is_empty text ≡ false → is_named column ≡ false
 unnamed column i text e lt there some =
     rw e (list_all_at is_empty column.1 i [] lt (ap is_empty (value-is column.1 i text lt there) ∙ some))
+
+same-empty : (value : List ℕ) → bytes_eq [] value ≡ true → is_empty value ≡ true
+same-empty value e = ap is_empty (sym ((bytes_eq-Decides [] value).0 e))
+
+all-empty : (values : List (List ℕ)) → list_all (bytes_eq []) values ≡ true → list_all is_empty values ≡ true
+all-empty [] e = refl
+all-empty (v ∷ vs) e =
+    let p = both_true (bytes_eq [] v) (list_all (bytes_eq []) vs) e in
+    both_from (is_empty v) (list_all is_empty vs) (same-empty v p.0) (all-empty vs p.1)
+
+pub without-values : (column : Column) → list_all (bytes_eq []) column.1 ≡ true → is_named column ≡ true
+without-values column e = right_true (has_name column) (list_all is_empty column.1) (all-empty column.1 e)
 
 pub empty-more : (values : List (List ℕ)) (i : ℕ) (text : List ℕ) → i < length values
     → slice_get values i ≡ Some text → list_all is_empty (take i values) ≡ true → is_empty text ≡ true

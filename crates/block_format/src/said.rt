@@ -39,14 +39,14 @@ pub fn rows_said(alloc: Global, parts: &Parts) -> Result<Option<Vec<Numbered>>, 
     }
 }
 
-/// The stream of the rows, if the labels have names and values, the times are not before 1970, the values have names,
-/// and the first row keeps the rules of rows.
+/// The stream of the rows, if they are not too many, the labels have names and values, the times are not before 1970,
+/// the values have names, and the first row keeps the rules of rows.
 pub fn stream_said(alloc: Global, parts: &Parts) -> Result<Option<Stream>, AllocError>
     requires { All (HasRows (length parts.now.keys)) parts.now.columns }
     ensures said { IfOk result (λ found. IfSome found (λ stream. are_said parts.now ≡ true)) }
     ensures labels { IfOk result (λ found. IfSome found (λ stream. stream ≡ set_all [] parts.now.labels)) }
 {
-    if parts.keys.is_empty() || !are_said(parts) {
+    if parts.keys.is_empty() || parts.keys.len() > MAX_ROWS || !are_said(parts) {
         return Ok(None);
     }
     let labels = labels_said(alloc, parts.labels.as_slice())?;
@@ -88,10 +88,14 @@ fn are_named(columns: &[NamedColumn]) -> bool
     columns.iter().all(is_named)
 }
 
+/// Whether the column has a name, or no value. A value that all rows share is looked at once.
 fn is_named(column: &NamedColumn) -> bool
     ensures { result ≡ is_named column.now }
 {
     if !column.name.as_str().is_empty() {
+        return true;
+    }
+    if column.values.is_filled_with("") {
         return true;
     }
     for i in 0..column.values.len() {

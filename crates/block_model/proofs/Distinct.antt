@@ -8,7 +8,7 @@ use Rattle.std.specs.declared.cmp.Ordering.{Ordering}
 use Rattle.std.specs.declared.cmp.Ordering.TheVariants.{Less, Equal, Greater}
 use Rattle.std.specs.Ordering.{match_ordering}
 use Rattle.std.proofs.lemmas.Bool.{lt-ltb, ltb-true}
-use Rattle.std.proofs.lemmas.List.{drop_more, drop_all, map_more, map-append, take-append-drop}
+use Rattle.std.proofs.lemmas.List.{drop_more, map_more, map-append, take-append-drop}
 use Rattle.std.proofs.lemmas.List.Elements.{All-from_recursion}
 use Rattle.std.proofs.lemmas.List.Folds.{list_all-append, list_all-map}
 use Rattle.std.proofs.lemmas.List.Sums.{fold-append, fold_push}
@@ -182,11 +182,6 @@ pub search-ends : (keys : List (List ℕ)) (text : List ℕ) (i : ℕ) → i < l
     → bytes_eq text (get_or keys i []) ≡ true → code_of (drop i keys) text ≡ 0
 search-ends keys text i lt same = rw (drop_more keys i [] lt, same) refl
 
-pub search-fails : (keys : List (List ℕ)) (text : List ℕ) (i : ℕ) → length keys ≤ i
-    → list_any (bytes_eq text) (drop i keys) ≡ true → ⊥
-search-fails keys text i le e =
-    let none : list_any (bytes_eq text) [] ≡ true = ap (list_any (bytes_eq text)) (sym (drop_all i keys le)) ∙ e in cc
-
 -- what is put by one text more
 pub put-one-more : {X : Type 0} (f : X → List ℕ) (keys : List (List ℕ)) (xs : List X) (i : ℕ) (d : X) → i < length xs
     → fold (insert_key bytes_cmp) keys (map f (take (i + 1) xs))
@@ -282,10 +277,3 @@ read-as xs i x lt e =
     ∙ ap (λ (y : List ℕ). Some y) (sym e))
 
 -- keys that hold the distinct texts so far, with one more put
-pub put-more : {X : Type 0} (f : X → List ℕ) (xs keys new : List X) (i : ℕ) (d : X) → i < length xs
-    → new ≡ insert_key (λ x y. bytes_cmp (f x) (f y)) keys (get_or xs i d)
-    → map f keys ≡ distinct (map f (take i xs)) → map f new ≡ distinct (map f (take (i + 1) xs))
-put-more f xs keys new i d lt put so_far =
-    ap (map f) put ∙ map-put f keys (get_or xs i d)
-    ∙ ap (λ (l : List (List ℕ)). insert_key bytes_cmp l (f (get_or xs i d))) so_far
-    ∙ sym (distinct-more f xs i d lt)

@@ -1,5 +1,5 @@
 -- Texts in order are known by which texts are among them.
-use Rattle.std.proofs.Common.{◌≡◌, ℕ, zero, suc, ◌*◌, ◌<◌, ◌≤◌, Bool, true, false, List, [], ◌∷◌, length, map}
+use Rattle.std.proofs.Common.{◌≡◌, ℕ, zero, suc, ◌*◌, ◌<◌, ◌≤◌, Bool, true, false, List, [], ◌∷◌, length}
 use Rattle.std.proofs.Common.{get_or, inl, inr, refl, sym, ap, ◌∙◌, arith}
 use Rattle.std.specs.Prelude.{◌||◌, bytes_eq, replicate, sum_by}
 use Rattle.std.specs.BTreeSet.{insert_key}
@@ -16,7 +16,7 @@ use Rattle.std.proofs.lemmas.Map.Text.{is_eq-slice_cmp}
 use Rattle.std.proofs.lemmas.Slice.Eq.{bytes_eq-Decides}
 use Rattle.byte_format.proofs.Cases.{both_true}
 use Rattle.log_model.specs.Field.{bytes_cmp}
-use Rattle.block_model.specs.Distinct.{HaveSameTexts, code_of, distinct, is_listed, is_short, text_at}
+use Rattle.block_model.specs.Distinct.{HaveSameTexts, code_of, distinct, is_listed, is_short}
 use Rattle.block_model.proofs.Distinct.{itself, put-keeps}
 use Rattle.std.specs.List.Sorted.{IsStrictlySortedBy}
 use Rattle.block_model.proofs.Rising.{Above, IsRising, above-along, distinct-rising, not-behind}
@@ -182,11 +182,6 @@ unfolding IsStrictlySortedBy
 one-distinct text rows some =
     same-rising (text ∷ []) (distinct (replicate rows text)) (tt, tt) (distinct-rising (replicate rows text))
     (λ t. same-one text rows some t ∙ sym (distinct-listed t (replicate rows text)))
-
-pub same-held : (texts : List (List ℕ)) (codes : List ℕ) → texts ≡ distinct (map (text_at texts) codes)
-    → HaveSameTexts texts (map (text_at texts) codes)
-same-held texts codes e t =
-    ap (λ (l : List (List ℕ)). is_listed l t) e ∙ distinct-listed t (map (text_at texts) codes)
 
 pub short-size : (texts : List (List ℕ)) → list_all is_short texts ≡ true → sum_by length texts ≤ 256 * length texts
 short-size [] e = omega arith

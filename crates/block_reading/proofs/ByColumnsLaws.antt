@@ -11,7 +11,6 @@ use Rattle.std.proofs.lemmas.List.{length-map, take_more}
 use Rattle.std.proofs.lemmas.List.Sums.{fold_push, sum_by-cons}
 use Rattle.std.proofs.lemmas.Slice.Eq.{bytes_eq-Decides}
 use Rattle.std.proofs.lemmas.Str.{IsUtf8-nil, is_utf8-from_IsUtf8}
-use Rattle.block_column.specs.Lengths.{has_text}
 use Rattle.block_format.specs.Columns.{HasRows}
 use Rattle.block_format.specs.Found.{Found}
 use Rattle.block_format.specs.Reading.{are_said, has_name, in_order, rows_said}
@@ -33,7 +32,7 @@ use Rattle.log_model.specs.Row.{has_field}
 use Rattle.word_filter.specs.Words.{filter_of}
 use Rattle.block_reading.specs.ByColumns.{AreBlockKeys, AreFew, AreGoodNames, AreLight, IsFilled, IsFitKey, bare}
 use Rattle.block_reading.specs.ByColumns.{column_names, contents, filter_for, has_label, head_by_keys, is_label, no_key}
-use Rattle.block_reading.specs.ByColumns.{bytes_from, bytes_in, larger, nothing, number_in, size_at, size_from}
+use Rattle.block_reading.specs.ByColumns.{bytes_from, bytes_in, has_text, larger, nothing, number_in, size_at, size_from}
 use Rattle.block_body.specs.Held.{IsHeld, rows_in}
 use Rattle.block_body.specs.Outline.{NamedFilter, Outline}
 use Rattle.block_body.specs.Outlines.{filter_named, first_moment, last_moment, outline_of, weight_of}

@@ -3,7 +3,6 @@ use Rattle.std.specs.Prelude.{◌≡◌, ℕ, zero, suc, ◌+◌, ◌-◌, ◌*�
 use Rattle.std.specs.Prelude.{bytes_eq, if◌then◌else◌, int_lt, nat_le, nat_lt, not, pos, slice_index_or, sum_by, unsigned_abs}
 use Rattle.std.specs.List.{AllByRecursion, fold, list_all, list_any}
 use Rattle.std.specs.Str.{is_utf8}
-use Rattle.block_column.specs.Lengths.{has_text}
 use Rattle.block_format.specs.Rows.{are_numbered_apart, are_ordered}
 use Rattle.block_model.specs.Columns.{Column, rows_from}
 use Rattle.block_model.specs.declared.keys.Key.{Key}
@@ -67,10 +66,14 @@ pub record IsGoodName (name : List ℕ) : Type 0 where
 abbrev pub AreGoodNames : List Column → Type 0
 AreGoodNames columns = AllByRecursion (λ (column : Column). IsGoodName column.0) columns
 
--- Some value is not empty.
+abbrev pub has_text : List ℕ → Bool
+has_text value = nat_lt 0 (length value)
+
+-- Some value is not empty, and all together have fewer than 2^32 bytes.
 pub record IsFilled (column : Column) : Type 0 where
   pub some : list_any has_text column.1 ≡ true
   pub texts : list_all is_utf8 column.1 ≡ true
+  pub small : sum_by length column.1 < 2 ^ 32
 
 -- the head of a block of these keys in this stream, and of this weight
 abbrev pub head_by_keys : List Field → List Key → ℕ → List NamedFilter → Outline

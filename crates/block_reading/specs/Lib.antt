@@ -1,3 +1,3 @@
 pub mod ByColumns
-pub mod Filled
+pub mod Seen
 pub mod Again

@@ -6,7 +6,7 @@ ghost use Rattle.byte_format.specs.Spelling.{HasSpelling};
 ghost use Rattle.block_format.specs.Columns.{HasRows};
 ghost use Rattle.block_format.specs.Reading.{block_writing, rows_said};
 
-use crate::by_columns::block_by_columns;
+use crate::by_columns::{block_of, seen_of};
 use block_body::StoredRows;
 use block_format::{Parts, is_block, rows_said, take_parts};
 use block_model::lend;
@@ -51,7 +51,7 @@ impl Spelled for Items {
     }
 
     fn make(self, alloc: Global, _context: ()) -> Result<Option<StoredRows>, AllocError> {
-        let made = made_of(alloc, &self.parts)?;
+        let made = made_of(alloc, self.parts)?;
         Ok(made)
     }
 
@@ -64,17 +64,18 @@ impl Spelled for Items {
 }
 
 /// The block of the rows that the items say, if they are a block.
-fn made_of(alloc: Global, parts: &Parts) -> Result<Option<StoredRows>, AllocError>
-    requires { All (HasRows (length parts.now.keys)) parts.now.columns }
-    ensures some { IfOk result (λ found. IfSome found (λ made. made ≡ rows_said parts.now)) }
+fn made_of(alloc: Global, parts: Parts) -> Result<Option<StoredRows>, AllocError>
+    requires { All (HasRows (length parts.keys)) parts.columns }
+    ensures some { IfOk result (λ found. IfSome found (λ made. made ≡ rows_said parts)) }
     ensures spelled { IfOk result (λ found. IfSome found (λ made. HasSpelling (block_writing made))) }
-    ensures none { IfOk result (λ found. IfNone found (block_writing (rows_said parts.now) ≡ None)) }
+    ensures none { IfOk result (λ found. IfNone found (block_writing (rows_said parts) ≡ None)) }
 {
-    if let Some(made) = block_by_columns(alloc, parts)? {
+    if let Some(seen) = seen_of(alloc, &parts)? {
+        let made = block_of(alloc, seen, parts)?;
         made.rules();
         return Ok(Some(made));
     }
-    block_by_rows(alloc, parts)
+    block_by_rows(alloc, &parts)
 }
 
 /// The same by the rows, all of which are made.

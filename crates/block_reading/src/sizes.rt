@@ -1,35 +1,98 @@
 //! The number of the fields of rows, and how many bytes they have.
 
-ghost use Rattle.std.specs.Prelude.{◌≡◌, ◌≤◌, IfSome, IsTrue, length, map};
-ghost use Rattle.block_reading.specs.ByColumns.{AreGrownBy, AreNumbersFit, AreWithin, IsWithin, bytes_in, larger};
+ghost use Rattle.std.specs.Prelude.{◌≡◌, ◌≤◌, ◌*◌, ◌||◌, IfOk, IfSome, IsTrue, length, sum_by, true};
+ghost use Rattle.std.specs.List.{All, AllByRecursion, list_all, list_any};
+ghost use Rattle.std.specs.Str.{is_utf8};
+ghost use Rattle.block_format.specs.Columns.{HasRows};
+ghost use Rattle.block_reading.specs.ByColumns.{AreGrown, AreGrownBy, AreLight, AreNumbersFit, AreWithin, IsFilled};
+ghost use Rattle.block_reading.specs.ByColumns.{IsWithin, bytes_from, bytes_in, has_text, larger};
+
+use block_column::FoundColumn;
+use block_format::NamedColumn;
+use std::alloc::{AllocError, Global};
 
 /// The most bytes of the fields of a row.
-pub(crate) const MAX_WEIGHT: usize = 262_144;
+const MAX_WEIGHT: usize = 262_144;
 
 /// The most fields of a row.
 const MAX_FIELDS: u32 = 1_000;
 
 /// How many fields a row has, and how many bytes.
 #[derive(Clone, Copy, Drop)]
-pub(crate) struct RowSize {
-    pub(crate) fields: u32,
-    pub(crate) weight: u32,
+struct RowSize {
+    fields: u32,
+    weight: u32,
 }
 
-/// Adds the fields of a name of this length to the sizes of the rows, unless a row has too many bytes then.
-pub(crate) fn grow(sizes: &mut [RowSize], name: usize, texts: &[&str]) -> bool
-    requires rows { length texts.now ≡ length sizes.old }
+/// The bytes of the fields of all rows, if each column has some value, and each row has fields, and neither too many
+/// nor too many bytes.
+pub(crate) fn weight_of(
+    alloc: Global,
+    columns: &[NamedColumn],
+    rows: usize,
+) -> Result<Option<u64>, AllocError>
+    requires few { rows ≤ 4096 }
+    requires rows { All (HasRows rows) columns.now }
+    ensures weight { IfOk result (λ found. IfSome found (λ weight. weight ≡ bytes_from columns.now 0 rows)) }
+    ensures filled { IfOk result (λ found. IfSome found (λ weight. AllByRecursion IsFilled columns.now)) }
+    ensures light { IfOk result (λ found. IfSome found (λ weight. AreLight rows columns.now)) }
+{
+    let mut sizes = vec![in alloc; RowSize {
+        fields: 0,
+        weight: 0
+    }; rows]?;
+    let slots = sizes.as_mut_slice();
+    for column in columns {
+        if !grow_by(slots, column) {
+            return Ok(None);
+        }
+    }
+    if !are_light(slots) {
+        return Ok(None);
+    }
+    let weight = bytes_in(slots);
+    Ok(Some(weight))
+}
+
+/// Adds the fields of a column to the sizes of the rows, if some value is not empty, and no row has too many bytes
+/// then.
+fn grow_by(sizes: &mut [RowSize], column: &NamedColumn) -> bool
+    requires few { length sizes.old ≤ 4096 }
+    requires rows { length column.now.1 ≡ length sizes.old }
     requires within { AreWithin sizes.old }
-    ensures grown { IsTrue result → AreGrownBy name (map (λ t. t.now) texts.now) sizes.old sizes.new }
+    ensures filled { IsTrue result → IsFilled column.now }
+    ensures grown { IsTrue result → AreGrown column.now sizes.old sizes.new }
     ensures within { IsTrue result → AreWithin sizes.new }
 {
+    grow(sizes, column.name.as_str().len(), &column.values)
+}
+
+/// The same, of the values under a name of this length. No text is made to see how long it is.
+fn grow(sizes: &mut [RowSize], name: usize, values: &FoundColumn) -> bool
+    requires rows { length values.now ≡ length sizes.old }
+    requires within { AreWithin sizes.old }
+    ensures some { IsTrue result → list_any has_text values.now ≡ true }
+    ensures texts { IsTrue result → list_all is_utf8 values.now ≡ true }
+    ensures small { IsTrue result → sum_by length values.now ≤ 262_144 * length sizes.old }
+    ensures grown { IsTrue result → AreGrownBy name values.now sizes.old sizes.new }
+    ensures within { IsTrue result → AreWithin sizes.new }
+{
+    let mut some = false;
     for i in 0..sizes.len() {
-        let Some(size) = larger(sizes[i], name, texts[i].len()) else {
+        let len = values.value(i).len();
+        let Some(size) = larger(sizes[i], name, len) else {
             return false;
         };
         sizes[i] = size;
+        some = either(some, len > 0);
     }
-    true
+    some
+}
+
+fn either(one: bool, other: bool) -> bool
+    ensures { result ≡ (one || other) }
+{
+    one || other
 }
 
 /// The size with a field more, if its value is not empty, unless that is too large.
@@ -37,6 +100,7 @@ fn larger(size: RowSize, name: usize, value: usize) -> Option<RowSize>
     requires { IsWithin size }
     ensures size { IfSome result (λ more. more ≡ larger name size value) }
     ensures within { IfSome result IsWithin }
+    ensures short { IfSome result (λ more. value ≤ 262_144) }
 {
     if value < 1 {
         return Some(size);
@@ -52,7 +116,7 @@ fn larger(size: RowSize, name: usize, value: usize) -> Option<RowSize>
 }
 
 /// Whether each row has a field, and not too many.
-pub(crate) fn are_light(sizes: &[RowSize]) -> bool
+fn are_light(sizes: &[RowSize]) -> bool
     ensures { IsTrue result → AreNumbersFit sizes.now }
 {
     for size in sizes {
@@ -64,7 +128,7 @@ pub(crate) fn are_light(sizes: &[RowSize]) -> bool
 }
 
 /// The bytes of the fields of all rows.
-pub(crate) fn bytes_in(sizes: &[RowSize]) -> u64
+fn bytes_in(sizes: &[RowSize]) -> u64
     requires few { length sizes.now ≤ 4096 }
     requires within { AreWithin sizes.now }
     ensures { result ≡ bytes_in sizes.now }

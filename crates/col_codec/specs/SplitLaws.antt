@@ -149,14 +149,6 @@ ends-last from (t ∷ ts) =
     let sum = sum_by-cons length t ts in
     omega (arith, sum, ends-last (from + length t) ts)
 
-pub ends-rising : (from : ℕ) (ts : List (List ℕ)) → IsRising from (ends_of from ts)
-ends-rising from [] = tt
-ends-rising from (t ∷ ts) = (omega arith, ends-rising (from + length t) ts)
-
-pub ends-length : (from : ℕ) (ts : List (List ℕ)) → length (ends_of from ts) ≡ length ts
-ends-length from [] = refl
-ends-length from (t ∷ ts) = ap suc (ends-length (from + length t) ts)
-
 -- the parts are those of what stands from a place on
 parts-from : (before bytes : List ℕ) (from : ℕ) (ts : List (List ℕ)) → length before ≡ from
     → bytes ≡ before ++ flat_map (λ t. t) ts → parts bytes from (ends_of from ts) ≡ ts

@@ -1,8 +1,7 @@
 -- A word that was added may be there.
 use Rattle.std.proofs.Common.{◌≡◌, ℕ, ◌*◌, ◌/◌, ◌%◌, ◌<◌, ◌^◌, Bool, true, false, eqb, ltb, List, [], ◌∷◌}
 use Rattle.std.proofs.Common.{length, get_or, refl, sym, ap, ◌∙◌, arith, inl, inr, w64}
-use Rattle.std.specs.Prelude.{◌&&◌, ◌==◌, bit_or}
-use Rattle.std.proofs.lemmas.Bool.Decides.{nat_tests}
+use Rattle.std.specs.Prelude.{◌&&◌, bit_or}
 use Rattle.std.specs.List.{AllByRecursion}
 use Rattle.std.specs.Int.{bit_at}
 use Rattle.std.proofs.lemmas.Bool.{cases_eq, eq-eqb, eqb-true, ne_eqb, lt-ltb, ltb-true}
@@ -84,9 +83,6 @@ places-within ws h lt =
     let some : 0 < bit_count ws = omega (arith, lt) in
     let one : (i : ℕ) → place (bit_count ws) h i < 64 * length ws = λ i. mod_below _ (bit_count ws) some in
     (one 0, (one 1, (one 2, (one 3, (one 4, (one 5, tt))))))
-
-pub some-from_test : (n : ℕ) → (n == 0) ≡ false → 0 < n
-some-from_test n e = grind (arith, nat_tests)
 
 pub hash_filled : (ws : List ℕ) (hash : ℕ) → 0 < length ws → with_hash ws hash ≡ with_bits ws (places
     (bit_count ws) hash)

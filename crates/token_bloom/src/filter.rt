@@ -4,7 +4,7 @@ ghost use Rattle.std.specs.Prelude.{◌≡◌, ◌<◌, ◌≤◌, ◌^◌, IfOk
 ghost use Rattle.token_bloom.specs.Filter.{empty_filter, filter_bytes, is_length, may_have, with_hash, with_word};
 
 use crate::hash::hash_of;
-use crate::held::{Held, copy_of, has_hash_in, held_of, put_hash, words_in};
+use crate::held::{Held, copy_of, has_hash_in, held_empty, held_of, put_hash, words_in};
 use byte_format::{Stop, put_u64s, take_u64s};
 use std::alloc::{AllocError, Global};
 use std::marker::Model;
@@ -39,13 +39,13 @@ pub enum BloomFault {
 
 impl Bloom {
     /// Returns an empty filter with room for this many distinct words: 16 bits for each, rounded up to a multiple
-    /// of 64.
+    /// of 64. A filter of at most 64 bits takes no memory.
     pub fn with_room(alloc: Global, tokens: usize) -> Result<Bloom, AllocError>
         requires { tokens < 2 ^ 32 }
         ensures { IfOk result (λ bloom. bloom ≡ empty_filter tokens) }
     {
-        let filter = vec![in alloc; 0; (16 * tokens + 63) / 64]?;
-        Ok(Bloom::of(filter))
+        let held = held_empty(alloc, (16 * tokens + 63) / 64)?;
+        Ok(Bloom { held })
     }
 
     fn of(filter: Vec<u64>) -> Bloom

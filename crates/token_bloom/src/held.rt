@@ -1,6 +1,6 @@
 //! How the words of 64 bits of a filter are held.
 
-ghost use Rattle.std.specs.Prelude.{◌≡◌, ◌<◌, ◌≤◌, ◌^◌, ◌∷◌, [], IfOk, length};
+ghost use Rattle.std.specs.Prelude.{◌≡◌, ◌<◌, ◌≤◌, ◌^◌, ◌∷◌, [], IfOk, length, replicate};
 ghost use Rattle.token_bloom.specs.Filter.{has_hash, with_hash};
 ghost use Rattle.token_bloom.specs.Held.{IsHeld, words_in};
 
@@ -30,6 +30,22 @@ pub(crate) fn held_of(filter: Vec<u64>) -> Held
         return Held::One(filter[0]);
     }
     Held::Many(filter)
+}
+
+/// Holds this many words without a bit. A list of them is made only for two words or more.
+#[tactic(auto, using(crate::proofs::HeldLaws::no_empty, crate::proofs::HeldLaws::one_empty))]
+pub(crate) fn held_empty(alloc: Global, count: usize) -> Result<Held, AllocError>
+    requires { count ≤ 2 ^ 30 }
+    ensures words { IfOk result (λ held. words_in held ≡ replicate count 0) }
+    ensures held { IfOk result (λ held. IsHeld held) }
+{
+    if count == 0 {
+        return Ok(Held::None);
+    }
+    if count == 1 {
+        return Ok(Held::One(0));
+    }
+    Ok(Held::Many(vec![in alloc; 0; count]?))
 }
 
 /// The words of 64 bits.

@@ -1,21 +1,22 @@
 -- Filters of words, and filters in bytes.
 use Rattle.std.proofs.Common.{◌≡◌, ℕ, ◌*◌, ◌/◌, ◌%◌, ◌<◌, ◌^◌, Bool, true, false, cond, eqb, get_or, List, [], ◌∷◌}
-use Rattle.std.proofs.Common.{length, Ok, Result, refl, sym, ◌∙◌, arith}
+use Rattle.std.proofs.Common.{◌+◌, ◌++◌, ◌≤◌, zero, suc, take, drop, length, Ok, Result, refl, sym, ap, ◌∙◌, arith}
 use Rattle.std.specs.Prelude.{bit_or}
-use Rattle.std.specs.Int.{w32, w64}
+use Rattle.std.specs.Int.{from_le_bytes, w32, w64}
 use Rattle.std.specs.List.{fold}
 use Rattle.std.proofs.Math.ListN.{length-set}
-use Rattle.std.proofs.lemmas.List.{length-replicate}
-use Rattle.byte_format.specs.Format.{value, followed, many, front, ◌>>=◌}
+use Rattle.std.proofs.lemmas.List.{drop-drop, length-drop, length-replicate}
+use Rattle.byte_format.specs.Format.{exactly, value, followed, many, front, one_more, repeated, ◌>>=◌}
 use Rattle.byte_format.specs.Gives.{Stops}
 use Rattle.byte_format.specs.declared.Stop.{Stop}
 use Rattle.byte_format.specs.declared.Stop.TheVariants as stops
-use Rattle.byte_format.specs.Items.{number}
+use Rattle.byte_format.specs.Items.{any_number, number}
 use Rattle.byte_format.proofs.Cases.{bind_assoc, bind_same}
-use Rattle.byte_format.proofs.Readings.{front-followed}
+use Rattle.byte_format.proofs.Readings.{front-again, front-followed, good-made}
+use Rattle.byte_format.proofs.Turns.{one-read}
 use Rattle.token_bloom.specs.Bits.{bit_count, fnv, places, with_bit, with_bits}
 use Rattle.token_bloom.specs.Filter.{empty_filter, with_word, words_for}
-use Rattle.word_filter.specs.Words.{filter_item, filter_steps}
+use Rattle.word_filter.specs.Words.{filter_item, filter_steps, skipped}
 
 pub filter-steps : (bytes : List ℕ) → front filter_item bytes ≡ filter_steps bytes
 unfolding filter_item filter_steps
@@ -54,3 +55,23 @@ pub small-filter : (n : ℕ) (words : List (List ℕ)) → n < 2 ^ 32
     → length (fold with_word (empty_filter n) words) < 2 ^ 32
 small-filter n words small =
     omega (arith, words-length (empty_filter n) words, length-replicate {A = ℕ} (words_for n) 0, small)
+
+-- where all are there, they are skipped at once
+passed : (n : ℕ) (acc b : List ℕ) → 8 * n ≤ length b
+    → (numbers : List ℕ) × (front (repeated n (one_more (number w64)) acc) b ≡ Ok (numbers, drop (8 * n) b))
+passed zero acc b le = (acc, refl)
+passed (suc n) acc b le =
+    let first : List ℕ = acc ++ from_le_bytes w64 (take 8 b) ∷ [] in
+    let one : front (number w64) b ≡ Ok (from_le_bytes w64 (take 8 b), drop 8 b) =
+    rw (good-made (exactly 8) (λ bytes. any_number (from_le_bytes w64 bytes)) b (omega (arith, le)) refl) refl in
+    let next = passed n (acc ++ from_le_bytes w64 (take 8 b) ∷ []) (drop 8 b) (omega (arith, le, length-drop 8 b)) in
+    let on : 8 + 8 * n ≡ 8 * suc n = omega arith in (
+      next.0,
+      front-again n (one_more (number w64)) acc (acc ++ from_le_bytes w64 (take 8 b) ∷ []) b (drop 8 b) (one-read
+          (number w64) acc (from_le_bytes w64 (take 8 b)) b (drop 8 b) one)
+          ∙ next.1
+          ∙ ap (λ (l : List ℕ). Ok (next.0, l)) (drop-drop (8 * n) 8 b ∙ ap (λ (k : ℕ). drop k b) on),
+    )
+
+pub skipped-all : (n : ℕ) (b : List ℕ) → 8 * n ≤ length b → skipped n b ≡ Ok (drop (8 * n) b)
+skipped-all n b le = let p = passed n [] b le in rw p.1 refl

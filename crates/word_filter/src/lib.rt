@@ -187,8 +187,20 @@ fn take_steps(bytes: &[u8]) -> Result<(u32, &[u8]), Stop>
     Ok((count, rest))
 }
 
-/// The bytes after this many numbers of eight bytes.
+/// The bytes after this many numbers of eight bytes. They are read one by one only if they are not all there.
 fn skip_u64s(count: u32, bytes: &[u8]) -> Result<&[u8], Stop>
+    ensures { Gives (λ x. x.now) result (skipped count bytes.now) }
+{
+    let size = 8 * count as usize;
+    if bytes.len() < size {
+        return skip_each(count, bytes);
+    }
+    let (_, rest) = bytes.split_at(size);
+    Ok(rest)
+}
+
+/// The same, one by one.
+fn skip_each(count: u32, bytes: &[u8]) -> Result<&[u8], Stop>
     ensures { Gives (λ x. x.now) result (skipped count bytes.now) }
 {
     let mut rest = bytes;

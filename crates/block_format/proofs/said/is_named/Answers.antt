@@ -3,7 +3,7 @@ use Rattle.std.specs.Prelude.{◌==◌}
 use Rattle.block_column.specs.Values.{value_text}
 use Rattle.block_model.specs.Columns.{Column}
 use Rattle.block_format.specs.Reading.{is_named}
-use Rattle.block_format.proofs.SaidLaws.{empty-more, nameless, unnamed}
+use Rattle.block_format.proofs.SaidLaws.{empty-more, nameless, unnamed, without-values}
 use Rattle.block_format.proofs.said.is_named.Goals as goal
 
 pub returns-then-not-is_missing : goal.returns-then-not-is_missing
@@ -15,6 +15,12 @@ returns-then-not-is_missing c =
     sym (subst (λ (k : Column). is_named k ≡ false) c.column.view_is (unnamed column c.loop-i.i (value_text
     c.value.result) (nameless c.column.inside.name c.column.inside.values empty) lt c.value.ensures (sym
     c.is_missing.ensures ∙ c.if-not-is_missing.true)))
+
+pub returns-then-is_filled_with : goal.returns-then-is_filled_with
+returns-then-is_filled_with c =
+    let column : Column = (c.column.inside.name, c.column.inside.values) in
+    sym (subst (λ (k : Column). is_named k ≡ true) c.column.view_is (without-values column
+    (c.is_filled_with.ensures c.if-is_filled_with.true)))
 
 pub loop-i-preserved : goal.loop-i-preserved
 loop-i-preserved c =

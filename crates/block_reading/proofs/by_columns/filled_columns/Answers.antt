@@ -1,82 +1,67 @@
-use Rattle.std.proofs.Common.{◌≡◌, ◌+◌, ◌++◌, ◌∙◌, ◌<◌, ◌≤◌, ℕ, List, [], ◌∷◌, ap, arith, get_or, length, map, subst, sym, take}
+use Rattle.std.proofs.Common.{◌≡◌, ◌+◌, ◌++◌, ◌∙◌, ◌<◌, ℕ, zero, suc, List, [], ◌∷◌, ap, arith, get_or, length, map}
+use Rattle.std.proofs.Common.{subst, sym, take}
 use Rattle.std.specs.List.{AllByRecursion}
-use Rattle.std.proofs.lemmas.List.{map_more, take_all, take_more}
+use Rattle.std.proofs.lemmas.Iterator.Adapters.{YieldsList-from_vec}
+use Rattle.std.proofs.lemmas.Iterator.Consumers.{YieldsList-end, YieldsList-turn}
+use Rattle.std.proofs.lemmas.List.{length_push, map_more, take_all}
 use Rattle.block_body.specs.Outline.{NamedFilter}
 use Rattle.block_model.specs.Columns.{Column}
-use Rattle.block_reading.specs.ByColumns.{AreWithin, IsFilled, IsNumberFit, IsWithin, bytes_from, bytes_in, contents}
-use Rattle.block_reading.specs.ByColumns.{filter_for, larger, nothing, size_at}
-use Rattle.block_reading.proofs.ByColumnsLaws.{bytes-from-sizes, size-more}
-use Rattle.block_reading.specs.declared.sizes.RowSize.{RowSize}
+use Rattle.block_reading.specs.ByColumns.{IsFilled, contents, filter_for}
 use Rattle.block_reading.proofs.by_columns.filled_columns.Goals as goal
 
-each-more : (columns : List Column) (column : Column) → AllByRecursion IsFilled columns → IsFilled column
-    → AllByRecursion IsFilled (columns ++ column ∷ [])
-each-more [] column h one = (one, tt)
-each-more (c ∷ cs) column h one = (h.0, each-more cs column h.1 one)
+filled-at : (columns : List Column) (k : ℕ) (d : Column) → k < length columns → AllByRecursion IsFilled columns
+    → IsFilled (get_or columns k d)
+filled-at [] k d lt h = absurd (omega (arith, lt))
+filled-at (c ∷ cs) zero d lt h = h.0
+filled-at (c ∷ cs) (suc k) d lt h = filled-at cs k d (omega (arith, lt)) h.1
+
+pub filled_column-requires : goal.filled_column-requires
+filled_column-requires c =
+    let gives = c.into_iter-column-iterator.ensures.into_iter_gives in
+    let t = YieldsList-turn (YieldsList-from_vec {s = c.into_iter-column-iterator.result} c.args.columns.items gives.0 (omega (arith, gives.1, c.args.columns.ok.0)))
+    c.loop-column.yielded c.loop-column.column-iterator c.loop-column.yielded_by c.next.result
+    c.next.new.self c.in-Some.column c.in-Some.is c.next.ensures.steps in
+    subst IsFilled (sym t.1) (filled-at c.args.columns.items (length c.loop-column.yielded) c.in-Some.column t.0 c.requires)
 
 pub loop-column-preserved : goal.loop-column-preserved
 loop-column-preserved c =
-    let k : ℕ = c.loop-column.column-index in
-    let columns : List Column = c.args.columns.now in
-    let column : Column = c.column-item.result in
-    let lt : c.loop-column.column-index < length c.args.columns.now = c.loop-column-test.true in
-    let next : take (c.loop-column.column-index + 1) c.args.columns.now
-    ≡ take c.loop-column.column-index c.args.columns.now ++ c.column-item.result ∷ [] =
-    take_more c.args.columns.now c.loop-column.column-index c.column-item.result lt
-    ∙ ap (λ (x : Column). take k columns ++ x ∷ []) (sym c.column-item.is) in
-    let head = (rw c.in-Some.is at c.in_ok-filled.ensures.head) in
-    let values = (rw c.in-Some.is at c.in_ok-filled.ensures.values) in
-    let filled = (rw c.in-Some.is at c.in_ok-filled.ensures.filled) in
-    let grown = (rw c.in-Some.is at c.in_ok-filled.ensures.grown) in
-    let within = (rw c.in-Some.is at c.in_ok-filled.ensures.within) in
+    let gives = c.into_iter-column-iterator.ensures.into_iter_gives in
+    let t = YieldsList-turn (YieldsList-from_vec {s = c.into_iter-column-iterator.result} c.args.columns.items gives.0 (omega (arith, gives.1, c.args.columns.ok.0)))
+    c.loop-column.yielded c.loop-column.column-iterator c.loop-column.yielded_by c.next.result
+    c.next.new.self c.in-Some.column c.in-Some.is c.next.ensures.steps in
+    let k : ℕ = length c.loop-column.yielded in
+    let columns : List Column = c.args.columns.items in
+    let column : Column = c.in-Some.column in
+    let next : length (c.loop-column.yielded ++ c.in-Some.column ∷ []) ≡ length c.loop-column.yielded + 1 =
+    length_push c.loop-column.yielded c.in-Some.column in
     record {
       heads = c.in_ok-push.ensures.items
-          ∙ ap (λ (l : List NamedFilter). l ++ c.in-Some.filled.head ∷ []) c.loop-column.invariant.heads
-          ∙ ap (λ (h : NamedFilter). map filter_for (take k columns) ++ h ∷ []) (head ∙ ap filter_for c.column-item.is)
-          ∙ sym (map_more filter_for columns k column lt);
+          ∙ ap (λ (l : List NamedFilter). l ++ c.in_ok-head.head ∷ []) c.loop-column.invariant.heads
+          ∙ ap (λ (h : NamedFilter). map filter_for (take k columns) ++ h ∷ []) (c.in_ok-head.ensures.head ∙ ap filter_for t.1)
+          ∙ sym (map_more filter_for columns k column t.0)
+          ∙ ap (λ (n : ℕ). map filter_for (take n columns)) (sym next);
       values = c.in_ok-push-2.ensures.items
-          ∙ ap (λ (l : List (List (List ℕ))). l ++ c.in-Some.filled.values ∷ []) c.loop-column.invariant.values
-          ∙ ap (λ (v : List (List ℕ)). contents (take k columns) ++ v ∷ []) (values ∙ ap (λ (x : Column). x.1)
-          c.column-item.is)
-          ∙ sym (map_more (λ (x : Column). x.1) columns k column lt);
-      each = subst (AllByRecursion IsFilled) (sym next) (each-more (take k columns) column c.loop-column.invariant.each
-          filled);
-      count = omega (arith, c.filled_column.auto.sizes, c.loop-column.invariant.count);
-      sizes = λ i there.
-          grown i (omega (arith, there, c.loop-column.invariant.count))
-          ∙ ap (λ (s : RowSize). larger (length column.0) s (length (get_or column.1 i []))) (c.loop-column.invariant.sizes i
-          there)
-          ∙ sym (size-more columns k i column lt c.column-item.is);
-      within = within;
+          ∙ ap (λ (l : List (List (List ℕ))). l ++ c.in_ok-head.filled ∷ []) c.loop-column.invariant.values
+          ∙ ap (λ (v : List (List ℕ)). contents (take k columns) ++ v ∷ []) (c.in_ok-head.ensures.values ∙ ap (λ (x : Column). x.1)
+          t.1)
+          ∙ sym (map_more (λ (x : Column). x.1) columns k column t.0)
+          ∙ ap (λ (n : ℕ). contents (take n columns)) (sym next);
     }
 
-pub returns-clause-light : goal.returns-clause-light
-returns-clause-light c i lt =
-    let here : get_or c.loop-column.slots i nothing ≡ size_at c.args.columns.now i =
-    c.loop-column.invariant.sizes i lt
-    ∙ ap (λ (l : List Column). size_at l i) (take_all c.loop-column.column-index c.args.columns.now (omega (
-      arith,
-      c.loop-column-test.false,
-    ))) in (
-      subst IsWithin here (c.loop-column.invariant.within i (omega (arith, lt, c.loop-column.invariant.count))),
-      subst IsNumberFit here (c.are_light.ensures c.if-not-are_light.false i (omega (
-        arith,
-        lt,
-        c.loop-column.invariant.count,
-      ))),
-    )
+pub returns-clause-heads : goal.returns-clause-heads
+returns-clause-heads c =
+    let gives = c.into_iter-column-iterator.ensures.into_iter_gives in
+    let t = YieldsList-end (YieldsList-from_vec {s = c.into_iter-column-iterator.result} c.args.columns.items gives.0 (omega (arith, gives.1, c.args.columns.ok.0)))
+    c.loop-column.yielded c.loop-column.column-iterator c.loop-column.yielded_by c.next.result
+    c.next.new.self c.in-None.is c.next.ensures.steps in
+    c.loop-column.invariant.heads
+    ∙ ap (map filter_for) (take_all (length c.loop-column.yielded) c.args.columns.items (omega (arith, t.1)))
 
-pub returns-clause-held : goal.returns-clause-held
-returns-clause-held c =
-    let all : take c.loop-column.column-index c.args.columns.now ≡ c.args.columns.now =
-    take_all c.loop-column.column-index c.args.columns.now (omega (arith, c.loop-column-test.false)) in
-    record {
-      heads = c.loop-column.invariant.heads ∙ ap (map filter_for) all;
-      values = c.loop-column.invariant.values ∙ ap contents all;
-      weight = c.bytes_in-weight.ensures
-          ∙ bytes-from-sizes c.args.columns.now 0 c.loop-column.slots (λ j lt.
-          let here : j ≡ 0 + j = omega arith in
-          c.loop-column.invariant.sizes j (omega (arith, lt, c.loop-column.invariant.count))
-          ∙ ap (λ (l : List Column). size_at l j) all ∙ ap (size_at c.args.columns.now) here)
-          ∙ ap (bytes_from c.args.columns.now 0) c.loop-column.invariant.count;
-    }
+pub returns-clause-values : goal.returns-clause-values
+returns-clause-values c =
+    let gives = c.into_iter-column-iterator.ensures.into_iter_gives in
+    let t = YieldsList-end (YieldsList-from_vec {s = c.into_iter-column-iterator.result} c.args.columns.items gives.0 (omega (arith, gives.1, c.args.columns.ok.0)))
+    c.loop-column.yielded c.loop-column.column-iterator c.loop-column.yielded_by c.next.result
+    c.next.new.self c.in-None.is c.next.ensures.steps in
+    c.loop-column.invariant.values
+    ∙ ap contents (take_all (length c.loop-column.yielded) c.args.columns.items (omega (arith, t.1)))

@@ -5,19 +5,21 @@ use Rattle.block_reading.proofs.by_columns.made_of.Goals as goal
 
 pub held-requires : goal.held-requires
 held-requires c =
-    (held-by-columns c.args.stream c.args.columns.now c.args.keys.now c.args.filled.values.items c.in_ok-head.head
-    c.requires.few c.requires.keys c.requires.names.0 c.requires.names.1 (all-lengths (length c.args.keys.now)
-    c.args.columns.now c.requires.rows.0) c.requires.rows.1 c.requires.rows.2 c.requires.labels.0 c.requires.labels.1
-    (c.in_ok-head.ensures ∙ ap (λ (n : ℕ). head_by_keys c.args.stream c.args.keys.now n c.args.filled.heads.items)
-    c.requires.held.weight ∙ ap (head_by_keys c.args.stream c.args.keys.now (bytes_from c.args.columns.now 0 (length
-    c.args.keys.now))) c.requires.held.heads) c.requires.held.values).1
+    let good = c.requires.good in
+    (held-by-columns c.args.seen.stream c.args.columns.items c.args.keys.now c.in_ok-heads.values.items c.in_ok-head.head
+    good.few good.ordered good.rising good.named (all-lengths (length c.args.keys.now) c.args.columns.items c.requires.rows)
+    good.filled good.light good.listed good.labelled
+    (c.in_ok-head.ensures ∙ ap (λ (n : ℕ). head_by_keys c.args.seen.stream c.args.keys.now n c.in_ok-heads.heads.items)
+    good.sum ∙ ap (head_by_keys c.args.seen.stream c.args.keys.now (bytes_from c.args.columns.items 0 (length
+    c.args.keys.now))) c.in_ok-heads.ensures.heads) c.in_ok-heads.ensures.values).1
 
 pub returns : goal.returns
 returns c =
+    let good = c.requires.good in
     c.in_ok-made.ensures
-    ∙ (held-by-columns c.args.stream c.args.columns.now c.args.keys.now c.args.filled.values.items c.in_ok-head.head
-    c.requires.few c.requires.keys c.requires.names.0 c.requires.names.1 (all-lengths (length c.args.keys.now)
-    c.args.columns.now c.requires.rows.0) c.requires.rows.1 c.requires.rows.2 c.requires.labels.0 c.requires.labels.1
-    (c.in_ok-head.ensures ∙ ap (λ (n : ℕ). head_by_keys c.args.stream c.args.keys.now n c.args.filled.heads.items)
-    c.requires.held.weight ∙ ap (head_by_keys c.args.stream c.args.keys.now (bytes_from c.args.columns.now 0 (length
-    c.args.keys.now))) c.requires.held.heads) c.requires.held.values).0
+    ∙ (held-by-columns c.args.seen.stream c.args.columns.items c.args.keys.now c.in_ok-heads.values.items c.in_ok-head.head
+    good.few good.ordered good.rising good.named (all-lengths (length c.args.keys.now) c.args.columns.items c.requires.rows)
+    good.filled good.light good.listed good.labelled
+    (c.in_ok-head.ensures ∙ ap (λ (n : ℕ). head_by_keys c.args.seen.stream c.args.keys.now n c.in_ok-heads.heads.items)
+    good.sum ∙ ap (head_by_keys c.args.seen.stream c.args.keys.now (bytes_from c.args.columns.items 0 (length
+    c.args.keys.now))) c.in_ok-heads.ensures.heads) c.in_ok-heads.ensures.values).0

@@ -2,7 +2,7 @@ use Rattle.std.proofs.Common.{◌≡◌, ◌-◌, ℕ, List}
 use Rattle.std.specs.Int.{w64}
 use Rattle.byte_format.specs.Format.{front, repeated, one_more, many}
 use Rattle.byte_format.specs.Items.{number}
-use Rattle.word_filter.proofs.skip_u64s.Given as goal
+use Rattle.word_filter.proofs.skip_each.Given as goal
 
 -- what was skipped, and what is left
 abbrev pub invariant-loop : goal.invariant-loop
