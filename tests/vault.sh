@@ -51,7 +51,7 @@ check "only a write creates a file" "0 files, faults 0" "$(ls -A "$work/empty" |
 
 under_strace() {
 # What is not durable yet when a sync is answered.
-{ head -400 "$work/calls"; tail -323 "$work/calls"; } >"$work/few"
+{ head -400 "$work/calls"; tail -325 "$work/calls"; } >"$work/few"
 traced=openat,open,pwrite64,ftruncate,unlink,unlinkat,fsync,fdatasync,mkdir,mkdirat,write,close
 strace -o "$work/trace" -e "trace=$traced" "$vault" write "$work/traced" <"$work/few" >/dev/null
 python3 - "$work/trace" "$work/few" "$work/traced" >"$work/pending" <<'PYTHON'
