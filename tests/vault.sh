@@ -25,7 +25,7 @@ random.seed(1)
 for _ in range(int(sys.argv[1])):
     file = random.choice([0, 1, 2, 3, 7, 2 ** 63 - 1, 2 ** 64 - 1])
     at, size = random.choice([0, 0, 1, 5, 40, 200]), random.choice([0, 1, 2, 9, 64, 300])
-    far = random.choice([at, 2 ** 63 - 1, 2 ** 63, 2 ** 64 - 1])
+    far = random.choice([at, 2 ** 63 - 5, 2 ** 63 - 1, 2 ** 63, 2 ** 64 - 1])
     print(random.choice([f"length {file}", f"read {file} {at} {size}", f"read {file} {far} {size}",
                          f"write {file} {at} {size} {random.randrange(251)}", f"write {file} {at} {size} 7",
                          f"write {file} 0 {size} 3", f"cut {file} {at}", f"sync {file}", f"remove {file}"]))
@@ -175,9 +175,11 @@ fail "the directory's creation and a signal" "$directory" mkdir 1 EINTR 'length 
 # A directory that was made is removed again if it cannot be synced into its parent, so that the next start fails too.
 fresh() { # NAME PATH SYSTEM_CALL ERROR
   echo 'length 3' | strace -o "$work/trace" -e trace="$3" -P "$2" -e inject="$3:error=$4" "$vault" write "$work/fresh" \
-    >"$work/out" 2>/dev/null
+    >"$work/out" 2>"$work/err"
   check "$1" "failed, faults 1, removed" \
     "$(paste -sd, "$work/out" | sed 's/,/, /'), $([ -d "$work/fresh" ] || echo removed)"
+  check "$1: the parent is named" "1" "$(grep -c "^$work/fresh/\.\.: " "$work/err")"
+  check "$1: a system call that failed" "yes" "$(grep -q INJECTED "$work/trace" && echo yes)"
   rm -rf "$work/fresh"
 }
 fresh "a new directory whose parent has no sync" "$work" fsync EINVAL
@@ -187,10 +189,10 @@ fresh "a new directory whose parent may not be opened" "$work/fresh/.." openat E
 printf 'write 3 0 5 1\nsync 3\n' | "$vault" write "$work/broken" >/dev/null
 if ! command -v strace >/dev/null; then
   echo "skipped: strace is missing, so no call was traced and no system call failed"
-  skipped=150
+  skipped=167
 elif ! strace -o "$work/trace" true 2>/dev/null; then
   echo "skipped: strace cannot trace a program here, so no call was traced and no system call failed"
-  skipped=150
+  skipped=167
 else
   under_strace
 fi
