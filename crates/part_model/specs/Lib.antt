@@ -1,0 +1,4 @@
+pub mod Order
+pub mod Filling
+pub mod Ends
+pub mod Part
