@@ -1,0 +1,7 @@
+mod Steps
+mod ItemLaws
+mod VersionLaws
+mod FaultLaws
+mod HoldLaws
+mod ReadLaws
+mod BatchLaws
