@@ -1,12 +1,12 @@
 -- The rows of a part in order, and in any order.
-use Rattle.std.proofs.Common.{◌≡◌, ℕ, ◌<◌, ◌≤◌, true, List, length, map, sym, ap, ◌∙◌, arith}
+use Rattle.std.proofs.Common.{◌≡◌, ◌<◌, List, length, arith}
 use Rattle.std.specs.List.Sorted.{IsPermutation, IsSorted}
 use Rattle.std.proofs.lemmas.List.Sorted.{IsPermutation-map, IsPermutation-sym, IsPermutation-trans, length_permutation}
 use Rattle.std.proofs.lemmas.List.Sorted.{sum_by-IsPermutation}
 use Rattle.log_model.specs.Field.{weight}
 use Rattle.log_model.specs.History.{AreBatch, Numbered, numbered_in, rows_in}
-use Rattle.log_model.specs.Row.{Batch, Row, batch_weight}
-use Rattle.part_model.specs.Order.{are_in_order, in_order, row_cmp}
+use Rattle.log_model.specs.Row.{Batch, Row}
+use Rattle.part_model.specs.Order.{in_order, row_cmp}
 use Rattle.part_model.specs.Part.{ArePartRows, IsPart, rows_weight}
 use Rattle.part_model.proofs.OrderLaws.{apart-same, one-order, order-in-order, permutation-in-order, sorted-order}
 

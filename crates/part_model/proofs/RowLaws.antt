@@ -1,25 +1,25 @@
 -- The rows of a batch, and their weights.
-use Rattle.std.proofs.Common.{◌≡◌, ℕ, zero, suc, ◌+◌, ◌*◌, ◌<◌, ◌≤◌, Bool, true, false, eqb, List, [], ◌∷◌, ◌++◌}
-use Rattle.std.proofs.Common.{length, map, refl, sym, ap, subst, ◌∙◌, arith}
-use Rattle.std.specs.Prelude.{◌&&◌, ◌||◌, nat_le, nat_lt, not, sum_by}
+use Rattle.std.proofs.Common.{◌≡◌, ℕ, zero, suc, ◌+◌, ◌*◌, ◌<◌, ◌≤◌, Bool, true, eqb, List, [], ◌∷◌, ◌++◌}
+use Rattle.std.proofs.Common.{length, refl, ap, arith}
+use Rattle.std.specs.Prelude.{◌&&◌, ◌||◌, nat_le, nat_lt, not}
 use Rattle.std.specs.BTreeSet.{insert_key}
-use Rattle.std.specs.List.{AllByRecursion, flat_map, fold, list_all}
+use Rattle.std.specs.List.{AllByRecursion, fold, list_all}
 use Rattle.std.specs.Ordering.{match_ordering}
 use Rattle.std.specs.declared.cmp.Ordering.{Ordering}
 use Rattle.std.specs.declared.cmp.Ordering.TheVariants.{Equal, Greater, Less}
-use Rattle.std.proofs.lemmas.Bool.{and_from, and_parts, eqb-true, le-leb, ne_eqb}
+use Rattle.std.proofs.lemmas.Bool.{and_from, and_parts, le-leb}
 use Rattle.std.proofs.lemmas.Bool.Decides.{nat_tests}
 use Rattle.std.proofs.lemmas.List.{append-nil, length-map}
 use Rattle.std.proofs.lemmas.List.Sums.{sum_by-cons}
 use Rattle.log_model.specs.Field.{Field, bytes_cmp, is_filled, weight}
 use Rattle.log_model.specs.History.{Numbered, numbered_from, numbered_in}
-use Rattle.log_model.specs.Row.{Batch, IsBatch, IsRow, Row, batch_limit, batch_weight}
+use Rattle.log_model.specs.Row.{Batch, IsBatch, IsRow, Row, batch_weight}
 use Rattle.log_model.proofs.Numbering.{length_numbered, rows_in_numbered}
 use Rattle.block_model.specs.Columns.{names_in, names_of}
 use Rattle.block_model.specs.Distinct.{distinct}
 use Rattle.block_format.specs.Rows.{are_numbered_apart, has_other_number}
 use Rattle.part_model.specs.Filling.{is_within}
-use Rattle.part_model.specs.Part.{ArePartRows, rows_weight}
+use Rattle.part_model.specs.Part.{ArePartRows}
 
 -- ---- one row
 

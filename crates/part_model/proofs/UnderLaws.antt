@@ -1,6 +1,6 @@
 -- The rows of a part under another number of their batch.
-use Rattle.std.proofs.Common.{◌≡◌, ℕ, suc, ◌+◌, ◌*◌, ◌<◌, ◌≤◌, Bool, true, false, eqb, ltb, List, [], ◌∷◌, ◌++◌, length}
-use Rattle.std.proofs.Common.{map, get_or, refl, sym, ap, subst, ◌∙◌, arith}
+use Rattle.std.proofs.Common.{◌≡◌, ℕ, ◌+◌, ◌*◌, Bool, List, [], ◌∷◌, ◌++◌, length}
+use Rattle.std.proofs.Common.{map, refl, sym, ap, subst, ◌∙◌, arith}
 use Rattle.std.specs.Prelude.{◌==◌, ◌&&◌, ◌||◌, nat_le, nat_lt, not}
 use Rattle.std.specs.List.{All, AllByRecursion, flat_map, list_all}
 use Rattle.std.specs.Ordering.{is_lt, nat_cmp, ordering_then}
@@ -12,14 +12,14 @@ use Rattle.std.proofs.lemmas.List.{length-map, map-append}
 use Rattle.std.proofs.lemmas.List.Elements.{All-from_recursion, recursion_from_All}
 use Rattle.log_model.specs.Field.{Field}
 use Rattle.log_model.specs.History.{AreOfOneBatch, Numbered, rows_in, with_batch}
-use Rattle.log_model.specs.Row.{Row, batch_limit, batch_weight}
+use Rattle.log_model.specs.Row.{Row, batch_weight}
 use Rattle.block_model.specs.Columns.{names_in, names_of}
 use Rattle.block_model.specs.Distinct.{distinct}
 use Rattle.block_format.specs.Reading.{same_fields}
 use Rattle.block_format.specs.Rows.{IsBlock, are_numbered_apart, are_ordered, comes_before, has_other_number, labels_of}
 use Rattle.part_model.specs.Filling.{AreFilled, AreFull, IsFull, has_room, is_within, rows_in_blocks}
-use Rattle.part_model.specs.Order.{are_in_order, is_earlier, key_cmp, labels_cmp, row_cmp}
-use Rattle.part_model.specs.Part.{ArePartRows, IsPart, rows_weight}
+use Rattle.part_model.specs.Order.{are_in_order, is_earlier, labels_cmp}
+use Rattle.part_model.specs.Part.{IsPart}
 
 abbrev renumbered : ℕ → Numbered → Numbered
 renumbered number row = record { batch = number; place = row.place; row = row.row }

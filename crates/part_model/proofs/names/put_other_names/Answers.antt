@@ -1,4 +1,4 @@
-use Rattle.std.proofs.Common.{ℕ, List, Bor, map, rules}
+use Rattle.std.proofs.Common.{ℕ, List, Bor, map}
 use Rattle.part_model.proofs.EndLaws.{put-same}
 use Rattle.part_model.proofs.names.put_other_names.Goals as goal
 
