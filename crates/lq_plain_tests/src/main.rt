@@ -8,12 +8,12 @@
 //! The answers are those of a Python program of its own.
 #![tactic(auto)]
 
-mod filter_cases;
-mod pipe_cases;
-mod records;
+mod filters_tests;
+mod pipes_tests;
+mod records_tests;
 
 use lq_parse::parse;
-use records::records_of;
+use records_tests::records_of;
 use std::alloc::{AllocError, Global};
 use std::io;
 
@@ -32,7 +32,7 @@ fn answer(alloc: Global, case: &str) -> Result<String, AllocError> {
         return String::from_str(alloc, "no query");
     };
     match query.pipes.as_slice().first() {
-        Some(pipe) => pipe_cases::answer(alloc, pipe, records.as_slice()),
-        None => filter_cases::answer(alloc, &query, records.as_slice()),
+        Some(pipe) => pipes_tests::answer(alloc, pipe, records.as_slice()),
+        None => filters_tests::answer(alloc, &query, records.as_slice()),
     }
 }

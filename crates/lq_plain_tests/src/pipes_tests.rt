@@ -2,7 +2,7 @@
 ghost use Rattle.std.specs.Prelude.{◌≡◌};
 ghost use Rattle.lq_stats.specs.Partial.{rows};
 
-use crate::records::{copies, shown};
+use crate::records_tests::{copies, shown};
 use lq_ast::{Pipe, SortPipe, StatsPipe, TopPipe, UniqPipe};
 use lq_filter::PrepareFault;
 use lq_order::{sort_recs, top_recs, uniq_recs};
