@@ -48,8 +48,8 @@ sized-again rows rest e =
     let p = and_parts (has_spelling rows) (nat_lt (length (block_bytes rows)) (2 ^ 32)) e in
     let read : whole block (block_bytes rows) ≡ Ok rows = block-again rows (block_bytes rows) (is-written rows p.0) in
     ap (front sized_block) (append_assoc (to_le_bytes w32 (length (block_bytes rows))) (block_bytes rows) rest)
-    ∙ step32 (λ size. inside size block) (length (block_bytes rows)) (block_bytes rows ++ rest) (ltb-true (length (block_bytes
-    rows)) (2 ^ 32) p.1)
+    ∙ step32 (λ size. inside size block) (length (block_bytes rows)) (block_bytes rows ++ rest)
+    (ltb-true (length (block_bytes rows)) (2 ^ 32) p.1)
     ∙ window-again block (block_bytes rows) rest rows read
 
 blocks-again : (blocks : List (List Numbered)) → list_all is_sized blocks ≡ true → length blocks < 2 ^ 32
@@ -84,8 +84,8 @@ is_read_again rows bytes e =
     let g = some_from (is_part rows) (part_bytes rows) bytes e in
     let h = part-holds rows g.0 in
     ap (whole part) (sym g.1)
-    ∙ whole-followed part_blocks (λ (l : List (List Numbered)). value (rows_said l)) (head_bytes ++ blocks_bytes (blocks_of
-    rows))
+    ∙ whole-followed part_blocks (λ (l : List (List Numbered)). value (rows_said l))
+    (head_bytes ++ blocks_bytes (blocks_of rows))
     ∙ ap (λ (r : Result (List (List Numbered) × List ℕ) ℕ). r >>= λ x. whole (value (rows_said x.0)) x.1) (head-again
     (blocks_bytes (blocks_of rows)) ∙ blocks-again (blocks_of rows) h.sized h.few)
     ∙ ap (λ (l : List Numbered). Ok l) (said-again rows g.0)

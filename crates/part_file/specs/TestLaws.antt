@@ -97,7 +97,8 @@ pub rows-of-blocks : (rows : List Numbered) → rows_in_blocks (blocks_of rows) 
 rows-of-blocks [] = refl
 rows-of-blocks (row ∷ rows) = from-blocks (row ∷ []) rows
 
-pub sized-spelled : (blocks : List (List Numbered)) → list_all is_sized blocks ≡ true → list_all has_spelling blocks ≡ true
+pub sized-spelled : (blocks : List (List Numbered)) → list_all is_sized blocks ≡ true
+    → list_all has_spelling blocks ≡ true
 sized-spelled [] e = refl
 sized-spelled (block ∷ blocks) e =
     let p = and_parts (is_sized block) (list_all is_sized blocks) e in
@@ -110,11 +111,11 @@ each-sized [] e = tt
 each-sized (block ∷ blocks) e =
     let p = and_parts (is_sized block) (list_all is_sized blocks) e in (p.0, each-sized blocks p.1)
 
-pub sized-is : (rows : List Numbered) → block_writing rows ≡ Some (block_bytes rows) → length (block_bytes rows) < 2 ^ 32
-    → is_sized rows ≡ true
+pub sized-is : (rows : List Numbered) → block_writing rows ≡ Some (block_bytes rows)
+    → length (block_bytes rows) < 2 ^ 32 → is_sized rows ≡ true
 sized-is rows e lt =
-    and_from (has_spelling rows) (nat_lt (length (block_bytes rows)) (2 ^ 32)) (some_from (has_spelling rows) (block_bytes
-    rows) (block_bytes rows) e).0 (lt-ltb (length (block_bytes rows)) (2 ^ 32) lt)
+    and_from (has_spelling rows) (nat_lt (length (block_bytes rows)) (2 ^ 32))
+    (some_from (has_spelling rows) (block_bytes rows) (block_bytes rows) e).0 (lt-ltb (length (block_bytes rows)) (2 ^ 32) lt)
 
 -- a part whose blocks were written
 pub written-part : (blocks : List (List Numbered)) (rows : List Numbered) → IsPart rows → AreFilled blocks rows
