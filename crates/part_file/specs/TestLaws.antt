@@ -115,7 +115,8 @@ pub sized-is : (rows : List Numbered) → block_writing rows ≡ Some (block_byt
     → length (block_bytes rows) < 2 ^ 32 → is_sized rows ≡ true
 sized-is rows e lt =
     and_from (has_spelling rows) (nat_lt (length (block_bytes rows)) (2 ^ 32))
-    (some_from (has_spelling rows) (block_bytes rows) (block_bytes rows) e).0 (lt-ltb (length (block_bytes rows)) (2 ^ 32) lt)
+    (some_from (has_spelling rows) (block_bytes rows) (block_bytes rows) e).0
+    (lt-ltb (length (block_bytes rows)) (2 ^ 32) lt)
 
 -- a part whose blocks were written
 pub written-part : (blocks : List (List Numbered)) (rows : List Numbered) → IsPart rows → AreFilled blocks rows
