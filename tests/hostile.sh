@@ -127,6 +127,16 @@ listed() {
   judge "$1"
 }
 
+# adds NAME SIZE FEW MANY REPLY: judges what this many lines take with a few fields to add, and with many, where the
+# request may run out of memory but has to answer soon
+adds() {
+  local one=0 took peak why=''
+  empty "$2" > "$work/lines"
+  spend "extra_fields=$(added "$3" 1)" "$work/lines" HTTP/1.1 && one=$took \
+    && spend "extra_fields=$(added "$4" 1)" "$work/lines" "$5" && compare 150 "$work/lines"
+  judge "$1"
+}
+
 # grows NAME ARGUMENTS MAKER SIZE REPLY: judges what an input of this size takes, and one of four times the size
 grows() {
   local one=0 took peak why=''
@@ -144,8 +154,14 @@ grows "members in falling order, with names of the message" "_msg_field=$(names 
 grows "one long outer name" "" nested 60000 NameLong
 grows "one long outer name, with names to ignore" "ignore_fields=a,b&_stream_fields=b" nested 60000 NameLong
 grows "more fields to add than a row may have" "extra_fields=$(added 2500 1)" last 2000 ManyFields
-grows "fields to add" "extra_fields=$(added 900 1)" last 150 '"accepted":"[1-9]'
-grows "fields to add, in rows that are too much for a batch" "extra_fields=$(added 900 0123456789)" empty 8000 Large
+grows "fields to add" "extra_fields=$(added 900 1)" last 90 '"accepted":"[1-9]'
+adds "a hundred times the fields to add, more than a row may have" 400000 25 2500 507
+adds "forty times the fields to add" 400000 25 1000 507
+grows "fields to add, in rows of more than the memory for them" "extra_fields=$(added 900 1)" empty 5000 507
+grows "one field to add to empty lines" "extra_fields=a=1" empty 150000 HTTP/1.1
+grows "labels that are added" "extra_fields=$(added 800 1)&_stream_fields=$(names 800)" empty 20000 507
+grows "fields to add, in rows that are too much for a batch" "extra_fields=$(added 250 "$(printf '0%.0s' {1..50})")" \
+  empty 5300 Large
 grows "a large field to add, in rows that are too much for a batch" "extra_fields=f=$(printf 'v%.0s' {1..15000})" \
   empty 8000 Large
 # A long name that is asked for has all long names read, up to 64 times the bytes of the line; then memory runs out.

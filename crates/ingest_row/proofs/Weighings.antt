@@ -49,15 +49,6 @@ goes_on options now body rest line after old new o lines gives rows refused numb
       ∙ ap (λ (r : List Row). min (batch_weight r) (2 ^ 64 - 1)) (sym rows);
 }
 
-pub same_taking : (options : Options) (now : ℤ) (body rest : List ℕ) (old new : Taking) → new.intake ≡ old.intake
-    → new.number ≡ old.number → new.weight ≡ old.weight → IsTakingIn options now body rest old
-    → IsTakingIn options now body rest new
-same_taking options now body rest old new intake number weight before = record {
-  given = subst (λ (n : ℕ). IsTaking options now body rest n new.intake) (sym number)
-      (subst (IsTaking options now body rest old.number) (sym intake) before.given);
-  weighs = weight ∙ before.weighs ∙ ap (λ (i : Intake). min (batch_weight i.rows) (2 ^ 64 - 1)) (sym intake);
-}
-
 pub ends : (options : Options) (now : ℤ) (body rest : List ℕ) (taking : Taking) → lines_of rest ≡ []
     → IsTakingIn options now body rest taking
     → (outcomes : List Outcome) × IsTaken options now body outcomes taking.intake
@@ -98,13 +89,13 @@ heavy options now body rest taking later weight before weighs large =
     let all = weighs_all options now body rest taking later weight before weighs in
     (all.0, (all.1.given, all.1.is, beyond weight (batch_weight (rows_read all.0)) all.1.is large))
 
-pub light : (options : Options) (now : ℤ) (body rest left : List ℕ) (first last : Taking) (later : List Outcome) (weight : ℕ)
-    → IsTakingIn options now body rest first → IsWeighing options now rest first.weight later weight
-    → weight ≤ batch_limit → lines_of left ≡ [] → IsTakingIn options now body left last
-    → (outcomes : List Outcome) × IsWeighed options now body outcomes (Light last.intake)
-light options now body rest left first last later weight before weighs little none after =
-    let all = weighs_all options now body rest first later weight before weighs in
-    let read = ends options now body left last none after in (
+pub light : (options : Options) (now : ℤ) (body rest : List ℕ) (taking : Taking) (later : List Outcome) (weight : ℕ)
+    → IsTakingIn options now body rest taking → IsWeighing options now rest taking.weight later weight
+    → weight ≤ batch_limit → lines_of rest ≡ []
+    → (outcomes : List Outcome) × IsWeighed options now body outcomes (Light taking.intake)
+light options now body rest taking later weight before weighs little none =
+    let all = weighs_all options now body rest taking later weight before weighs in
+    let read = ends options now body rest taking none before in (
       read.0,
       (
         read.1,

@@ -92,7 +92,7 @@ pub fn batch_of_body(
     requires { pos 0 ≤ℤ now }
     ensures { IfOk result (λ intake. (outcomes : List Outcome) × IsTaken o.now now body.now outcomes intake) }
 {
-    let mut taking = Taking::new(alloc, None);
+    let mut taking = Taking::new(alloc, o, None);
     take_lines(alloc, o, now, body, &mut taking)?;
     Ok(taking.into_intake())
 }

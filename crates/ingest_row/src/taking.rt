@@ -7,18 +7,23 @@ ghost use Rattle.ingest_row.specs.Intake.{Outcome, outcome_of, refused_from, row
 ghost use Rattle.ingest_row.specs.Weighing.{IsTakingIn, IsWeighing};
 
 use crate::body::{Intake, LineOutcome, read_line};
+use crate::kind::LineKind;
 use crate::line::ROOM;
 use crate::lines::next_line;
 use crate::options::Options;
 use std::alloc::{AllocError, Global};
+use vl_row::Row;
 
 /// The largest weight of a batch.
 pub(crate) const LIMIT: u64 = 67_108_864;
 
-/// The bytes that a field takes, beside those of a long name or value.
-const FIELD: u64 = 64;
+/// The bytes that a row takes without its fields, and those of a field, beside long names and values.
+const ITEM: u64 = 64;
 
-/// What was taken in of a body.
+/// Added fields may take this many times the bytes that rows may take, since those of refused rows are not kept.
+const WORK: u64 = 16;
+
+/// Rows and refusals read so far.
 #[derive(Drop)]
 pub(crate) struct Taking {
     intake: Intake,
@@ -30,12 +35,16 @@ pub(crate) struct Taking {
     pub(crate) weight: u64,
     /// About how many bytes the rows take.
     held: u64,
-    /// How many bytes they may take before reading stops. It also stops where the rows weigh more than a batch may.
+    /// How many bytes the fields take that are added to a line.
+    added: u64,
+    /// How many bytes the added fields of all lines took.
+    made: u64,
+    /// How many bytes the rows may take before reading stops. It also stops where they weigh more than a batch may.
     most: Option<u64>,
 }
 
 impl Taking {
-    pub(crate) fn new(alloc: Global, most: Option<u64>) -> Taking
+    pub(crate) fn new(alloc: Global, o: &Options, most: Option<u64>) -> Taking
         ensures rows { result.intake.rows ≡ [] }
         ensures refused { result.intake.refused ≡ [] }
         ensures number { result.number ≡ 0 }
@@ -48,6 +57,8 @@ impl Taking {
             room: ROOM,
             weight: 0,
             held: 0,
+            added: (o.added().len() as u64).saturating_mul(ITEM),
+            made: 0,
             most,
         }
     }
@@ -62,7 +73,20 @@ impl Taking {
         }
     }
 
-    /// Takes in what became of the next line.
+    /// Returns the bytes that were made once another line has this outcome. The error is that this is more than may be
+    /// made of a body.
+    fn made_with(&self, made: u64, outcome: &LineOutcome) -> Result<u64, AllocError> {
+        if !is_complete(outcome) {
+            return Ok(made);
+        }
+        let made = made.saturating_add(self.added);
+        match self.most {
+            Some(most) if made > most.saturating_mul(WORK) => Err(AllocError),
+            _ => Ok(made),
+        }
+    }
+
+    /// Adds the row or the refusal of the next line.
     fn add(&mut self, outcome: LineOutcome) -> Result<(), AllocError>
         requires { self.old.number + 1 < 2 ^ 64 }
         ensures rows { OnOk result
@@ -76,26 +100,13 @@ impl Taking {
     {
         self.number += 1;
         self.weight = self.weight.saturating_add(weight_of(&outcome));
+        self.made = self.made_with(self.made, &outcome)?;
         if let LineOutcome::Read(row) = &outcome {
-            let fields = row.fields().len();
             // The field of the moment is not a field of the row.
-            self.room = fields + 1;
-            let bytes = (fields as u64)
-                .saturating_mul(FIELD)
-                .saturating_add(row.weight());
-            self.held = self.held.saturating_add(bytes);
+            self.room = row.fields().len() + 1;
+            self.held = self.held.saturating_add(bytes_of(row));
         }
         self.intake.add(self.number, outcome)
-    }
-
-    /// Takes in all that is left, however much it is.
-    pub(crate) fn lift(&mut self)
-        ensures same { self.new.intake ≡ self.old.intake }
-        ensures number { self.new.number ≡ self.old.number }
-        ensures weight { self.new.weight ≡ self.old.weight }
-        ensures most { self.new.most ≡ None }
-    {
-        self.most = None;
     }
 
     pub(crate) fn into_intake(self) -> Intake
@@ -115,7 +126,30 @@ fn weight_of(outcome: &LineOutcome) -> u64
     }
 }
 
-/// Takes in the first of these lines, and returns the others.
+/// Returns whether the fields that are added to each line were added to this one.
+fn is_complete(outcome: &LineOutcome) -> bool {
+    match outcome {
+        LineOutcome::Read(_) => true,
+        LineOutcome::Refused(kind) => matches!(
+            kind,
+            LineKind::NameLong | LineKind::ManyFields | LineKind::RowLarge
+        ),
+        LineOutcome::PassedOver => false,
+    }
+}
+
+/// Returns about how many bytes a row takes. Its labels are copies of fields.
+fn bytes_of(row: &Row) -> u64 {
+    let mut bytes = row.weight().saturating_add(ITEM);
+    bytes = bytes.saturating_add((row.fields().len() as u64).saturating_mul(ITEM));
+    for label in row.stream().as_slice() {
+        let text = label.name().len() + label.value().len();
+        bytes = bytes.saturating_add(ITEM).saturating_add(text as u64);
+    }
+    bytes
+}
+
+/// Reads the first of these lines, and returns the others.
 pub(crate) fn take_lines<'a>(
     alloc: Global,
     o: &Options,
@@ -142,24 +176,26 @@ pub(crate) fn take_lines<'a>(
     Ok(rest)
 }
 
-/// Returns what the rows of these lines weigh together with those before, or the largest `u64` where that is more. It
-/// keeps no row.
+/// Returns what the rows of these lines weigh together with those that were read, or the largest `u64` where that is
+/// more. It keeps no row.
 pub(crate) fn weigh_lines(
     alloc: Global,
     o: &Options,
     now: i64,
     lines: &[u8],
-    before: u64,
+    taking: &Taking,
 ) -> Result<u64, AllocError>
     requires { pos 0 ≤ℤ now }
     ensures { IfOk result (λ weight. (outcomes : List Outcome)
-        × IsWeighing o.now now lines.now before outcomes weight) }
+        × IsWeighing o.now now lines.now taking.now.weight outcomes weight) }
 {
-    let mut weight = before;
+    let mut weight = taking.weight;
+    let mut made = taking.made;
     let mut room = ROOM;
     let mut rest = lines;
     while let Some((line, after)) = next_line(rest) {
         let outcome = read_line(alloc, o, now, line, room)?;
+        made = taking.made_with(made, &outcome)?;
         weight = weight.saturating_add(weight_of(&outcome));
         if let LineOutcome::Read(row) = &outcome {
             room = row.fields().len() + 1;

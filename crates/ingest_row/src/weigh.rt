@@ -4,17 +4,18 @@ ghost use Rattle.ingest_row.specs.Intake.{Outcome};
 ghost use Rattle.ingest_row.specs.Weighing.{IsWeighed};
 
 use crate::body::Intake;
+use crate::lines::next_line;
 use crate::options::Options;
 use crate::taking::{LIMIT, Taking, take_lines, weigh_lines};
 use std::alloc::{AllocError, Global};
 
-/// Rows may take this many bytes before the whole body is weighed.
-const LEAST: u64 = 33_554_432;
+/// How many bytes the rows of a body may always take.
+const LEAST: u64 = 25_165_824;
 
-/// Or this many times the bytes of the body. Where no name or field is repeated from line to line they take less.
-const TIMES: u64 = 12;
+/// How many times the bytes of the body its rows may take, where that is more.
+const TIMES: u64 = 18;
 
-/// What a body gives that is to be one batch.
+/// The rows of a body that are to be one batch.
 #[derive(Drop)]
 pub enum Weighed {
     /// Its rows weigh at most 67,108,864 together. There may be none.
@@ -23,20 +24,22 @@ pub enum Weighed {
     Heavy { weight: u64 },
 }
 
-/// Reads each line of a body, as `batch_of_body` does, if its rows can be one batch. Where they weigh too much, no more
-/// of them are held at any time than a batch may have.
+/// Reads each line of a body, as `batch_of_body` does, if its rows can be one batch. Where they weigh too much, it stops
+/// keeping rows and only weighs the lines that are left. Memory runs out where the rows would take more than 24 MiB and
+/// more than 18 times the bytes of the body, or the added fields of all lines 16 times that.
 pub fn weigh_body(alloc: Global, o: &Options, now: i64, body: &[u8]) -> Result<Weighed, AllocError>
     requires { pos 0 ≤ℤ now }
     ensures { IfOk result (λ weighed. (outcomes : List Outcome) × IsWeighed o.now now body.now outcomes weighed) }
 {
     let most = (body.len() as u64).saturating_mul(TIMES).max(LEAST);
-    let mut taking = Taking::new(alloc, Some(most));
+    let mut taking = Taking::new(alloc, o, Some(most));
     let rest = take_lines(alloc, o, now, body, &mut taking)?;
-    let weight = weigh_lines(alloc, o, now, rest, taking.weight)?;
+    let weight = weigh_lines(alloc, o, now, rest, &taking)?;
     if weight > LIMIT {
         return Ok(Weighed::Heavy { weight });
     }
-    taking.lift();
-    take_lines(alloc, o, now, rest, &mut taking)?;
-    Ok(Weighed::Light(taking.into_intake()))
+    match next_line(rest) {
+        Some(_) => Err(AllocError),
+        None => Ok(Weighed::Light(taking.into_intake())),
+    }
 }

@@ -4,13 +4,13 @@ use Rattle.ingest_row.specs.Intake.{outcome_of}
 use Rattle.ingest_row.proofs.Weighings.{weighs_end, weighs_more}
 use Rattle.ingest_row.proofs.taking.weigh_lines.Goals as goal
 
-pub loop-line-preserved-after-outcome : goal.loop-line-preserved-after-outcome
-loop-line-preserved-after-outcome c =
+pub loop-line-preserved-after-outcome-2 : goal.loop-line-preserved-after-outcome-2
+loop-line-preserved-after-outcome-2 c =
     let fits : FitsSigned w64 c.args.now = c.ranges.now in
     record {
       fits = omega (arith, c.saturating_add-weight.ensures);
       weighs = simp to_z-of_z (weighs_more c.args.o.now c.args.now c.args.lines.now c.loop-line.rest.now
-          c.in-Some.line.now c.in-Some.after.now c.args.before c.loop-line.weight c.saturating_add-weight.result
+          c.in-Some.line.now c.in-Some.after.now c.args.taking.now.weight c.loop-line.weight c.saturating_add-weight.result
           (outcome_of c.in_ok-outcome.outcome) c.in-Some.ensures.line (simp to_z-of_z at c.in_ok-outcome.ensures)
           (rw c.weight_of.ensures at c.saturating_add-weight.ensures)
           (simp to_z-of_z at c.loop-line.invariant.weighs));
@@ -22,7 +22,7 @@ loop-line-preserved c =
     record {
       fits = omega (arith, c.saturating_add-weight.ensures);
       weighs = simp to_z-of_z (weighs_more c.args.o.now c.args.now c.args.lines.now c.loop-line.rest.now
-          c.in-Some.line.now c.in-Some.after.now c.args.before c.loop-line.weight c.saturating_add-weight.result
+          c.in-Some.line.now c.in-Some.after.now c.args.taking.now.weight c.loop-line.weight c.saturating_add-weight.result
           (outcome_of c.in_ok-outcome.outcome) c.in-Some.ensures.line (simp to_z-of_z at c.in_ok-outcome.ensures)
           (rw c.weight_of.ensures at c.saturating_add-weight.ensures)
           (simp to_z-of_z at c.loop-line.invariant.weighs));
@@ -31,5 +31,5 @@ loop-line-preserved c =
 pub returns : goal.returns
 returns c =
     let fits : FitsSigned w64 c.args.now = c.ranges.now in
-    weighs_end c.args.o.now c.args.now c.args.lines.now c.loop-line.rest.now c.args.before c.loop-line.weight
+    weighs_end c.args.o.now c.args.now c.args.lines.now c.loop-line.rest.now c.args.taking.now.weight c.loop-line.weight
     c.in_default.ensures.none c.loop-line.invariant.fits (simp to_z-of_z at c.loop-line.invariant.weighs)

@@ -8,7 +8,7 @@ invariant-loop-line l = record {
   fits : l.weight < 2 ^ 64;
   weighs : (later : List Outcome) → IsIntake l.o l.now l.rest later
       → (all : List Outcome) × IsIntake l.o l.now l.lines all
-      × (min (l.before + batch_weight (rows_read all)) (2 ^ 64 - 1)
+      × (min (l.taking.weight + batch_weight (rows_read all)) (2 ^ 64 - 1)
       ≡ min (l.weight + batch_weight (rows_read later)) (2 ^ 64 - 1));
 }
 

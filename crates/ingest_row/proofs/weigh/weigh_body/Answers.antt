@@ -1,7 +1,6 @@
-use Rattle.std.proofs.Common.{◌≡◌, ◌∙◌, sym, subst, arith, FitsSigned, w64, List, ℕ}
+use Rattle.std.proofs.Common.{arith, FitsSigned, w64}
 use Rattle.std.proofs.lemmas.Int.{to_z-of_z}
-use Rattle.ingest_row.specs.Weighing.{IsTakingIn}
-use Rattle.ingest_row.proofs.Weighings.{begins, heavy, light, same_taking}
+use Rattle.ingest_row.proofs.Weighings.{begins, heavy, light}
 use Rattle.ingest_row.proofs.weigh.weigh_body.Goals as goal
 
 pub returns-then-weight-gt-LIMIT : goal.returns-then-weight-gt-LIMIT
@@ -14,17 +13,13 @@ returns-then-weight-gt-LIMIT c =
     heavy c.args.o.now c.args.now c.args.body.now c.in_ok-rest.rest.now c.take_lines.new.taking weighs.0
     c.in_ok-weight.weight first weighs.1 (omega (arith, c.if-weight-gt-LIMIT.true))
 
-pub returns : goal.returns
-returns c =
+pub returns-in-None : goal.returns-in-None
+returns-in-None c =
     let fits : FitsSigned w64 c.args.now = c.ranges.now in
     let first = (simp to_z-of_z at c.in_ok-rest.ensures.takes) c.args.body.now
     (begins c.args.o.now c.args.now c.args.body.now c.new-taking.result c.new-taking.ensures.rows
     c.new-taking.ensures.refused c.new-taking.ensures.number c.new-taking.ensures.weight) in
     let weighs = simp to_z-of_z at c.in_ok-weight.ensures in
-    let second = (simp to_z-of_z at c.in_ok-take_lines.ensures.takes) c.args.body.now
-    (same_taking c.args.o.now c.args.now c.args.body.now c.in_ok-rest.rest.now c.take_lines.new.taking
-    c.lift.new.self c.lift.ensures.same c.lift.ensures.number c.lift.ensures.weight first) in
     rw c.into_intake.ensures (light c.args.o.now c.args.now c.args.body.now c.in_ok-rest.rest.now
-    c.in_ok-take_lines.field-0.now c.take_lines.new.taking c.take_lines-2.new.taking weighs.0 c.in_ok-weight.weight first weighs.1
-    (omega (arith, c.if-weight-gt-LIMIT.false))
-    (c.in_ok-take_lines.ensures.all c.lift.ensures.most) second)
+    c.take_lines.new.taking weighs.0 c.in_ok-weight.weight first weighs.1
+    (omega (arith, c.if-weight-gt-LIMIT.false)) c.in-None.ensures.none)
