@@ -2,6 +2,7 @@ pub mod SeenLemmas
 mod EffectLemmas
 pub mod GrowLemmas
 pub mod TurnLemmas
+mod StaleReplies
 pub mod RequestLemmas
 pub mod Going
 pub mod StatusLemmas
