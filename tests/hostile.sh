@@ -158,7 +158,6 @@ grows "fields to add" "extra_fields=$(added 900 1)" last 90 '"accepted":"[1-9]'
 adds "a hundred times the fields to add, more than a row may have" 400000 25 2500 507
 adds "forty times the fields to add" 400000 25 1000 507
 grows "fields to add, in rows of more than the memory for them" "extra_fields=$(added 900 1)" empty 5000 507
-grows "one field to add to empty lines" "extra_fields=a=1" empty 150000 HTTP/1.1
 grows "labels that are added" "extra_fields=$(added 800 1)&_stream_fields=$(names 800)" empty 20000 507
 grows "fields to add, in rows that are too much for a batch" "extra_fields=$(added 250 "$(printf '0%.0s' {1..50})")" \
   empty 5300 Large

@@ -190,9 +190,32 @@ fn long_names_are_read_only_where_one_is_asked_for(rt: HostRuntime) -> Result<()
     Ok(())
 }
 
-/// Returns how many rows a body of this many lines has, and what they weigh if that is too much for a batch. To each
-/// row 200,001 bytes are added.
-fn weighs(alloc: Global, lines: usize) -> Result<Option<(usize, u64)>, AllocError> {
+/// Returns how many rows a body has, and what they weigh if that is too much for a batch.
+fn weighs(alloc: Global, options: &Options, body: &str) -> Result<(usize, u64), AllocError> {
+    match weigh_body(alloc, options, 5, body.as_bytes())? {
+        Weighed::Light(intake) => Ok((intake.rows.as_slice().len(), 0)),
+        Weighed::Heavy { weight } => Ok((0, weight)),
+    }
+}
+
+/// Weighs a body of this many lines of 200 kB.
+fn long_lines(alloc: Global, lines: usize) -> Result<(usize, u64), AllocError> {
+    let line = Long {
+        first: "{\"a\":\"b\",\"f\":\"",
+        piece: "v",
+        count: 200_000,
+        last: "\"}\n",
+    };
+    let line = line.text(alloc)?;
+    let mut body = String::new(alloc);
+    for _ in 0..lines {
+        body.push_str(line.as_str())?;
+    }
+    weighs(alloc, &Options::plain(alloc), body.as_str())
+}
+
+/// Weighs a body of this many short lines, to each of which 200 kB are added.
+fn short_lines(alloc: Global, lines: usize) -> Result<(usize, u64), AllocError> {
     let value = Long {
         first: "f=",
         piece: "v",
@@ -200,7 +223,7 @@ fn weighs(alloc: Global, lines: usize) -> Result<Option<(usize, u64)>, AllocErro
         last: "",
     };
     let Some(options) = asked(alloc, "extra_fields", value.text(alloc)?.as_str())? else {
-        return Ok(None);
+        return Ok((0, 0));
     };
     let body = Long {
         first: "",
@@ -208,16 +231,21 @@ fn weighs(alloc: Global, lines: usize) -> Result<Option<(usize, u64)>, AllocErro
         count: lines,
         last: "x",
     };
-    match weigh_body(alloc, &options, 5, body.text(alloc)?.as_bytes())? {
-        Weighed::Light(intake) => Ok(Some((intake.rows.as_slice().len(), 0))),
-        Weighed::Heavy { weight } => Ok(Some((0, weight))),
-    }
+    weighs(alloc, &options, body.text(alloc)?.as_str())
 }
 
 #[test]
 fn rows_are_kept_only_up_to_the_limit_of_a_batch(rt: HostRuntime) -> Result<(), Fail> {
-    assert!(rt; weighs(rt.alloc(), 335)? == Some((335, 0)));
-    assert!(rt; weighs(rt.alloc(), 336)? == Some((0, 67_201_008)));
-    assert!(rt; weighs(rt.alloc(), 1_000)? == Some((0, 200_003_000)));
+    assert!(rt; long_lines(rt.alloc(), 335)? == (335, 0));
+    assert!(rt; long_lines(rt.alloc(), 336)? == (0, 67_201_008));
+    Ok(())
+}
+
+#[test]
+fn rows_of_a_small_body_take_little_memory(rt: HostRuntime) -> Result<(), Fail> {
+    assert!(rt; short_lines(rt.alloc(), 100)? == (100, 0));
+    assert!(rt; short_lines(rt.alloc(), 335).is_err());
+    assert!(rt; short_lines(rt.alloc(), 336)? == (0, 67_201_008));
+    assert!(rt; short_lines(rt.alloc(), 1_000)? == (0, 200_003_000));
     Ok(())
 }

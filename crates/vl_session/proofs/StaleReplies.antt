@@ -3,7 +3,7 @@ use Rattle.std.proofs.Common.{◌≡◌, ◌+◌, List, [], ◌∷◌, ◌++◌,
 use Rattle.log_desk.specs.Seen.{Seen, TakesTurn, turn_of}
 use Rattle.log_desk.specs.TurnEnd.{TurnEnd}
 use Rattle.vl_session.specs.Laws.{AreEnds, EndOf}
-use Rattle.vl_session.specs.Seen.{Effect, looks}
+use Rattle.vl_session.specs.Seen.{looks}
 use Rattle.vl_session.specs.Turns.{Turn}
 
 -- The next turn of the caller's is the one in which it saw what the reply tells of.
