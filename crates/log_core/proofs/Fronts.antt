@@ -8,7 +8,7 @@ use Rattle.log_model.specs.Batches.{AreOf}
 use Rattle.log_model.specs.Core.{Contents, HoldsEach, Stands, count_of, held_limit, parts_of}
 use Rattle.log_model.specs.History.{History, Numbered, entry_rows, numbered}
 use Rattle.log_model.proofs.Joining.{parts_are_of}
-use Rattle.log_core.specs.Commits.{AreFront}
+use Rattle.log_model.specs.Core.{AreFront}
 
 HoldsEach-take : {P : Type 0} (rows : P → List Numbered) (k n : ℕ) (parts : List P) (entries : History)
     → HoldsEach rows n parts entries → HoldsEach rows n (take k parts) (take k entries)

@@ -6,15 +6,16 @@ use Rattle.std.specs.List.{flat_map}
 use Rattle.std.specs.List.Sorted.{IsPermutation}
 use Rattle.std.proofs.lemmas.List.{take-map}
 use Rattle.std.proofs.lemmas.List.Elements.{All-head, All-tail}
-use Rattle.log_model.specs.Batches.{AreOf, batch_rows, swapped}
-use Rattle.log_model.specs.Core.{Contents, Goes, Stands, after, commit, count_of, held_limit, nothing, with_part}
+use Rattle.log_model.specs.Batches.{AreOf, batch_rows}
+use Rattle.log_model.specs.Core.{AreFront, Contents, Goes, Stands, after, commit, count_of, held_limit, nothing, swapped}
+use Rattle.log_model.specs.Core.{with_part}
 use Rattle.log_model.specs.History.{AreBatch, AreRowsOf, Entry, History, Numbered, entry_rows, numbered, numbered_in}
 use Rattle.log_model.specs.History.{with_batch}
 use Rattle.log_model.proofs.Joining.{numbered_batches, stands_swapped}
 use Rattle.log_model.proofs.Numbering.{batch_is_one, batch_with_number}
 use Rattle.log_model.proofs.Standing.{stands_after}
 use Rattle.std.proofs.lemmas.List.Sorted.{IsPermutation-refl}
-use Rattle.log_core.specs.Commits.{AreFront, GoesBy, HaveNumber, StandsWith}
+use Rattle.log_core.specs.Commits.{GoesBy, HaveNumber, StandsWith}
 use Rattle.log_core.specs.Faults.{IsRefused}
 use Rattle.log_core.specs.declared.fault.CommitFault.{CommitFault}
 use Rattle.log_core.specs.declared.fault.CommitFault.TheVariants.{Memory}

@@ -1,9 +1,8 @@
--- What a commit of a part does to the shelf, and when a swap may be asked for.
-use Rattle.std.specs.Prelude.{◌≡◌, ℕ, ◌+◌, ◌<◌, ◌≤◌, List, length, take}
+-- What a commit of a part does to the shelf.
+use Rattle.std.specs.Prelude.{◌≡◌, ℕ, ◌+◌, ◌<◌, List, length}
 use Rattle.std.specs.List.Sorted.{IsPermutation}
-use Rattle.log_model.specs.Batches.{AreOf}
 use Rattle.log_model.specs.Core.{Contents, Goes, Stands, after, commit, count_of, with_part}
-use Rattle.log_model.specs.History.{AreRowsOf, Entry, History, Numbered, batches_in, entry_rows}
+use Rattle.log_model.specs.History.{AreRowsOf, Entry, History, Numbered, entry_rows}
 use Rattle.log_model.specs.History.{numbered_in, with_batch}
 use Rattle.log_model.specs.Row.{Batch}
 
@@ -26,9 +25,3 @@ abbrev pub StandsWith : {P : Type 0} → (P → List Numbered) → Contents P �
 StandsWith rows old part new =
     (history : History) (entry : Entry) → AreRowsOf (rows part) (entry_rows entry) → Stands rows old history
     → Stands rows new (after history (commit entry))
-
--- The parts hold the first `front` batches of a history for which the shelf stands.
-abbrev pub AreFront : {P : Type 0} → (P → List Numbered) → Contents P → ℕ → List P → Type 0
-AreFront rows held front days =
-    (history : History) × Stands rows held history × (front ≤ length history)
-    × AreOf rows days (take front (batches_in history))

@@ -1,10 +1,10 @@
 ghost use Rattle.std.specs.Prelude.{◌≡◌, ◌+◌, ◌^◌, ◌<◌, ◌≤◌, length, None, Some, OnErr, OnOk, IfErr, IfOk, []};
 ghost use Rattle.std.specs.Prelude.{MatchResult};
 ghost use Rattle.std.specs.Arc.{arc_value};
-ghost use Rattle.log_model.specs.Batches.{swapped};
-ghost use Rattle.log_model.specs.Core.{Goes, Stands, StandsAfterAll, count_of, held_limit, look, nothing, with_part};
+ghost use Rattle.log_model.specs.Core.{AreFront, Goes, Stands, StandsAfterAll, count_of, held_limit, look, nothing};
+ghost use Rattle.log_model.specs.Core.{swap, swapped, with_part};
 ghost use Rattle.log_model.specs.History.{AreBatch, History, with_batch};
-ghost use Rattle.log_core.specs.Commits.{AreFront, GoesBy, HaveNumber, HoldsNext, StandsWith};
+ghost use Rattle.log_core.specs.Commits.{GoesBy, HaveNumber, HoldsNext, StandsWith};
 ghost use Rattle.log_core.specs.Faults.{IsPartRefused, IsRefused, IsSwapRefused, commit_fault};
 ghost use Rattle.log_core.specs.Offers.{IsSameOffer, offered};
 ghost use Rattle.log_core.specs.Shared.{shared_parts};
@@ -27,7 +27,8 @@ const LAST_BATCH: u64 = i64::MAX as u64;
 /// The state that all callers share: the accepted batches, the first of them as day parts, and each other one as a part
 /// of its own.
 ///
-/// It always stands for a history of these batches. [`stands_after_all`] says so of every list of commits and looks.
+/// It always stands for a history of these batches. [`stands_after_all`] says so of every list of commits, looks and
+/// swaps.
 #[derive(Drop)]
 pub struct Shelf<P: Held> {
     state: Arc<State<P>>,
@@ -132,6 +133,8 @@ impl<P: Held> Shelf<P> {
     pub fn swap(&mut self, alloc: Global, front: u64, days: Vec<Arc<P>>) -> Result<(), SwapFault>
         requires { AreFront P.numbered self.old front (shared_parts days.items) }
         ensures ok { OnOk result (self.new ≡ swapped self.old front (shared_parts days.items)) }
+        // So it stands for the same history.
+        ensures goes { OnOk result (Goes P.numbered self.old (swap front) self.new) }
         ensures up { OnOk result (self.old.settled ≤ front) }
         ensures behind { IfErr result (IsSwapRefused self.old.settled front) }
         ensures err { OnErr result (self.new ≡ self.old) }
@@ -229,8 +232,8 @@ fn swapped_state<P: Drop>(
 }
 
 /// Over every list of steps, of any callers, the shelf stands for the history of the batches that were committed. The
-/// steps are those of which `Shelf::commit` and `Shelf::look` say that they happen. This function does nothing: its
-/// contract is the law.
+/// steps are those of which `Shelf::commit`, `Shelf::look` and `Shelf::swap` say that they happen. This function does
+/// nothing: its contract is the law.
 pub fn stands_after_all<P: Held>()
     ensures { StandsAfterAll P.numbered }
 {}

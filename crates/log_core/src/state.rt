@@ -3,7 +3,7 @@ ghost use Rattle.std.specs.Prelude.{◌≡◌, ◌+◌, ◌-◌, ◌++◌, ◌^�
 ghost use Rattle.std.specs.Prelude.{IfNone, IfSome};
 ghost use Rattle.std.specs.Prelude.{drop, length, map, slice_get, vec_capacity, vec_len};
 ghost use Rattle.std.specs.Arc.{arc_value};
-ghost use Rattle.log_model.specs.Batches.{swapped};
+ghost use Rattle.log_model.specs.Core.{swapped};
 ghost use Rattle.log_model.specs.Core.{count_of, nothing, parts_of, with_part};
 ghost use Rattle.log_core.specs.Offers.{IsSameOffer, offered};
 ghost use Rattle.log_core.specs.Shared.{AreChunks, AreFilled, HasRoom, joined, lists_in, parts_in, shared_parts};

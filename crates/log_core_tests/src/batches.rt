@@ -2,7 +2,7 @@
 ghost use Rattle.std.specs.Prelude.{◌≡◌, ◌≤◌, IfOk, IfSome, length, take};
 ghost use Rattle.log_model.specs.Core.{parts_of};
 ghost use Rattle.log_model.specs.History.{AreBatch};
-ghost use Rattle.log_core.specs.Commits.{AreFront};
+ghost use Rattle.log_model.specs.Core.{AreFront};
 ghost use Rattle.log_core.specs.Shared.{shared_parts};
 
 use log_core::{CommitFault, Shelf, Snapshot, SwapFault};

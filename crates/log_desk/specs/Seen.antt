@@ -1,7 +1,7 @@
 -- Who a caller of the desk is, what it has seen of the history, and how that grows.
 use Rattle.std.specs.Prelude.{◌≡◌, ℕ, ◌<◌, ◌≤◌, Bool, true, List, [], ◌∷◌, ◌++◌, length, Some}
 use Rattle.std.specs.List.{AllByRecursion}
-use Rattle.log_model.specs.History.{Entry, History, entry_maker, entry_rows}
+use Rattle.log_model.specs.History.{Entry, History, IsBatchEntry, entry_maker}
 use Rattle.log_model.specs.Row.{Batch}
 use Rattle.turn_lock.specs.Entries.{is_among}
 use Rattle.turn_lock.specs.declared.view.TurnEnd.{TurnEnd}
@@ -75,7 +75,7 @@ pub record Gains (caller : Caller) (old new : Seen) (batch : Batch) : Type 0 whe
   pub longer : new.history ≡ old.history ++ (others ++ entry ∷ [])
   pub strange : AllByRecursion (IsStrange caller) others
   pub own : is_own caller entry ≡ true
-  pub rows : entry_rows entry ≡ batch
+  pub rows : IsBatchEntry entry batch
   pub settled : old.settled ≤ new.settled
   pub stays : 0 < caller.may_settle → new.settled ≡ old.settled
   pub turn : TakesTurn old new

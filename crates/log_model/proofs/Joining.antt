@@ -4,8 +4,8 @@ use Rattle.std.proofs.lemmas.Grind.{flat_map-append}
 use Rattle.std.proofs.lemmas.List.Sorted.{IsPermutation-append, IsPermutation-refl}
 use Rattle.std.specs.List.{AllByRecursion}
 use Rattle.std.specs.List.Sorted.{IsPermutation}
-use Rattle.log_model.specs.Batches.{AreOf, AreRising, IsBefore, batch_rows, batch_rows_after, swapped}
-use Rattle.log_model.specs.Core.{Contents, HoldsEach, Stands, parts_of}
+use Rattle.log_model.specs.Batches.{AreOf, AreRising, IsBefore, batch_rows, batch_rows_after}
+use Rattle.log_model.specs.Core.{Contents, HoldsEach, Stands, parts_of, swapped}
 use Rattle.log_model.specs.History.{History, Numbered, batches_in, entry_rows, numbered, numbered_after, numbered_from, numbered_in}
 use Rattle.log_model.specs.Row.{Batch, Row}
 
@@ -37,7 +37,7 @@ all_from P batch place (row ∷ rows) each = (
   all_from P batch (suc place) rows (λ k r from. each k r (omega arith)),
 )
 
-all_after : (P : Numbered → Type 0) (count : ℕ) (batches : List Batch)
+pub all_after : (P : Numbered → Type 0) (count : ℕ) (batches : List Batch)
     → ((n k : ℕ) (row : Row) → count < n → P (record { batch = n; place = k; row = row }))
     → AllByRecursion P (batch_rows_after count batches)
 all_after P count [] each = tt

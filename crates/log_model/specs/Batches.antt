@@ -1,18 +1,9 @@
 -- The history as a list of batches, what parts hold of it together, and the order of its rows.
-use Rattle.std.specs.Prelude.{◌≡◌, ◌⊎◌, ℕ, suc, ◌-◌, ◌<◌, List, [], ◌∷◌, ◌++◌, drop, flat_map}
+use Rattle.std.specs.Prelude.{◌≡◌, ◌⊎◌, ℕ, suc, ◌<◌, List, [], ◌∷◌, ◌++◌, flat_map}
 use Rattle.std.specs.List.{AllByRecursion}
 use Rattle.std.specs.List.Sorted.{IsPermutation}
-use Rattle.log_model.specs.Core.{Contents}
-use Rattle.log_model.specs.History.{Entry, Numbered, entry_rows, numbered_in}
+use Rattle.log_model.specs.History.{Numbered, numbered_in}
 use Rattle.log_model.specs.Row.{Batch}
-
--- the entry is this batch, with its rows in their order
-abbrev pub IsBatchEntry : Entry → Batch → Type 0
-IsBatchEntry entry batch = entry_rows entry ≡ batch
-
--- the rows of the entry with this number, from place 0 on
-abbrev pub entry_numbered : ℕ → Entry → List Numbered
-entry_numbered number entry = numbered_in number (entry_rows entry)
 
 -- the numbered rows of batches that come after the first `count`
 abbrev pub batch_rows_after : ℕ → List Batch → List Numbered
@@ -26,11 +17,6 @@ batch_rows batches = batch_rows_after 0 batches
 -- Together the parts hold the rows of exactly these batches, each once and in any order.
 abbrev pub AreOf : {P : Type 0} → (P → List Numbered) → List P → List Batch → Type 0
 AreOf rows parts batches = IsPermutation (flat_map rows parts) (batch_rows batches)
-
--- The first `front` batches are held as these day parts. The later ones stay as they are.
-abbrev pub swapped : {P : Type 0} → Contents P → ℕ → List P → Contents P
-swapped held front days =
-    record { settled = front; days = days; unsettled = drop (front - held.settled) held.unsettled }
 
 -- a row comes before another: its batch is earlier, or the batch is the same and its place is earlier
 abbrev pub IsBefore : Numbered → Numbered → Type 0

@@ -18,8 +18,8 @@ use Rattle.log_model.proofs.Joining.{numbered_rising, parts_joined}
 use Rattle.log_model.proofs.Numbering.{rows_in_numbered}
 use Rattle.query_run.specs.Order.{IsOrder, IsPlaced, part_at}
 use Rattle.query_run.specs.declared.order.Place.{Place}
-use Rattle.query_run.proofs.Rising.{AreSorted, HaveAllOf, first_of, firsts, firsts-append, joined, joined_rise}
-use Rattle.query_run.proofs.Rising.{one_first, one_order}
+use Rattle.log_model.proofs.OneHistory.{HaveAllOf, one_order}
+use Rattle.query_run.proofs.Rising.{AreSorted, first_of, firsts, firsts-append, joined, joined_rise, one_first}
 
 abbrev flat : List (List Numbered) → List Numbered
 flat parts = flat_map (λ part. part) parts

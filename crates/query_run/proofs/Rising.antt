@@ -1,4 +1,4 @@
--- Rows that each come before all later ones stand in one order only.
+-- Batches in order, each once, have rows that each come before all later ones.
 use Rattle.std.proofs.Common.{◌≡◌, ◌⊎◌, inl, inr, ℕ, zero, suc, ◌+◌, ◌<◌, ◌≤◌, Bool, ◌&&◌, ◌==◌, cond, List, [], ◌∷◌}
 use Rattle.std.proofs.Common.{◌++◌}
 use Rattle.std.proofs.Common.{flat_map, map, refl, sym, ap, subst, ◌∙◌, arith}
@@ -8,63 +8,6 @@ use Rattle.log_model.specs.Batches.{AreRising, IsBefore}
 use Rattle.log_model.specs.History.{Numbered, numbered_from, numbered_in}
 use Rattle.log_model.specs.Row.{Row}
 use native.Mathlib.Decide.{ℕ_discrete}
-
--- ---- one order
-
--- what holds of each of the first holds of each of the others
-abbrev pub HaveAllOf : List Numbered → List Numbered → Type 1
-HaveAllOf xs ys = (P : Numbered → Type 0) → AllByRecursion P xs → AllByRecursion P ys
-
-both_ways : (x y : Numbered) → IsBefore x y → IsBefore y x → ⊥
-both_ways x y (inl a) (inl b) = omega arith
-both_ways x y (inl a) (inr b) = let same = b.0 in omega arith
-both_ways x y (inr a) (inl b) = let same = a.0 in omega arith
-both_ways x y (inr a) (inr b) = let m = a.1 in let n = b.1 in omega arith
-
-first_too : (x : Numbered) (xs : List Numbered) → AllByRecursion (IsBefore x) xs
-    → AllByRecursion (λ z. (z ≡ x) ⊎ IsBefore x z) xs
-first_too x [] h = tt
-first_too x (z ∷ xs) h = (inr h.0, first_too x xs h.1)
-
-first_same : (x y : Numbered) → (y ≡ x) ⊎ IsBefore x y → (x ≡ y) ⊎ IsBefore y x → x ≡ y
-first_same x y (inl e) k = sym e
-first_same x y (inr b) (inl e) = e
-first_same x y (inr b) (inr c) = absurd (both_ways x y b c)
-
-not_itself : (x z : Numbered) → IsBefore x z → z ≡ x → ⊥
-not_itself x z before same = both_ways x x (subst (IsBefore x) same before) (subst (IsBefore x) same before)
-
-all_but : (P : Numbered → Type 0) (x : Numbered) (zs : List Numbered) → AllByRecursion (IsBefore x) zs
-    → AllByRecursion (λ z. (z ≡ x) ⊎ P z) zs → AllByRecursion P zs
-all_but P x [] later h = tt
-all_but P x (z ∷ zs) later h = (pick h.0, all_but P x zs later.1 h.1)
-  where
-    pick : (z ≡ x) ⊎ P z → P z
-    pick (inl e) = absurd (not_itself x z later.0 e)
-    pick (inr p) = p
-
-or_all : (P : Numbered → Type 0) (x : Numbered) (zs : List Numbered) → AllByRecursion P zs
-    → AllByRecursion (λ z. (z ≡ x) ⊎ P z) zs
-or_all P x [] h = tt
-or_all P x (z ∷ zs) h = (inr h.0, or_all P x zs h.1)
-
-rest_has : (x y : Numbered) (xs ys : List Numbered) → x ≡ y → AllByRecursion (IsBefore y) ys
-    → HaveAllOf (x ∷ xs) (y ∷ ys) → HaveAllOf xs ys
-rest_has x y xs ys same later all P h =
-    let Q : Numbered → Type 0 = λ z. (z ≡ x) ⊎ P z in
-    all_but P x ys (subst (λ w. AllByRecursion (IsBefore w) ys) (sym same) later) (all Q (inl refl, or_all P x xs h)).1
-
-pub one_order : (xs ys : List Numbered) → AreRising xs → AreRising ys → HaveAllOf xs ys → HaveAllOf ys xs → xs ≡ ys
-one_order [] [] rx ry there back = refl
-one_order [] (y ∷ ys) rx ry there back = absurd (there (λ z. ⊥) tt).0
-one_order (x ∷ xs) [] rx ry there back = absurd (back (λ z. ⊥) tt).0
-one_order (x ∷ xs) (y ∷ ys) rx ry there back =
-    let same : x ≡ y =
-    first_same x y (there (λ z. (z ≡ x) ⊎ IsBefore x z) (inl refl, first_too x xs rx.0)).0
-    (back (λ z. (z ≡ y) ⊎ IsBefore y z) (inl refl, first_too y ys ry.0)).0 in
-    ap (λ z. z ∷ xs) same
-    ∙ ap (λ l. y ∷ l) (one_order xs ys rx.1 ry.1 (rest_has x y xs ys same ry.0 there)
-    (rest_has y x ys xs (sym same) rx.0 back))
 
 -- ---- how many rows are the first of a batch
 

@@ -1,6 +1,5 @@
 use Rattle.std.proofs.Common.{◌≡◌, ◌≤◌, arith, ap, sym, subst, ◌∙◌}
-use Rattle.log_model.specs.Core.{Contents}
-use Rattle.log_core.specs.Commits.{AreFront}
+use Rattle.log_model.specs.Core.{AreFront, Contents}
 use Rattle.log_core.specs.Shared.{shared_parts}
 use Rattle.log_core.proofs.Standing.{stands_after_swap}
 use Rattle.log_core.proofs.shelf.Shelf.swap.Goals as goal
