@@ -1,0 +1,34 @@
+//! A `Row` as a row that is lent.
+use crate::lent::LentRow;
+use crate::value::Value;
+use vl_row::{Row, Stream};
+
+impl LentRow for Row {
+    ghost event = { λ row. row };
+
+    ghost cells = { λ row. row.fields };
+
+    fn time(&self) -> i64 {
+        Row::time(self)
+    }
+
+    fn stream(&self) -> &Stream {
+        Row::stream(self)
+    }
+
+    fn value(&self, name: &str) -> Value<'_> {
+        Value::Text(Row::value(self, name))
+    }
+
+    fn cell_count(&self) -> usize {
+        self.fields().len()
+    }
+
+    fn name_at(&self, place: usize) -> &str {
+        self.fields().at(place).name()
+    }
+
+    fn value_at(&self, place: usize) -> Value<'_> {
+        Value::Text(self.fields().at(place).value())
+    }
+}
