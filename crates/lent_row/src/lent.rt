@@ -1,11 +1,12 @@
 //! What is asked of a row, wherever its fields lie.
-ghost use Rattle.std.specs.Prelude.{◌≡◌, ◌<◌, ℕ, List, pos, filter, length};
+ghost use Rattle.std.specs.Prelude.{◌≡◌, ◌<◌, ℕ, List, pos, filter, length, IfOk};
 ghost use Rattle.log_model.specs.Field.{Field, field_value};
 ghost use Rattle.log_model.specs.Row.{Row as Event, IsRow};
 ghost use Rattle.lent_row.specs.Cells.{cell_at, has_value, value_text};
 
 use crate::value::Value;
-use vl_row::Stream;
+use std::alloc::{AllocError, Global};
+use vl_row::{FieldList, Stream};
 
 /// A row that is lent: a `Row`, or one of the rows that lie in columns.
 ///
@@ -31,9 +32,7 @@ pub trait LentRow {
 
     /// Returns how many cells there are.
     fn cell_count(&self) -> usize
-        ensures count { result ≡ length (cells self.now) }
-        ensures fields { filter has_value (cells self.now) ≡ (event self.now).fields }
-        ensures rules { IsRow (event self.now) };
+        ensures { result ≡ length (cells self.now) };
 
     /// Returns the name of the cell at this place, counted from 0.
     fn name_at(&self, place: usize) -> &str
@@ -44,4 +43,13 @@ pub trait LentRow {
     fn value_at(&self, place: usize) -> Value<'_>
         requires { place < length (cells self.now) }
         ensures { value_text result ≡ (cell_at (cells self.now) place).1 };
+
+    /// Returns the fields of the row, in memory of their own, with room for this many more.
+    fn copy_fields(&self, alloc: Global, more: usize) -> Result<FieldList, AllocError>
+        ensures { IfOk result (λ fields. fields ≡ (event self.now).fields) };
+
+    /// Does nothing: its contract is the law of rows that are lent.
+    fn rules(&self)
+        ensures row { IsRow (event self.now) }
+        ensures fields { filter has_value (cells self.now) ≡ (event self.now).fields };
 }

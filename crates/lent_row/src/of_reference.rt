@@ -1,7 +1,8 @@
 //! A reference to a row that is lent.
 use crate::lent::LentRow;
 use crate::value::Value;
-use vl_row::Stream;
+use std::alloc::{AllocError, Global};
+use vl_row::{FieldList, Stream};
 
 impl<'r, R: LentRow> LentRow for &'r R {
     ghost event = { λ row. R.event row.now };
@@ -30,5 +31,13 @@ impl<'r, R: LentRow> LentRow for &'r R {
 
     fn value_at(&self, place: usize) -> Value<'_> {
         R::value_at(*self, place)
+    }
+
+    fn copy_fields(&self, alloc: Global, more: usize) -> Result<FieldList, AllocError> {
+        R::copy_fields(*self, alloc, more)
+    }
+
+    fn rules(&self) {
+        R::rules(*self)
     }
 }

@@ -1,7 +1,8 @@
 //! A `Row` as a row that is lent.
 use crate::lent::LentRow;
 use crate::value::Value;
-use vl_row::{Row, Stream};
+use std::alloc::{AllocError, Global};
+use vl_row::{FieldList, Row, Stream};
 
 impl LentRow for Row {
     ghost event = { λ row. row };
@@ -30,5 +31,13 @@ impl LentRow for Row {
 
     fn value_at(&self, place: usize) -> Value<'_> {
         Value::Text(self.fields().at(place).value())
+    }
+
+    fn copy_fields(&self, alloc: Global, more: usize) -> Result<FieldList, AllocError> {
+        self.fields().copy_with_room(alloc, more)
+    }
+
+    fn rules(&self) {
+        let _fields = self.fields();
     }
 }

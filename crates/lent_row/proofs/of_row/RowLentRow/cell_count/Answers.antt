@@ -1,5 +1,0 @@
-use Rattle.lent_row.proofs.Filled.{all_filled}
-use Rattle.lent_row.proofs.of_row.RowLentRow.cell_count.Goals as goal
-
-pub returns-clause-fields : goal.returns-clause-fields
-returns-clause-fields c = all_filled c.args.self.now.fields c.fields.ensures.rules.fields
