@@ -2,10 +2,11 @@
 ghost use Rattle.std.specs.Prelude.{◌≡◌, IfOk, IsTrue};
 ghost use Rattle.lq_filter.specs.Computed.{computed_text, is_source};
 
+use lent_row::LentRow;
 use std::alloc::{AllocError, Global};
 use stream_label::{label_text, stream_id};
 use time_text::write_moment;
-use vl_row::{Row, Text};
+use vl_row::Text;
 
 /// A field of a row that is not stored.
 #[derive(Clone, Copy)]
@@ -33,8 +34,8 @@ impl Computed {
     }
 
     /// Returns the text of the field.
-    pub(crate) fn text(self, alloc: Global, row: &Row) -> Result<Text, AllocError>
-        ensures { IfOk result (λ text. text ≡ computed_text self row.now) }
+    pub(crate) fn text<R: LentRow>(self, alloc: Global, row: &R) -> Result<Text, AllocError>
+        ensures { IfOk result (λ text. text ≡ computed_text self (R.event row.now)) }
     {
         let mut text = Text::new();
         match self {

@@ -14,7 +14,7 @@ use crate::subject::Subject;
 use crate::tree::Tree;
 use lq_ast::Filter;
 use std::alloc::{AllocError, Global};
-use vl_row::FieldList;
+use vl_row::{FieldList, Row};
 
 /// A filter that is asked of records, prepared.
 #[derive(Drop)]
@@ -89,6 +89,7 @@ impl<'p> RecordScan<'p> {
         ensures value { IfOk result (λ found. found ≡ record_holds (record_condition self.old) r.now) }
         ensures filter { record_condition self.new ≡ record_condition self.old }
     {
-        self.filter.holds(&mut self.asking, &Subject::Record(r))
+        let subject: Subject<'_, Row> = Subject::Record(r);
+        self.filter.holds(&mut self.asking, &subject)
     }
 }

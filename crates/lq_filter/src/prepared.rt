@@ -15,9 +15,10 @@ use crate::pipes::read_pipes;
 use crate::room::Room;
 use crate::subject::Subject;
 use crate::tree::Tree;
+use lent_row::LentRow;
 use lq_ast::{Query, Select};
 use std::alloc::{AllocError, Global};
-use vl_row::{Row, Stream};
+use vl_row::Stream;
 
 /// A query whose filter is prepared.
 #[derive(Drop)]
@@ -43,8 +44,8 @@ pub fn prepare(alloc: Global, q: &Query) -> Result<Prepared, PrepareFault>
 impl Prepared {
     /// Returns whether the filter holds for the row, at the moment `now`, in nanoseconds since 1970. Memory is taken
     /// only where a pattern, a text in any case of its letters, or a computed text of the row is asked.
-    pub fn holds(&self, alloc: Global, now: i64, row: &Row) -> Result<bool, AllocError>
-        ensures { IfOk result (λ found. found ≡ holds now (condition_of self.now) row.now) }
+    pub fn holds<R: LentRow>(&self, alloc: Global, now: i64, row: &R) -> Result<bool, AllocError>
+        ensures { IfOk result (λ found. found ≡ holds now (condition_of self.now) (R.event row.now)) }
     {
         let mut scan = self.scan(alloc, now);
         scan.holds(row)
@@ -109,8 +110,9 @@ pub struct Scan<'p> {
 
 impl<'p> Scan<'p> {
     /// Returns whether the filter holds for the row.
-    pub fn holds(&mut self, row: &Row) -> Result<bool, AllocError>
-        ensures value { IfOk result (λ found. found ≡ holds (moment_of self.old) (scanned self.old) row.now) }
+    pub fn holds<R: LentRow>(&mut self, row: &R) -> Result<bool, AllocError>
+        ensures value { IfOk result (λ found.
+            found ≡ holds (moment_of self.old) (scanned self.old) (R.event row.now)) }
         ensures filter { scanned self.new ≡ scanned self.old }
         ensures moment { moment_of self.new ≡ moment_of self.old }
     {

@@ -19,6 +19,7 @@ use crate::labels::Selector;
 use crate::room::Room;
 use crate::subject::Subject;
 use crate::value::FieldTest;
+use lent_row::LentRow;
 use lq_ast::{Filter, Select};
 use std::alloc::AllocError;
 use vl_row::{Stream, Text};
@@ -169,12 +170,13 @@ impl Tree {
     /// Returns whether the filter holds for the subject. The filters of an AND or an OR are asked in their order, up to
     /// the first that settles it.
     #[cycle(holding)]
-    pub(crate) fn holds<'p>(
+    pub(crate) fn holds<'p, R: LentRow>(
         &'p self,
         asking: &mut Asking<'p>,
-        subject: &Subject<'_>,
+        subject: &Subject<'_, R>,
     ) -> Result<bool, AllocError>
-        ensures { IfOk result (λ found. found ≡ is_met (condition_of_tree self.now) (subject_of subject.now)) }
+        ensures { IfOk result
+            (λ found. found ≡ is_met (condition_of_tree self.now) (subject_of R.event subject.now)) }
     {
         match self {
             Tree::Always => Ok(true),
@@ -190,15 +192,16 @@ impl Tree {
 }
 
 // A record is of the stream without labels.
-fn selects<'p>(
+fn selects<'p, R: LentRow>(
     selector: &'p Selector,
     asking: &mut Asking<'p>,
-    subject: &Subject<'_>,
+    subject: &Subject<'_, R>,
 ) -> Result<bool, AllocError>
-    ensures { IfOk result (λ found. found ≡ selects (prepared_groups selector.now) (subject_of subject.now).labels) }
+    ensures { IfOk result
+        (λ found. found ≡ selects (prepared_groups selector.now) (subject_of R.event subject.now).labels) }
 {
     match subject {
-        Subject::Row { row, .. } => selector.selects(asking, row.stream()),
+        Subject::Row { row, .. } => selector.selects(asking, (*row).stream()),
         Subject::Record(_) => selector.selects(asking, &Stream::new(asking.alloc)),
     }
 }
@@ -232,13 +235,13 @@ fn selector_among<'t>(trees: &'t [Tree], select: &Select) -> Option<&'t Selector
 }
 
 #[cycle(holding)]
-fn all_hold<'p>(
+fn all_hold<'p, R: LentRow>(
     trees: &'p [Tree],
     asking: &mut Asking<'p>,
-    subject: &Subject<'_>,
+    subject: &Subject<'_, R>,
 ) -> Result<bool, AllocError>
-    ensures { IfOk result
-        (λ found. found ≡ are_all_met (conditions (map condition_of_tree trees.now)) (subject_of subject.now)) }
+    ensures { IfOk result (λ found.
+        found ≡ are_all_met (conditions (map condition_of_tree trees.now)) (subject_of R.event subject.now)) }
 {
     for tree in trees {
         let found = tree.holds(asking, subject)?;
@@ -250,13 +253,13 @@ fn all_hold<'p>(
 }
 
 #[cycle(holding)]
-fn some_holds<'p>(
+fn some_holds<'p, R: LentRow>(
     trees: &'p [Tree],
     asking: &mut Asking<'p>,
-    subject: &Subject<'_>,
+    subject: &Subject<'_, R>,
 ) -> Result<bool, AllocError>
-    ensures { IfOk result
-        (λ found. found ≡ is_some_met (conditions (map condition_of_tree trees.now)) (subject_of subject.now)) }
+    ensures { IfOk result (λ found.
+        found ≡ is_some_met (conditions (map condition_of_tree trees.now)) (subject_of R.event subject.now)) }
 {
     for tree in trees {
         let found = tree.holds(asking, subject)?;

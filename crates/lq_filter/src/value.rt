@@ -1,5 +1,6 @@
 ghost use Rattle.std.specs.Prelude.{◌≡◌, ◌&&◌, ◌≤◌, ◌∷◌, ℕ, List, false, not, nat_le, length, chars};
 ghost use Rattle.std.specs.Prelude.{IfOk, IfSome, IsTrue, MatchOption, if◌then◌else◌, string_bytes};
+ghost use Rattle.std.specs.Fmt.{signed_decimal};
 ghost use Rattle.std.specs.Option.{option_map_or};
 ghost use Rattle.std.specs.Ordering.{is_lt};
 ghost use Rattle.log_model.specs.Field.{bytes_cmp, is_empty};
@@ -9,6 +10,7 @@ ghost use Rattle.log_model.specs.Words.{occurs};
 ghost use Rattle.lq_ast.specs.Holds.{is_within};
 ghost use Rattle.lq_ast.specs.Phrases.{case_folded, in_order};
 ghost use Rattle.word_tokens.specs.Prefix.{occurs_as_prefix};
+ghost use Rattle.lent_row.specs.Cells.{value_text};
 ghost use Rattle.lq_filter.specs.Computed.{is_source};
 
 use crate::asking::Asking;
@@ -17,9 +19,11 @@ use crate::computed::Computed;
 use crate::pattern::Pattern;
 use crate::subject::Subject;
 use caseless::Caseless;
+use itoa::Buffer;
+use lent_row::{LentRow, Value};
 use std::alloc::{AllocError, Global};
 use std::marker::Model;
-use vl_row::{Row, Text, number};
+use vl_row::{Text, number};
 use word_tokens::Finder;
 
 /// What is asked of the value of a field.
@@ -42,6 +46,27 @@ pub(crate) enum ValueTest {
 
 impl ValueTest {
     ghost use Rattle.lq_filter.specs.Value.{value_holds};
+
+    // An integer is printed only where its text is asked.
+    fn holds_of<'p>(&'p self, asking: &mut Asking<'p>, value: Value<'_>) -> Result<bool, AllocError>
+        ensures { IfOk result (λ found. found ≡ value_holds self.now (value_text value.entry)) }
+    {
+        match value {
+            Value::Text(text) => self.holds(asking, text),
+            Value::Integer(integer) => self.holds_of_integer(asking, integer),
+        }
+    }
+
+    fn holds_of_integer<'p>(
+        &'p self,
+        asking: &mut Asking<'p>,
+        integer: i64,
+    ) -> Result<bool, AllocError>
+        ensures { IfOk result (λ found. found ≡ value_holds self.now (signed_decimal integer)) }
+    {
+        let mut digits = Buffer::new();
+        self.holds(asking, digits.format(integer))
+    }
 
     fn holds<'p>(&'p self, asking: &mut Asking<'p>, value: &str) -> Result<bool, AllocError>
         ensures { IfOk result (λ found. found ≡ value_holds self.now value.now) }
@@ -93,30 +118,35 @@ impl FieldTest {
     }
 
     /// Returns whether the value of the field is as asked.
-    pub(crate) fn holds<'p>(
+    pub(crate) fn holds<'p, R: LentRow>(
         &'p self,
         asking: &mut Asking<'p>,
-        subject: &Subject<'_>,
+        subject: &Subject<'_, R>,
     ) -> Result<bool, AllocError>
         ensures { IfOk result
-            (λ found. found ≡ value_holds self.now.test ((subject_of subject.now).value self.now.name)) }
+            (λ found. found ≡ value_holds self.now.test ((subject_of R.event subject.now).value self.now.name)) }
     {
         match subject {
-            Subject::Row { row, .. } => self.holds_of_row(asking, row),
+            Subject::Row { row, .. } => self.holds_of_row(asking, *row),
             Subject::Record(fields) => self.test.holds(asking, fields.get(self.name.as_str())),
         }
     }
 
     #[tactic(auto, using(crate::proofs::Values::computed_value, crate::proofs::Values::stored_value))]
-    fn holds_of_row<'p>(&'p self, asking: &mut Asking<'p>, row: &Row) -> Result<bool, AllocError>
-        ensures { IfOk result (λ found. found ≡ value_holds self.now.test (value_of row.now self.now.name)) }
+    fn holds_of_row<'p, R: LentRow>(
+        &'p self,
+        asking: &mut Asking<'p>,
+        row: &R,
+    ) -> Result<bool, AllocError>
+        ensures { IfOk result
+            (λ found. found ≡ value_holds self.now.test (value_of (R.event row.now) self.now.name)) }
     {
         match self.computed {
             Some(computed) => {
                 let text = computed.text(asking.alloc, row)?;
                 self.test.holds(asking, text.as_str())
             }
-            None => self.test.holds(asking, row.value(self.name.as_str())),
+            None => self.test.holds_of(asking, row.value(self.name.as_str())),
         }
     }
 }

@@ -4,7 +4,7 @@ use Rattle.lq_filter.proofs.Conditions.{all_met-list, some_met-list}
 use Rattle.lq_filter.proofs.tree.+holding.Goals as goal
 
 pub all_hold-loop-tree-init : goal.all_hold-loop-tree-init
-all_hold-loop-tree-init t c = all_met-list condition_of_tree (subject_of c.args.subject.now) c.args.trees.now
+all_hold-loop-tree-init g t c = all_met-list condition_of_tree (subject_of g.R.LentRow.event c.args.subject.now) c.args.trees.now
 
 pub some_holds-loop-tree-init : goal.some_holds-loop-tree-init
-some_holds-loop-tree-init t c = some_met-list condition_of_tree (subject_of c.args.subject.now) c.args.trees.now
+some_holds-loop-tree-init g t c = some_met-list condition_of_tree (subject_of g.R.LentRow.event c.args.subject.now) c.args.trees.now
