@@ -1,6 +1,6 @@
 -- Words with their hashes, sorted, of which equal neighbours were dropped.
 use Rattle.std.proofs.Common.{◌≡◌, ℕ, Bool, true, false, cond, List, [], ◌∷◌, ◌++◌, Bor, map, take, length, ◌+◌, ◌<◌}
-use Rattle.std.proofs.Common.{get_or, inl, inr, refl, sym, ap, ◌∙◌, arith}
+use Rattle.std.proofs.Common.{None, Option, Some, get_or, inl, inr, refl, sym, ap, ◌∙◌, arith}
 use Rattle.std.specs.Prelude.{◌||◌, ◌&&◌, ◌==◌, bytes_eq}
 use Rattle.std.specs.BTreeSet.{insert_key}
 use Rattle.std.specs.Cmp.{IsTotalOrder, both_tied, unsigned_ties}
@@ -26,7 +26,7 @@ use Rattle.byte_format.proofs.Cases.{both_true}
 use Rattle.log_model.specs.Field.{bytes_cmp}
 use Rattle.token_bloom.specs.Bits.{fnv}
 use Rattle.token_bloom.specs.Filter.{with_hash, with_word}
-use Rattle.word_filter.specs.Words.{is_there}
+use Rattle.word_filter.specs.Words.{Remembers, is_there}
 use Rattle.word_filter.proofs.Sets.{same-distinct}
 use Rattle.word_filter.proofs.There.{put-there, there-kept}
 
@@ -63,7 +63,7 @@ either-first true b e = refl
 either-first false b e = absurd cc
 
 -- what was there stays there
-pub kept-there : (old words : List Hashed) (word : Hashed) (slots : List (List ℕ))
+kept-there : (old words : List Hashed) (word : Hashed) (slots : List (List ℕ))
     → HaveSameTexts (map text_in words) (map text_in old) → list_all (is_there (map text_in old)) slots ≡ true
     → list_all (is_there (map text_in (words ++ word ∷ []))) slots ≡ true
 kept-there old words word slots same e =
@@ -72,6 +72,12 @@ kept-there old words word slots same e =
     ∙ list_any-append (bytes_eq text) (map text_in words) (word.1.now ∷ [])
     ∙ either-first (list_any (bytes_eq text) (map text_in words)) (list_any (bytes_eq text) (word.1.now ∷ []))
     (same text ∙ h)) e
+
+pub kept-remembered : (old words : List Hashed) (word : Hashed) (recent : Option (List (List ℕ)))
+    → HaveSameTexts (map text_in words) (map text_in old) → Remembers (map text_in old) recent
+    → Remembers (map text_in (words ++ word ∷ [])) recent
+kept-remembered old words word None same h = h
+kept-remembered old words word (Some slots) same h = kept-there old words word slots same h
 
 -- and so is the word
 pub last-there : (words : List Hashed) (word : Hashed)

@@ -42,11 +42,9 @@ pub put-there : (texts : List (List ℕ)) (word : List ℕ) → list_any (bytes_
 put-there texts word e = right_true (is_empty word) (list_any (bytes_eq word) texts) e
 
 -- a word that is there changes nothing when it is put
-pub there-again : (texts slots : List (List ℕ)) (word : List ℕ) → 0 < length word
-    → list_all (is_there texts) slots ≡ true → list_any (bytes_eq word) slots ≡ true
+pub there-again : (texts : List (List ℕ)) (word : List ℕ) → 0 < length word → is_there texts word ≡ true
     → insert_key bytes_cmp (distinct texts) word ≡ distinct texts
-there-again texts slots word some all one =
-    let there : is_there texts word ≡ true = passes-one (is_there texts) word slots all one in
+there-again texts word some there =
     let filled : is_empty word ≡ false = le-ltb (length word) 1 (omega (arith, some)) in
     let listed : list_any (bytes_eq word) texts ≡ true = (rw filled at there) in
     put-again word (distinct texts) (distinct-rising texts) (distinct-listed word texts ∙ listed)

@@ -1,8 +1,8 @@
 -- The words of a column's values, and the filter of them.
-use Rattle.std.specs.Prelude.{ℕ, Bool, ◌||◌, IsTrue, List, ◌++◌, bytes_eq, length, map, Result, Ok}
+use Rattle.std.specs.Prelude.{◌≡◌, ℕ, Bool, true, ◌||◌, IfSome, IsTrue, List, ◌++◌, Option, bytes_eq, length, map, Result, Ok}
 use Rattle.std.specs.BTreeSet.{insert_key}
 use Rattle.std.specs.Int.{w32, w64, to_le_bytes}
-use Rattle.std.specs.List.{All, flat_map, fold, list_any, slice_range}
+use Rattle.std.specs.List.{All, flat_map, fold, list_all, list_any, slice_range}
 use Rattle.block_model.specs.Distinct.{distinct, is_listed}
 use Rattle.byte_format.specs.Format.{Format, value, followed, many, front, ◌>>=◌}
 use Rattle.byte_format.specs.Items.{number}
@@ -37,6 +37,10 @@ put_words texts text = fold (insert_key bytes_cmp) texts (words_in text)
 -- no word, or one of these texts
 abbrev pub is_there : List (List ℕ) → List ℕ → Bool
 is_there texts word = is_empty word || list_any (bytes_eq word) texts
+
+-- The words that are remembered are there, if any are.
+abbrev pub Remembers : List (List ℕ) → Option (List (List ℕ)) → Type 0
+Remembers texts recent = IfSome recent (λ slots. list_all (is_there texts) slots ≡ true)
 
 -- the number of words of 64 bits, and these words
 unfoldable pub counted_filter : List ℕ → List ℕ

@@ -1,10 +1,10 @@
 //! The filter of a column: a Bloom filter that has the words of the column's values, and the filter as bytes.
 #![tactic(auto)]
 
-ghost use Rattle.std.specs.Prelude.{◌≡◌, ◌<◌, ◌^◌, ◌≤◌, ◌+◌, ◌++◌, IfOk, OnOk, bytes_eq, length, map};
-ghost use Rattle.std.specs.Prelude.{sum_by, true};
+ghost use Rattle.std.specs.Prelude.{◌≡◌, ◌<◌, ◌^◌, ◌≤◌, ◌+◌, ◌++◌, IfOk, List, OnOk, bytes_eq, false, length, map};
+ghost use Rattle.std.specs.Prelude.{sum_by, true, ℕ};
 ghost use Rattle.std.specs.BTreeSet.{insert_key};
-ghost use Rattle.std.specs.List.{All, IsDistinct, fold, list_all};
+ghost use Rattle.std.specs.List.{All, IsDistinct, fold};
 ghost use Rattle.std.specs.Int.{w64};
 ghost use Rattle.block_model.specs.Distinct.{HaveSameTexts, distinct};
 ghost use Rattle.byte_format.specs.Format.{front, many};
@@ -13,8 +13,8 @@ ghost use Rattle.byte_format.specs.Items.{number};
 ghost use Rattle.log_model.specs.Field.{bytes_cmp};
 ghost use Rattle.token_bloom.specs.Bits.{fnv};
 ghost use Rattle.token_bloom.specs.Filter.{with_word};
-ghost use Rattle.word_filter.specs.Words.{HasWords, LeavesNoneOut, column_words, counted_filter, filter_item};
-ghost use Rattle.word_filter.specs.Words.{filter_of, filter_steps, is_there, put_words, skipped, words_in};
+ghost use Rattle.word_filter.specs.Words.{HasWords, LeavesNoneOut, Remembers, column_words, counted_filter};
+ghost use Rattle.word_filter.specs.Words.{filter_item, filter_of, filter_steps, is_there, put_words, skipped, words_in};
 
 use block_model::Recent;
 use byte_format::{Stop, put_u64s, take_u32, take_u64};
@@ -24,6 +24,13 @@ use word_tokens::words;
 
 /// For as many words as there are values there is room from the start, and for no more than these.
 const MOST_RESERVED: usize = 4_096;
+
+/// Fewer values than this, each shorter than `SHORT`, have few words. Then to remember them takes longer than to sort
+/// those that are there twice.
+const FEW: usize = 16;
+
+/// The bytes that a short value has fewer of.
+const SHORT: usize = 64;
 
 /// A list of fewer words is not thinned out before it has all of them.
 const LONG: usize = 65_536;
@@ -81,26 +88,41 @@ fn words_of<'a>(alloc: Global, values: &[&'a str]) -> Result<Vec<(u64, &'a str)>
     ensures hashes { IfOk result (λ words. All (λ w. w.0 ≡ fnv w.1.now) words.items) }
 {
     let mut words = Vec::with_capacity(alloc, values.len().min(MOST_RESERVED))?;
-    let mut recent = Recent::new(alloc, "")?;
+    let mut recent = recent_for(alloc, values)?;
     for value in values {
         put_words(&mut words, &mut recent, value)?;
     }
     Ok(words)
 }
 
+/// What remembers the words that are put, unless the values have few.
+fn recent_for<'a>(alloc: Global, values: &[&str]) -> Result<Option<Recent<'a>>, AllocError>
+    ensures { (words : List (List ℕ)) → IfOk result (Remembers words) }
+{
+    if have_few_words(values) {
+        return Ok(None);
+    }
+    let recent = Recent::new(alloc, "")?;
+    Ok(Some(recent))
+}
+
+fn have_few_words(values: &[&str]) -> bool {
+    values.len() < FEW && values.iter().all(|value| value.len() < SHORT)
+}
+
 /// Puts the words of one value to the others.
 fn put_words<'a>(
     all: &mut Vec<(u64, &'a str)>,
-    recent: &mut Recent<'a>,
+    recent: &mut Option<Recent<'a>>,
     value: &'a str,
 ) -> Result<(), AllocError>
-    requires recent { list_all (is_there (map (λ w. w.1.now) all.old.items)) recent.old ≡ true }
+    requires recent { Remembers (map (λ w. w.1.now) all.old.items) recent.old }
     requires hashes { All (λ w. w.0 ≡ fnv w.1.now) all.old.items }
     ensures words { OnOk result (distinct (map (λ w. w.1.now) all.new.items)
         ≡ put_words (distinct (map (λ w. w.1.now) all.old.items)) value.now) }
     ensures few { OnOk result (length (distinct (map (λ w. w.1.now) all.new.items))
         ≤ length (distinct (map (λ w. w.1.now) all.old.items)) + length value.now) }
-    ensures recent { OnOk result (list_all (is_there (map (λ w. w.1.now) all.new.items)) recent.new ≡ true) }
+    ensures recent { OnOk result (Remembers (map (λ w. w.1.now) all.new.items) recent.new) }
     ensures hashes { OnOk result (All (λ w. w.0 ≡ fnv w.1.now) all.new.items) }
 {
     for (start, end) in words(value) {
@@ -112,23 +134,36 @@ fn put_words<'a>(
 /// Puts a word to the others, unless it was put lately.
 fn put_word<'a>(
     all: &mut Vec<(u64, &'a str)>,
-    recent: &mut Recent<'a>,
+    recent: &mut Option<Recent<'a>>,
     word: &'a str,
 ) -> Result<(), AllocError>
     requires some { 0 < length word.now }
-    requires recent { list_all (is_there (map (λ w. w.1.now) all.old.items)) recent.old ≡ true }
+    requires recent { Remembers (map (λ w. w.1.now) all.old.items) recent.old }
     requires hashes { All (λ w. w.0 ≡ fnv w.1.now) all.old.items }
     ensures words { OnOk result (distinct (map (λ w. w.1.now) all.new.items)
         ≡ insert_key bytes_cmp (distinct (map (λ w. w.1.now) all.old.items)) word.now) }
-    ensures recent { OnOk result (list_all (is_there (map (λ w. w.1.now) all.new.items)) recent.new ≡ true) }
+    ensures recent { OnOk result (Remembers (map (λ w. w.1.now) all.new.items) recent.new) }
     ensures hashes { OnOk result (All (λ w. w.0 ≡ fnv w.1.now) all.new.items) }
 {
-    if recent.insert(word) {
+    if is_new(recent, word) {
         // After an error neither of the two is used.
         make_room(all)?;
         all.push((hash_of(word.as_bytes()), word))?;
     }
     Ok(())
+}
+
+/// Whether the word was not put lately, as far as words are remembered. From then on it is remembered.
+fn is_new<'a>(recent: &mut Option<Recent<'a>>, word: &'a str) -> bool
+    ensures had { (words : List (List ℕ)) → Remembers words recent.old → result ≡ false
+        → is_there words word.now ≡ true }
+    ensures kept { (words : List (List ℕ)) → Remembers words recent.old → is_there words word.now ≡ true
+        → Remembers words recent.new }
+{
+    match recent {
+        Some(slots) => slots.insert(word),
+        None => true,
+    }
 }
 
 /// Makes room in a long list that is full. What is there twice is dropped first, so that a few words that are said

@@ -1,10 +1,10 @@
-use Rattle.std.proofs.Common.{◌≡◌, map, true}
+use Rattle.std.proofs.Common.{◌≡◌, map}
 use Rattle.std.specs.BTreeSet.{insert_key}
-use Rattle.std.specs.List.{All, fold, list_all}
+use Rattle.std.specs.List.{All, fold}
 use Rattle.block_model.specs.Distinct.{distinct}
 use Rattle.log_model.specs.Field.{bytes_cmp}
 use Rattle.token_bloom.specs.Bits.{fnv}
-use Rattle.word_filter.specs.Words.{is_there, put_words}
+use Rattle.word_filter.specs.Words.{Remembers, put_words}
 use Rattle.word_filter.proofs.WordLaws.{AreWords, texts_at}
 use Rattle.word_filter.proofs.put_words.Given as goal
 
@@ -13,6 +13,6 @@ invariant-loop-start l = record {
   words : AreWords l.value l.start-iterator;
   so_far : fold (insert_key bytes_cmp) (distinct (map (λ w. w.1.now) l.all.items)) (texts_at l.value l.start-iterator)
       ≡ put_words (distinct (map (λ w. w.1.now) l.initial.all.items)) l.value;
-  recent : list_all (is_there (map (λ w. w.1.now) l.all.items)) l.recent ≡ true;
+  recent : Remembers (map (λ w. w.1.now) l.all.items) l.recent;
   hashes : All (λ w. w.0 ≡ fnv w.1.now) l.all.items;
 }
