@@ -1,18 +1,16 @@
 //! Values that were read, in the first kind that fits. They are mostly held in it already, and then they stay so.
 
-ghost use Rattle.std.specs.Prelude.{◌≡◌, ◌<◌, ◌^◌, IfOk, IsTrue, false, length, map, replicate, sum_by, true};
-ghost use Rattle.std.specs.Fmt.{signed_decimal};
+ghost use Rattle.std.specs.Prelude.{◌≡◌, ◌↔◌, ◌<◌, ◌^◌, IfOk, IsTrue, false, length, map, replicate, sum_by, true};
 ghost use Rattle.std.specs.List.{list_all};
 ghost use Rattle.block_column.specs.Cells.{IsCells, IsFirst, texts_of};
 ghost use Rattle.block_model.specs.Distinct.{is_short};
-ghost use Rattle.block_column.specs.Kinds.{fits_dictionary, is_constant};
+ghost use Rattle.block_column.specs.Kinds.{fits_dictionary};
 ghost use Rattle.col_codec.specs.Ints.{is_i64};
 
 use crate::cells::Cells;
-use crate::codes::MAX_VALUE_LEN;
+use crate::codes::{MAX_VALUE_LEN, distinct_of};
 use crate::dictionary::is_first_dictionary;
 use crate::kinds::{are_integers, constant, first_kind};
-use crate::many::are_many;
 use crate::members::each_of;
 use crate::row_texts::RowTexts;
 use col_codec::{IntColumn, TextColumn};
@@ -72,17 +70,10 @@ fn is_first_constant(text: &Text, rows: usize) -> bool
     true
 }
 
+/// Whether an integer is another than the first.
 fn are_first_integers(ints: &IntColumn) -> bool
     requires { list_all is_i64 ints.now ≡ true }
     ensures { IsTrue result → IsFirst (Cells.Integers ints.now) }
-{
-    differ(ints)
-}
-
-/// Whether an integer is another than the first.
-fn differ(ints: &IntColumn) -> bool
-    requires { list_all is_i64 ints.now ≡ true }
-    ensures { IsTrue result → is_constant (map signed_decimal ints.now) ≡ false }
 {
     for i in 1..ints.len() {
         if differ_at(ints, i) {
@@ -97,7 +88,7 @@ fn differ_at(ints: &IntColumn, i: usize) -> bool
     requires fits { list_all is_i64 ints.now ≡ true }
     requires later { 0 < i }
     requires within { i < length ints.now }
-    ensures { IsTrue result → is_constant (map signed_decimal ints.now) ≡ false }
+    ensures { IsTrue result → IsFirst (Cells.Integers ints.now) }
 {
     let first = ints.get(0);
     let other = ints.get(i);
@@ -122,15 +113,17 @@ fn are_first_texts(alloc: Global, column: &TextColumn) -> Result<bool, AllocErro
     Ok(many)
 }
 
-/// Whether it is quickly seen that no dictionary holds the texts: they are too many, or one is too long.
+/// Whether no dictionary can hold the texts: they are too many, or one is too long.
 fn are_too_many(alloc: Global, texts: &[&str]) -> Result<bool, AllocError>
-    ensures { IfOk result (λ seen. IsTrue seen → fits_dictionary (map (λ t. t.now) texts.now) ≡ false) }
+    ensures { IfOk result (λ many. IsTrue many ↔ (fits_dictionary (map (λ t. t.now) texts.now) ≡ false)) }
 {
     if !are_short(texts) {
         return Ok(true);
     }
-    let many = are_many(alloc, texts)?;
-    Ok(many)
+    match distinct_of(alloc, texts)? {
+        None => Ok(true),
+        Some(_) => Ok(false),
+    }
 }
 
 pub(crate) fn are_short(texts: &[&str]) -> bool

@@ -1,11 +1,12 @@
 //! The first kind that fits values.
 
-ghost use Rattle.std.specs.Prelude.{◌≡◌, ◌<◌, ◌≤◌, ◌^◌, IfNone, IfOk, IfSome, MatchOption, false, length, map, sum_by, true};
-ghost use Rattle.std.specs.Prelude.{◌&&◌, bytes_eq, not};
+ghost use Rattle.std.specs.Prelude.{◌≡◌, ◌<◌, ◌≤◌, ◌^◌, IfNone, IfOk, IfSome, MatchOption, false, length, map};
+ghost use Rattle.std.specs.Prelude.{◌&&◌, bytes_eq, not, sum_by, true};
 ghost use Rattle.std.specs.List.{list_all};
 ghost use Rattle.log_model.specs.Field.{is_empty};
 ghost use Rattle.block_column.specs.Cells.{IsFirst, texts_of};
-ghost use Rattle.block_column.specs.Kinds.{are_integers, first_of, fits_dictionary, integers_in, is_constant, is_number};
+ghost use Rattle.block_column.specs.Kinds.{are_integers, first_of, fits_dictionary, integers_in, is_constant};
+ghost use Rattle.block_column.specs.Kinds.{is_number};
 ghost use Rattle.block_model.specs.Distinct.{distinct, is_short};
 
 use crate::cells::Cells;

@@ -15,6 +15,9 @@ const ASKED: usize = 1_024;
 pub(crate) fn are_many(alloc: Global, values: &[&str]) -> Result<bool, AllocError>
     ensures { IfOk result (λ many. IsTrue many → 255 < length (distinct (map (λ t. t.now) values.now))) }
 {
+    if values.len() <= MAX_VALUES {
+        return Ok(false);
+    }
     let mut taken = vec![in alloc; false; SLOTS]?;
     let mut count = 0;
     for i in 0..values.len().min(ASKED) {

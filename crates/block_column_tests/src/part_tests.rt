@@ -1,5 +1,5 @@
 //! What the parts of columns answer, and what bytes of any kind say.
-ghost use Rattle.std.specs.Prelude.{◌<◌, ◌^◌, IfSome, length, sum_by};
+ghost use Rattle.std.specs.Prelude.{◌<◌, ◌^◌, IsTrue, length, sum_by};
 
 use crate::column_tests::push_column;
 use crate::hex_tests::{bytes_of, push_digits};
@@ -56,12 +56,15 @@ fn taken(alloc: Global, rows: usize, bytes: &[u8]) -> Result<(FoundColumn, usize
     Ok((found, rest.len()))
 }
 
+/// Appends each value, and how many bytes its text has.
 fn push_found(answer: &mut String, found: &FoundColumn) {
     for i in 0..found.len() {
-        let _ = match found.value(i) {
+        let value = found.value(i);
+        let _ = match value {
             Value::Str(text) => write!(answer, " [{text}]"),
             Value::Int(integer) => write!(answer, " {integer}"),
         };
+        let _ = write!(answer, " {}", value.len());
     }
 }
 
@@ -71,61 +74,27 @@ fn push_made(
     found: FoundColumn,
     most: usize,
 ) -> Result<(), AllocError> {
-    let Some(lengths) = lengths_of(&found, most) else {
+    if !are_short(&found, most) {
         answer.push_str(" too long")?;
         return Ok(());
-    };
+    }
     let column = found.into_column(alloc)?;
     answer.push(' ')?;
     push_column(alloc, answer, &column)?;
-    push_lengths(answer, lengths);
     Ok(())
 }
 
-/// How long values are.
-#[derive(Clone, Copy, Drop)]
-struct Lengths {
-    /// The bytes of the longest.
-    longest: usize,
-    /// Whether one of them is not empty.
-    some: bool,
-    /// Whether none of them is empty.
-    all: bool,
-}
-
-/// How long the values are, unless one is longer than `most`, or all are too long together.
-fn lengths_of(found: &FoundColumn, most: usize) -> Option<Lengths>
-    ensures { IfSome result (λ lengths. sum_by length found.now < 2 ^ 32) }
+/// Whether no value is longer than `most`, and all are short together.
+fn are_short(found: &FoundColumn, most: usize) -> bool
+    ensures { IsTrue result → sum_by length found.now < 2 ^ 32 }
 {
     let mut size = 0;
-    let mut lengths = Lengths {
-        longest: 0,
-        some: false,
-        all: true,
-    };
     for i in 0..found.len() {
         let len = found.value(i).len();
         if len > most || len >= MAX_SIZE - size {
-            return None;
+            return false;
         }
         size += len;
-        lengths = with_length(lengths, len);
     }
-    Some(lengths)
-}
-
-fn with_length(lengths: Lengths, len: usize) -> Lengths {
-    Lengths {
-        longest: lengths.longest.max(len),
-        some: lengths.some || len > 0,
-        all: lengths.all && len > 0,
-    }
-}
-
-fn push_lengths(answer: &mut String, lengths: Lengths) {
-    let _ = write!(
-        answer,
-        " {} {} {}",
-        lengths.longest, lengths.some, lengths.all
-    );
+    true
 }

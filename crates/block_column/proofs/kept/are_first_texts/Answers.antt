@@ -17,4 +17,4 @@ returns c many =
     let one : is_constant (map now_of c.as_slice-texts.result.now) ≡ false =
     rw c.in-None.is at c.constant.ensures.none in
     subst (λ (l : List (List ℕ)). IsFirst (cells.Plain l)) (ap (map now_of) c.as_slice-texts.ensures.value
-    ∙ c.in_ok-lent.ensures) (first-plain (map now_of c.as_slice-texts.result.now) one none (c.in_ok-many.ensures many))
+    ∙ c.in_ok-lent.ensures) (first-plain (map now_of c.as_slice-texts.result.now) one none (c.in_ok-many.ensures.0 many))

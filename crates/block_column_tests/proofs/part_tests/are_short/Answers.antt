@@ -2,7 +2,7 @@ use Rattle.std.proofs.Common.{◌≡◌, ◌<◌, [], ap, arith, get_or, length}
 use Rattle.std.proofs.lemmas.List.Sums.{sum_by_more}
 use Rattle.block_column.specs.Values.{value_text}
 use Rattle.block_column.proofs.Whole.{text-at}
-use Rattle.block_column_tests.proofs.part_tests.lengths_of.Goals as goal
+use Rattle.block_column_tests.proofs.part_tests.are_short.Goals as goal
 
 pub loop-i-preserved : goal.loop-i-preserved
 loop-i-preserved c =
