@@ -5,8 +5,8 @@
 //!
 //! A line `parts` gives values; the program writes the kind and the body of their column, and its members or that it
 //! has none. A line `found` gives a number of rows, the most bytes of a value, and the bytes of a column of any kind;
-//! the program writes what they say, and then the kind of the column of these values and how long they are. The answers
-//! are those of a plain reader in Python.
+//! the program writes each value that they say and how many bytes it has, and then the kind and the body of the column
+//! of these values. The answers are those of a plain reader in Python.
 #![tactic(auto)]
 
 mod column_tests;

@@ -7,4 +7,5 @@ pub mod OrderLaws
 pub mod NumberLaws
 pub mod StreamLaws
 pub mod SaidLaws
+pub mod LastLaws
 pub mod ReadAgain

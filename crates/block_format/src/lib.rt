@@ -4,6 +4,7 @@
 #![tactic(auto)]
 
 mod columns;
+mod columns_said;
 mod keys;
 mod labels;
 mod parts;

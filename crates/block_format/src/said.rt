@@ -1,36 +1,45 @@
 //! The rows that the items of a block say.
 
-ghost use Rattle.std.specs.Prelude.{◌≡◌, ◌<◌, ◌≤◌, ◌↔◌, ◌++◌, ◌∷◌, IfOk, IfSome, IsTrue, MatchOption, OnOk};
-ghost use Rattle.std.specs.Prelude.{false, filter, length, drop, map, slice_index_or, take, true, [], if◌then◌else◌};
+ghost use Rattle.std.specs.Prelude.{◌≡◌, ◌<◌, ◌≤◌, ◌↔◌, ◌++◌, ◌∷◌, ℕ, IfOk, IfSome, IsTrue, List, MatchOption};
+ghost use Rattle.std.specs.Prelude.{false, length, drop, map, take, true, []};
 ghost use Rattle.std.specs.List.{All, list_all};
-ghost use Rattle.block_column.specs.Values.{value_text};
-ghost use Rattle.block_format.specs.Columns.{HasRows};
-ghost use Rattle.log_model.specs.Field.{is_empty, is_filled, set_all, set_field};
+ghost use Rattle.block_format.specs.Columns.{HasRows, IsWhole, lent_column};
+ghost use Rattle.log_model.specs.Field.{is_filled, set_all};
 ghost use Rattle.block_model.specs.Columns.{fields_at, names_in, row_of, rows_from};
+ghost use Rattle.vl_row.specs.Names.{is_among};
 ghost use Rattle.block_format.specs.Rows.{are_ordered, comes_before};
-ghost use Rattle.block_format.specs.Reading.{are_said, has_name, has_spelling, in_order, is_named, is_numbered};
+ghost use Rattle.block_format.specs.Reading.{are_said, has_spelling, in_order, is_named, is_numbered};
 ghost use Rattle.block_format.specs.Reading.{is_row, is_since_1970, put_row, rows_said};
 
 use crate::columns::NamedColumn;
+use crate::columns_said::columns_said;
 use crate::parts::Parts;
 use crate::rules;
 use crate::rules::MAX_ROWS;
 use crate::values::{is_missing, set_value};
+use block_column::FoundColumn;
 use block_model::{Key, lend, lent_row};
 use std::alloc::{AllocError, Global};
-use vl_row::{Field, FieldList, Numbered, Row, RowFault, Stream, Text};
+use vl_row::{Field, FieldList, Names, Numbered, Row, RowFault, Stream, Text};
 
-/// The rows in order, unless they are too many or one breaks a rule of rows.
+/// The most fields of a row.
+const MAX_FIELDS: usize = 1_000;
+
+/// The rows in order, unless they are none or too many, or one breaks a rule of rows.
 pub fn rows_said(alloc: Global, parts: &Parts) -> Result<Option<Vec<Numbered>>, AllocError>
     requires { All (HasRows (length parts.now.keys)) parts.now.columns }
     ensures { IfOk result (λ rows. MatchOption rows (has_spelling (rows_said parts.now) ≡ false)
         (λ rows. rows.items ≡ rows_said parts.now)) }
 {
-    if parts.keys.len() > MAX_ROWS || !are_said(parts) {
+    let count = parts.keys.len();
+    if count == 0 || count > MAX_ROWS || !are_said(parts) {
         return Ok(None);
     }
-    let labels = labels_said(alloc, parts.labels.as_slice())?;
-    match rows_found(alloc, &labels, parts)? {
+    let Some(labels) = labels_said(alloc, parts.labels.as_slice())? else {
+        return Ok(None);
+    };
+    let columns = columns_said(alloc, parts.columns.as_slice(), count)?;
+    match rows_found(alloc, &labels, parts.keys.as_slice(), columns.as_slice())? {
         Some(rows) => {
             let rows = in_order(alloc, rows)?;
             Ok(Some(rows))
@@ -39,25 +48,42 @@ pub fn rows_said(alloc: Global, parts: &Parts) -> Result<Option<Vec<Numbered>>, 
     }
 }
 
-/// The stream of the rows, if they are not too many, the labels have names and values, the times are not before 1970,
-/// the values have names, and the first row keeps the rules of rows.
+/// The stream of the rows, if the labels have names and values, the times are not before 1970, the values have names,
+/// and the labels can be those of a row.
 pub fn stream_said(alloc: Global, parts: &Parts) -> Result<Option<Stream>, AllocError>
-    requires { All (HasRows (length parts.now.keys)) parts.now.columns }
     ensures said { IfOk result (λ found. IfSome found (λ stream. are_said parts.now ≡ true)) }
     ensures labels { IfOk result (λ found. IfSome found (λ stream. stream ≡ set_all [] parts.now.labels)) }
 {
-    if parts.keys.is_empty() || parts.keys.len() > MAX_ROWS || !are_said(parts) {
+    if !are_said(parts) {
         return Ok(None);
     }
-    let labels = labels_said(alloc, parts.labels.as_slice())?;
+    match labels_said(alloc, parts.labels.as_slice())? {
+        Some(labels) => stream_of(alloc, labels),
+        None => Ok(None),
+    }
+}
+
+/// The stream of these labels, if a row can have them and no other fields.
+fn stream_of(alloc: Global, labels: FieldList) -> Result<Option<Stream>, AllocError>
+    ensures { IfOk result (λ found. IfSome found (λ stream. stream ≡ labels)) }
+{
+    if labels.is_empty() {
+        return Ok(Some(Stream::new(alloc)));
+    }
+    let count = labels.len();
     let names = names_of(alloc, &labels)?;
-    let fields = fields_of(alloc, parts.columns.as_slice(), 0)?;
-    match row_said(alloc, &labels, names.as_slice(), parts.keys[0], fields)? {
-        Some(first) => {
-            let stream = first.row.stream().try_copy(alloc)?;
+    match Row::try_new(alloc, 0, names.as_slice(), labels) {
+        Ok(row) => {
+            if row.stream().len() < count {
+                return Ok(None);
+            }
+            let stream = row.stream().try_copy(alloc)?;
             Ok(Some(stream))
         }
-        None => Ok(None),
+        Err((fault, _)) => match fault {
+            RowFault::Memory => Err(AllocError),
+            _ => Ok(None),
+        },
     }
 }
 
@@ -106,34 +132,41 @@ fn is_named(column: &NamedColumn) -> bool
     true
 }
 
-fn labels_said(alloc: Global, labels: &[Field]) -> Result<FieldList, AllocError>
+/// The labels by their names, unless they are more than the fields of a row.
+fn labels_said(alloc: Global, labels: &[Field]) -> Result<Option<FieldList>, AllocError>
     requires { list_all is_filled labels.now ≡ true }
-    ensures { IfOk result (λ said. said ≡ set_all [] labels.now) }
+    ensures { IfOk result (λ found. MatchOption found (1000 < length (set_all [] labels.now))
+        (λ said. said ≡ set_all [] labels.now)) }
 {
-    let mut said = FieldList::with_room(alloc, labels.len())?;
+    let mut said = FieldList::with_room(alloc, labels.len().min(MAX_FIELDS))?;
     for label in labels {
         said.set(alloc, label.name(), label.value())?;
+        if said.len() > MAX_FIELDS {
+            return Ok(None);
+        }
     }
-    Ok(said)
+    Ok(Some(said))
 }
 
 /// The row of each key, in the order of the keys, unless one breaks a rule of rows.
 fn rows_found(
     alloc: Global,
     labels: &FieldList,
-    parts: &Parts,
+    keys: &[Key],
+    columns: &[(&str, &FoundColumn)],
 ) -> Result<Option<Vec<Numbered>>, AllocError>
-    requires keys { list_all is_since_1970 parts.now.keys ≡ true }
-    requires rows { All (HasRows (length parts.now.keys)) parts.now.columns }
+    requires keys { list_all is_since_1970 keys.now ≡ true }
+    requires columns { All (IsWhole (length keys.now)) columns.now }
     ensures { IfOk result (λ rows. MatchOption rows
-        (list_all is_numbered (rows_from labels.now (filter has_name parts.now.columns) 0 parts.now.keys) ≡ false)
-        (λ rows. rows.items ≡ rows_from labels.now (filter has_name parts.now.columns) 0 parts.now.keys)) }
+        (list_all is_numbered (rows_from labels.now (map lent_column columns.now) 0 keys.now) ≡ false)
+        (λ rows. rows.items ≡ rows_from labels.now (map lent_column columns.now) 0 keys.now)) }
 {
-    let names = names_of(alloc, labels)?;
-    let mut rows = Vec::with_capacity(alloc, parts.keys.len())?;
-    for i in 0..parts.keys.len() {
-        let fields = fields_of(alloc, parts.columns.as_slice(), i)?;
-        match row_said(alloc, labels, names.as_slice(), parts.keys[i], fields)? {
+    let listed = names_of(alloc, labels)?;
+    let names = Names::try_of(alloc, listed.as_slice())?;
+    let mut rows = Vec::with_capacity(alloc, keys.len())?;
+    for i in 0..keys.len() {
+        let fields = fields_of(alloc, columns, keys.len(), i)?;
+        match row_said(alloc, labels, &names, keys[i], fields)? {
             Some(row) => rows.push(row)?,
             None => return Ok(None),
         }
@@ -152,62 +185,52 @@ fn names_of(alloc: Global, labels: &FieldList) -> Result<Vec<Text>, AllocError>
 }
 
 /// The fields of the row at this place.
-fn fields_of(alloc: Global, columns: &[NamedColumn], i: usize) -> Result<FieldList, AllocError>
-    requires { All (λ column. i < length column.1) columns.now }
-    ensures { IfOk result (λ fields. fields ≡ fields_at (filter has_name columns.now) i) }
+fn fields_of(
+    alloc: Global,
+    columns: &[(&str, &FoundColumn)],
+    rows: usize,
+    i: usize,
+) -> Result<FieldList, AllocError>
+    requires columns { All (IsWhole rows) columns.now }
+    requires within { i < rows }
+    ensures { IfOk result (λ fields. fields ≡ fields_at (map lent_column columns.now) i) }
 {
-    let mut fields = FieldList::with_room(alloc, count_of(columns, i))?;
-    for column in columns {
-        set_said(alloc, &mut fields, column, i)?;
+    let mut fields = FieldList::with_room(alloc, count_of(columns, rows, i))?;
+    for (name, values) in columns {
+        set_value(alloc, &mut fields, name, values.value(i))?;
     }
     Ok(fields)
 }
 
 /// How many values the row at this place has.
-fn count_of(columns: &[NamedColumn], i: usize) -> usize
-    requires { All (λ column. i < length column.1) columns.now }
+fn count_of(columns: &[(&str, &FoundColumn)], _rows: usize, i: usize) -> usize
+    requires columns { All (IsWhole _rows) columns.now }
+    requires within { i < _rows }
 {
     let mut count = 0;
-    for column in columns {
-        if !is_missing(column.values.value(i)) {
+    for (_, values) in columns {
+        if !is_missing(values.value(i)) {
             count += 1;
         }
     }
     count
 }
 
-/// Gives the field of a column's name the value at this place, where the column has a name.
-fn set_said(
-    alloc: Global,
-    fields: &mut FieldList,
-    column: &NamedColumn,
-    i: usize,
-) -> Result<(), AllocError>
-    requires { i < length column.now.1 }
-    ensures { OnOk result (fields.new ≡ (if has_name column.now
-        then set_field fields.old column.now.0 (slice_index_or column.now.1 i []) else fields.old)) }
-{
-    if column.name.as_str().is_empty() {
-        return Ok(());
-    }
-    set_value(alloc, fields, column.name.as_str(), column.values.value(i))
-}
-
 /// The row of this key with these labels and fields, unless it breaks a rule of rows.
 fn row_said(
     alloc: Global,
     labels: &FieldList,
-    names: &[Text],
+    names: &Names,
     key: Key,
     fields: FieldList,
 ) -> Result<Option<Numbered>, AllocError>
-    requires names { names.now ≡ names_in labels.now }
+    requires names { (name : List ℕ) → is_among names.now name ≡ is_among (names_in labels.now) name }
     requires time { is_since_1970 key ≡ true }
     ensures { IfOk result (λ numbered. MatchOption numbered (is_row (row_of labels.now key fields).row ≡ false)
         (λ numbered. numbered ≡ row_of labels.now key fields)) }
 {
     let count = fields.len();
-    match Row::try_new(alloc, key.time, names, fields) {
+    match Row::try_listed(alloc, key.time, names, fields) {
         Ok(row) => {
             if row.fields().len() == count && has_labels(row.stream(), labels) {
                 Ok(Some(Numbered {

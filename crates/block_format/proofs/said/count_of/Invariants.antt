@@ -1,5 +1,5 @@
 use Rattle.std.proofs.Common.{◌≤◌}
 use Rattle.block_format.proofs.said.count_of.Given as goal
 
-abbrev pub invariant-loop-column : goal.invariant-loop-column
-invariant-loop-column l = l.count ≤ l.column-index
+abbrev pub invariant-loop-values : goal.invariant-loop-values
+invariant-loop-values l = l.count ≤ l.values-index

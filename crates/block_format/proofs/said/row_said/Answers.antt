@@ -8,10 +8,10 @@ use Rattle.log_model.specs.Row.{Row}
 use Rattle.vl_row.specs.Faults.{labels_of, row_fault, stored}
 use Rattle.vl_row.specs.declared.row.RowFault.{RowFault}
 use Rattle.vl_row.specs.declared.row.RowFault.TheVariants.{Memory}
-use Rattle.block_model.specs.Columns.{row_of}
+use Rattle.block_model.specs.Columns.{names_in, row_of}
 use Rattle.block_model.proofs.FaultLaws.{no-fault}
 use Rattle.block_model.proofs.RowLaws.{row-labels-again, stored-again}
-use Rattle.block_format.proofs.SaidLaws.{late, stored-all}
+use Rattle.block_format.proofs.SaidLaws.{labels-among, late, stored-all}
 use Rattle.block_format.proofs.TestLaws.{row-refused}
 use Rattle.block_format.proofs.said.row_said.Goals as goal
 use Rattle.block_format.proofs.said.row_said.Goals.{else-len-count-via-then-len-count+else-has_labels}
@@ -41,7 +41,7 @@ returns-in-Ok c =
     elim c.else-len-count.branch [
       | else-len-count-via-then-len-count+else-has_labels w ↦ row-refused row (λ r. both_ways w.has_labels.result
           w.if-has_labels.false (w.has_labels.ensures.1 (w.stream.ensures ∙ ap (λ (x : Row). x.labels) made
-          ∙ ap (λ (l : List (List ℕ)). labels_of l fields) c.requires.names ∙ row-labels-again row r)))
+          ∙ labels-among c.args.names.now (names_in c.args.labels.now) fields c.requires.names ∙ row-labels-again row r)))
       | else-len-count-via-else-len-count w ↦ row-refused row (λ r. w.if-len-count.false (c.len.ensures
           ∙ ap length c.fields.ensures.value ∙ ap (λ (x : Row). length x.fields) made ∙ ap length (stored-again row r)
           ∙ sym c.len-count.ensures))
