@@ -2,7 +2,6 @@
 use super::row_text;
 use ingest_row::{Intake, LineKind, Options, Weighed, batch_of_body, row_of_line, weigh_body};
 use std::alloc::{AllocError, Global};
-use std::test::Fail;
 use vl_row::Field;
 
 /// Returns the rows of a body, and then the numbers and the kinds of its refused lines.
@@ -44,24 +43,26 @@ const BODIES: &[(&[u8], &str)] = &[
     (b"{\"a\":\"\xff\"}\n{\"a\":\"b\"}", "5  [a:b]; 1 NotUtf8; "),
 ];
 
-#[test]
-fn a_body_gives_rows_and_names_its_refused_lines(rt: HostRuntime) -> Result<(), Fail> {
+/// Returns whether each body has these rows and these refused lines.
+fn bodies_are_read(alloc: Global) -> Result<bool, AllocError> {
     for (body, wanted) in BODIES {
-        assert!(rt; gives(rt.alloc(), body, wanted)?, "{wanted}");
+        if !gives(alloc, body, wanted)? {
+            return Ok(false);
+        }
     }
-    Ok(())
+    Ok(true)
 }
 
 /// A line that is long: what stands in front, a piece that is repeated, how often, and what stands after.
 #[derive(Clone, Copy)]
-struct Long {
-    first: &'static str,
-    piece: &'static str,
+struct Long<'a> {
+    first: &'a str,
+    piece: &'a str,
     count: usize,
-    last: &'static str,
+    last: &'a str,
 }
 
-impl Long {
+impl Long<'_> {
     fn text(&self, alloc: Global) -> Result<String, AllocError> {
         let mut line = String::from_str(alloc, self.first)?;
         for _ in 0..self.count {
@@ -76,78 +77,48 @@ fn kind_of(alloc: Global, line: &str) -> Option<LineKind> {
     row_of_line(alloc, &Options::plain(alloc), 5, line.as_bytes()).err()
 }
 
-/// Returns whether the line is refused so, and is not with the piece once less.
-fn is_limit(alloc: Global, line: Long, wanted: LineKind) -> Result<bool, AllocError> {
-    let count = line.count.saturating_sub(1);
-    let shorter = Long { count, ..line };
-    Ok(
-        kind_of(alloc, line.text(alloc)?.as_str()) == Some(wanted)
-            && kind_of(alloc, shorter.text(alloc)?.as_str()) != Some(wanted),
-    )
-}
-
-/// Lines that are refused, each just beyond its limit.
-const BEYOND: &[(Long, LineKind)] = &[
-    (
-        Long {
-            first: "",
-            piece: " ",
-            count: 1_048_568,
-            last: "{\"a\":\"b\"}",
-        },
-        LineKind::LineLong,
-    ),
-    (
-        Long {
-            first: "{\"",
-            piece: "n",
-            count: 129,
-            last: "\":\"v\"}",
-        },
-        LineKind::NameLong,
-    ),
-    (
-        Long {
-            first: "{\"a\":\"",
-            piece: "v",
-            count: 262_144,
-            last: "\"}",
-        },
-        LineKind::RowLarge,
-    ),
-    (
-        Long {
-            first: "",
-            piece: "{\"a\":",
-            count: 65,
-            last: "1",
-        },
-        LineKind::TooDeep,
-    ),
-];
-
-#[test]
-fn lines_have_limits(rt: HostRuntime) -> Result<(), Fail> {
-    for (line, kind) in BEYOND {
-        assert!(rt; is_limit(rt.alloc(), *line, *kind)?, "{kind}");
+/// Returns the name of the fault of a line, or `row`.
+fn kind_text(alloc: Global, line: &str) -> Result<String, AllocError> {
+    match kind_of(alloc, line) {
+        Some(kind) => format!(in alloc; "{kind}"),
+        None => format!(in alloc; "row"),
     }
-    Ok(())
 }
 
-/// Returns whether a line of this many members is one too many.
-fn is_many(alloc: Global, members: usize) -> Result<bool, AllocError> {
+/// Returns the number that a text is, or 0.
+fn count_of(text: &str) -> usize {
+    text.parse::<u32>().unwrap_or(0) as usize
+}
+
+/// Returns the fault of such a line, and that of the line with the piece once less.
+pub fn long_text(alloc: Global, case: &str) -> Result<String, AllocError> {
+    let (count, rest) = case.split_once('|').unwrap_or((case, ""));
+    let (first, rest) = rest.split_once('|').unwrap_or((rest, ""));
+    let (piece, last) = rest.split_once('|').unwrap_or((rest, ""));
+    let count = count_of(count);
+    let line = Long {
+        first,
+        piece,
+        count,
+        last,
+    };
+    let shorter = Long {
+        count: count.saturating_sub(1),
+        ..line
+    };
+    let kind = kind_text(alloc, line.text(alloc)?.as_str())?;
+    let shorter = kind_text(alloc, shorter.text(alloc)?.as_str())?;
+    format!(in alloc; "{kind} {shorter}")
+}
+
+/// Returns the fault of a line of this many members, or `row`.
+pub fn members_text(alloc: Global, count: &str) -> Result<String, AllocError> {
     let mut line = String::from_str(alloc, "{")?;
-    for n in 1..members {
+    for n in 1..count_of(count) {
         write!(line, "\"{n}\":0,")?;
     }
     line.push_str("\"0\":0}")?;
-    Ok(kind_of(alloc, line.as_str()) == Some(LineKind::ManyFields))
-}
-
-#[test]
-fn a_line_has_a_thousand_fields_at_most(rt: HostRuntime) -> Result<(), Fail> {
-    assert!(rt; !is_many(rt.alloc(), 1_000)? && is_many(rt.alloc(), 1_001)?);
-    Ok(())
+    kind_text(alloc, line.as_str())
 }
 
 /// Returns what one argument asks for.
@@ -170,10 +141,13 @@ fn outer_name(alloc: Global) -> Result<String, AllocError> {
     Ok(line)
 }
 
-/// Long names are copied for each member only where an option names one, and then up to 64 times the line's bytes.
-#[test]
-fn long_names_are_read_only_where_one_is_asked_for(rt: HostRuntime) -> Result<(), Fail> {
-    let alloc = rt.alloc();
+/// Returns whether the names of a line with a long outer name are not read, since no option asks for one.
+fn long_names_are_left(alloc: Global) -> Result<bool, AllocError> {
+    Ok(kind_of(alloc, outer_name(alloc)?.as_str()) == Some(LineKind::NameLong))
+}
+
+/// Returns whether such names are copied where an option names a long one, up to 64 times the line's bytes.
+fn long_names_are_copied(alloc: Global) -> Result<bool, AllocError> {
     let line = outer_name(alloc)?;
     let name = Long {
         first: "",
@@ -181,13 +155,21 @@ fn long_names_are_read_only_where_one_is_asked_for(rt: HostRuntime) -> Result<()
         count: 129,
         last: "",
     };
-    assert!(rt; kind_of(alloc, line.as_str()) == Some(LineKind::NameLong));
     let Some(options) = asked(alloc, "ignore_fields", name.text(alloc)?.as_str())? else {
-        return Err(Fail::new("no options"));
+        return Ok(false);
     };
     let kind = row_of_line(alloc, &options, 5, line.as_bytes()).err();
-    assert!(rt; kind == Some(LineKind::Memory));
-    Ok(())
+    Ok(kind == Some(LineKind::Memory))
+}
+
+/// Returns whether the check of this name holds.
+pub fn holds(alloc: Global, name: &str) -> Result<bool, AllocError> {
+    match name {
+        "bodies_are_read" => bodies_are_read(alloc),
+        "long_names_are_left" => long_names_are_left(alloc),
+        "long_names_are_copied" => long_names_are_copied(alloc),
+        _ => Ok(false),
+    }
 }
 
 /// Returns how many rows a body has, and what they weigh if that is too much for a batch.
@@ -198,12 +180,15 @@ fn weighs(alloc: Global, options: &Options, body: &str) -> Result<(usize, u64), 
     }
 }
 
+const HUNDRED: &str =
+    "vvvvvvvvvvvvvvvvvvvvvvvvvvvvvvvvvvvvvvvvvvvvvvvvvvvvvvvvvvvvvvvvvvvvvvvvvvvvvvvvvvvvvvvvvvvvvvvvvvvv";
+
 /// Weighs a body of this many lines of 200 kB.
 fn long_lines(alloc: Global, lines: usize) -> Result<(usize, u64), AllocError> {
     let line = Long {
         first: "{\"a\":\"b\",\"f\":\"",
-        piece: "v",
-        count: 200_000,
+        piece: HUNDRED,
+        count: 2_000,
         last: "\"}\n",
     };
     let line = line.text(alloc)?;
@@ -218,8 +203,8 @@ fn long_lines(alloc: Global, lines: usize) -> Result<(usize, u64), AllocError> {
 fn short_lines(alloc: Global, lines: usize) -> Result<(usize, u64), AllocError> {
     let value = Long {
         first: "f=",
-        piece: "v",
-        count: 200_000,
+        piece: HUNDRED,
+        count: 2_000,
         last: "",
     };
     let Some(options) = asked(alloc, "extra_fields", value.text(alloc)?.as_str())? else {
@@ -234,18 +219,16 @@ fn short_lines(alloc: Global, lines: usize) -> Result<(usize, u64), AllocError> 
     weighs(alloc, &options, body.text(alloc)?.as_str())
 }
 
-#[test]
-fn rows_are_kept_only_up_to_the_limit_of_a_batch(rt: HostRuntime) -> Result<(), Fail> {
-    assert!(rt; long_lines(rt.alloc(), 335)? == (335, 0));
-    assert!(rt; long_lines(rt.alloc(), 336)? == (0, 67_201_008));
-    Ok(())
+/// Returns how many rows are kept of a body of this many long lines, or what they weigh.
+pub fn lines_text(alloc: Global, count: &str) -> Result<String, AllocError> {
+    let (rows, weight) = long_lines(alloc, count_of(count))?;
+    format!(in alloc; "{rows} {weight}")
 }
 
-#[test]
-fn rows_of_a_small_body_take_little_memory(rt: HostRuntime) -> Result<(), Fail> {
-    assert!(rt; short_lines(rt.alloc(), 100)? == (100, 0));
-    assert!(rt; short_lines(rt.alloc(), 335).is_err());
-    assert!(rt; short_lines(rt.alloc(), 336)? == (0, 67_201_008));
-    assert!(rt; short_lines(rt.alloc(), 1_000)? == (0, 200_003_000));
-    Ok(())
+/// Returns how many rows are kept of a body of this many short lines, or what they weigh, or that memory ran out.
+pub fn added_text(alloc: Global, count: &str) -> Result<String, AllocError> {
+    match short_lines(alloc, count_of(count)) {
+        Ok((rows, weight)) => format!(in alloc; "{rows} {weight}"),
+        Err(_) => format!(in alloc; "memory"),
+    }
 }
