@@ -5,7 +5,7 @@ use Rattle.turn_lock.specs.Totals.{times}
 use Rattle.log_desk.specs.Calls.{Inserted}
 use Rattle.log_desk.proofs.SeenLaws.{mine_inserted, mine_looked}
 use Rattle.log_desk_tests.proofs.Last.{times_last}
-use Rattle.log_desk_tests.proofs.callers.insert_by_two.Goals as goal
+use Rattle.log_desk_tests.proofs.callers_tests.insert_by_two.Goals as goal
 
 pub returns-clause-first : goal.returns-clause-first
 returns-clause-first g c =

@@ -1,7 +1,7 @@
 use Rattle.std.proofs.Common.{◌≡◌, ◌-◌, ap, arith, length, take, ◌∙◌}
 use Rattle.log_model.specs.Core.{parts_of}
 use Rattle.log_core.proofs.Fronts.{are_front}
-use Rattle.log_core_tests.proofs.batches.front_parts.Goals as goal
+use Rattle.log_desk_tests.proofs.parts_tests.front_parts.Goals as goal
 
 pub returns : goal.returns
 returns c =

@@ -2,11 +2,11 @@
 ghost use Rattle.std.specs.Prelude.{IfSome};
 ghost use Rattle.turn_lock.specs.Passes.{IsPassOf};
 
-use crate::batches::{insert_one, row_count, rows_of};
+use crate::batches_tests::{insert_one, row_count, rows_of};
 use log_desk::{Desk, Pass};
 use std::alloc::{AllocError, Global};
+use std::io;
 use std::sync::Wait;
-use std::test::Fail;
 use std::thread::{Threads, join};
 use std::time::Instant;
 
@@ -174,17 +174,16 @@ fn holds_all<R: Wait>(
     Ok(row_count(&look) == 512 && look.front() == 512)
 }
 
-#[test]
-fn eight_callers_insert_and_look(rt: HostRuntime) -> Result<(), Fail> {
+/// Returns whether eight callers insert and look as they should, within these seconds.
+pub fn eight_callers(rt: &HostRuntime) -> io::Result<bool> {
     let alloc = rt.alloc();
-    let start = Instant::now(&rt)?;
-    let (desk, pass) = Desk::fresh(&rt, alloc, 8)?;
-    let Some(mut pass) = eight(&rt, alloc, &desk, pass) else {
-        return Err(Fail::from(AllocError));
+    let start = Instant::now(rt)?;
+    let (desk, pass) = Desk::fresh(rt, alloc, 8)?;
+    let Some(mut pass) = eight(rt, alloc, &desk, pass) else {
+        return Ok(false);
     };
-    assert!(rt; holds_all(&rt, alloc, &desk, &mut pass)?);
-    assert!(rt; desk.status(&rt, &mut pass) == (512, 0));
-    let took = start.elapsed(&rt)?;
-    assert!(rt; took.as_secs() < MOST_SECONDS, "{took:?}");
-    Ok(())
+    let all = holds_all(rt, alloc, &desk, &mut pass)?;
+    let counted = desk.status(rt, &mut pass) == (512, 0);
+    let took = start.elapsed(rt)?;
+    Ok(all && counted && took.as_secs() < MOST_SECONDS)
 }

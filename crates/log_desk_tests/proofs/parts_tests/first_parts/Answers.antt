@@ -1,8 +1,8 @@
 use Rattle.std.proofs.Common.{Some, ap, sym, ◌∙◌}
 use Rattle.log_model.specs.Core.{parts_of}
 use Rattle.log_core.specs.Shared.{shared_parts}
-use Rattle.log_core_tests.proofs.FirstParts.{one_more}
-use Rattle.log_core_tests.proofs.batches.first_parts.Goals as goal
+use Rattle.log_desk_tests.proofs.FirstParts.{one_more}
+use Rattle.log_desk_tests.proofs.parts_tests.first_parts.Goals as goal
 
 pub loop-place-preserved : goal.loop-place-preserved
 loop-place-preserved c =

@@ -1,19 +1,17 @@
 //! That each call does what it says.
 ghost use Rattle.turn_lock.specs.Passes.{IsPassOf};
 
-use crate::batches::{are_rows_of, batch_of, insert_one, row_count, rows_of};
-use crate::callers::{fault_of_one, insert_by_two};
+use crate::batches_tests::{are_rows_of, batch_of, insert_one, row_count, rows_of};
+use crate::callers_tests::{fault_of_one, insert_by_two};
 use log_desk::{Desk, InsertFault, Pass};
 use std::alloc::{AllocError, Global};
 use std::sync::Wait;
-use std::test::Fail;
 use turn_lock::SplitFault;
 
-#[test]
-fn spent_split(rt: HostRuntime) -> Result<(), Fail> {
-    let fault = fault_of_one(&rt, rt.alloc())?;
-    assert!(rt; matches!(fault, SplitFault::Spent { made: 1 }));
-    Ok(())
+/// Returns whether a desk with one number says that it is spent.
+pub fn spent_split<R>(rt: &R, alloc: Global) -> Result<bool, AllocError> {
+    let fault = fault_of_one(rt, alloc)?;
+    Ok(matches!(fault, SplitFault::Spent { made: 1 }))
 }
 
 /// Returns what two passes of one desk answer: the numbers of their batches and the front between them, and how many
@@ -34,10 +32,9 @@ fn by_two<R: Wait>(
     Ok(Some((numbers, rows)))
 }
 
-#[test]
-fn two_passes_of_one_desk(rt: HostRuntime) -> Result<(), Fail> {
-    assert!(rt; by_two(&rt, rt.alloc())? == Some(((1, 1, 2), (1, 1, 2))));
-    Ok(())
+/// Returns whether they answer so: the second batch comes after the look, which holds the first.
+pub fn two_passes<R: Wait>(rt: &R, alloc: Global) -> Result<bool, AllocError> {
+    Ok(by_two(rt, alloc)? == Some(((1, 1, 2), (1, 1, 2))))
 }
 
 /// Returns how many batches a pass has seen, and how many of them were settled.
@@ -45,38 +42,33 @@ fn seen_by(pass: &Pass) -> (u64, u64) {
     (pass.front(), pass.settled())
 }
 
-#[test]
-fn a_split_pass_has_the_same_front(rt: HostRuntime) -> Result<(), Fail> {
-    let alloc = rt.alloc();
-    let (desk, mut pass) = Desk::fresh(&rt, alloc, 3)?;
-    assert!(rt; seen_by(&pass) == (0, 0));
+/// Returns whether a pass that is split off has the same front, and keeps it while it takes no turn.
+pub fn split_pass<R: Wait>(rt: &R, alloc: Global) -> Result<bool, AllocError> {
+    let (desk, mut pass) = Desk::fresh(rt, alloc, 3)?;
+    let none = seen_by(&pass) == (0, 0);
     let Ok(early) = desk.split(&mut pass) else {
-        return Err(Fail::new("no second pass"));
+        return Ok(false);
     };
-    assert!(rt; insert_one(&rt, alloc, &desk, &mut pass, "a")? == Some(1));
+    let first = insert_one(rt, alloc, &desk, &mut pass, "a")? == Some(1);
     let Ok(late) = desk.split(&mut pass) else {
-        return Err(Fail::new("no third pass"));
+        return Ok(false);
     };
-    // The one that was split before has taken no turn since.
-    assert!(rt; seen_by(&early) == (0, 0));
-    assert!(rt; seen_by(&late) == (1, 0) && seen_by(&pass) == (1, 0));
-    Ok(())
+    let kept = seen_by(&early) == (0, 0);
+    Ok(none && first && kept && seen_by(&late) == (1, 0) && seen_by(&pass) == (1, 0))
 }
 
-#[test]
-fn a_joined_pass_has_the_longer_front(rt: HostRuntime) -> Result<(), Fail> {
-    let alloc = rt.alloc();
-    let (desk, mut pass) = Desk::fresh(&rt, alloc, 3)?;
+/// Returns whether a pass that another is joined to has the longer front of both.
+pub fn joined_pass<R: Wait>(rt: &R, alloc: Global) -> Result<bool, AllocError> {
+    let (desk, mut pass) = Desk::fresh(rt, alloc, 3)?;
     let (Ok(mut ahead), Ok(behind)) = (desk.split(&mut pass), desk.split(&mut pass)) else {
-        return Err(Fail::new("no three passes"));
+        return Ok(false);
     };
-    assert!(rt; insert_one(&rt, alloc, &desk, &mut ahead, "a")? == Some(1));
-    assert!(rt; seen_by(&ahead) == (1, 0) && seen_by(&pass) == (0, 0));
+    let first = insert_one(rt, alloc, &desk, &mut ahead, "a")? == Some(1);
+    let apart = seen_by(&ahead) == (1, 0) && seen_by(&pass) == (0, 0);
     desk.join(&mut pass, ahead);
-    assert!(rt; seen_by(&pass) == (1, 0));
+    let longer = seen_by(&pass) == (1, 0);
     desk.join(&mut pass, behind);
-    assert!(rt; seen_by(&pass) == (1, 0));
-    Ok(())
+    Ok(first && apart && longer && seen_by(&pass) == (1, 0))
 }
 
 /// Inserts this many batches of one row, and says whether they got their numbers in turn.
@@ -117,24 +109,22 @@ fn is_full<R: Wait>(rt: &R, alloc: Global, desk: &Desk, pass: &mut Pass) -> Resu
     )
 }
 
-#[test]
-fn full_desk(rt: HostRuntime) -> Result<(), Fail> {
-    let alloc = rt.alloc();
-    let (desk, mut pass) = Desk::fresh(&rt, alloc, 1)?;
-    assert!(rt; desk.status(&rt, &mut pass) == (0, 0));
-    assert!(rt; inserts_in_turn(&rt, alloc, &desk, &mut pass, 4_096)?);
-    assert!(rt; is_full(&rt, alloc, &desk, &mut pass)?);
-    assert!(rt; desk.status(&rt, &mut pass) == (4_096, 0));
-    assert!(rt; desk.look(&rt, &mut pass)?.front() == 4_096);
-    Ok(())
+/// Returns whether a desk takes 4,096 batches, and no more.
+pub fn full_desk<R: Wait>(rt: &R, alloc: Global) -> Result<bool, AllocError> {
+    let (desk, mut pass) = Desk::fresh(rt, alloc, 1)?;
+    let none = desk.status(rt, &mut pass) == (0, 0);
+    let taken = inserts_in_turn(rt, alloc, &desk, &mut pass, 4_096)?;
+    let full = is_full(rt, alloc, &desk, &mut pass)?;
+    let counted = desk.status(rt, &mut pass) == (4_096, 0);
+    Ok(none && taken && full && counted && desk.look(rt, &mut pass)?.front() == 4_096)
 }
 
-#[test]
-fn a_fault_prints(rt: HostRuntime) -> Result<(), Fail> {
-    let alloc = rt.alloc();
+/// Returns whether each fault prints as its text.
+pub fn faults_print(alloc: Global) -> Result<bool, AllocError> {
     let full = InsertFault::Full { held: 4_096 };
-    assert!(rt; full.to_string(alloc)?.as_str() == "full 4096");
-    assert!(rt; InsertFault::Spent.to_string(alloc)?.as_str() == "spent");
-    assert!(rt; InsertFault::Memory.to_string(alloc)?.as_str() == "no memory");
-    Ok(())
+    Ok(
+        full.to_string(alloc)?.as_str() == "full 4096"
+            && InsertFault::Spent.to_string(alloc)?.as_str() == "spent"
+            && InsertFault::Memory.to_string(alloc)?.as_str() == "no memory",
+    )
 }
