@@ -3,7 +3,6 @@
 use std::alloc::{AllocError, Global};
 use std::io;
 use std::io::{ErrorKind, Read, Write};
-use std::test::Fail;
 use vl_io::{
     Clock, Failed, GroupReader, InputSource, MemClock, MemSink, MemSource, OutputSink, ReadFault,
     Sink, Source, SureSink, SureSource, SystemClock, put_all,
@@ -107,86 +106,85 @@ fn gives<S: Source>(source: &mut S, room: usize, pieces: &[&str]) -> bool {
     true
 }
 
-#[test]
-fn a_source_gives_its_bytes_in_pieces(rt: HostRuntime) -> Result<(), Fail> {
-    let mut source = MemSource::of(rt.alloc(), b"first line", &[3, 9, 1], &[1])?;
+/// Returns whether sources give their bytes in pieces.
+pub fn gives_pieces(alloc: Global) -> Result<bool, AllocError> {
+    let mut source = MemSource::of(alloc, b"first line", &[3, 9, 1], &[1])?;
     let pieces = ["fir", "failed", "s", "t li", "ne", "", ""];
-    assert!(rt; gives(&mut source, 4, &pieces));
-    let mut source = SureSource::of(rt.alloc(), b"line", &[1])?;
-    assert!(rt; gives(&mut source, 2, &["l", "in", "e", ""]));
-    Ok(())
+    let given = gives(&mut source, 4, &pieces);
+    let mut source = SureSource::of(alloc, b"line", &[1])?;
+    Ok(given && gives(&mut source, 2, &["l", "in", "e", ""]))
 }
 
-/// Returns whether a writer that fails after this many calls is given the piece so, and this front of it is written.
-fn writes(
-    alloc: Global,
-    calls_left: u32,
-    want: Result<(), Failed>,
-    front: &str,
-) -> Result<bool, AllocError> {
+/// Returns what a writer took that fails after this many calls, and whether the sink failed.
+pub fn writes(alloc: Global, calls: &str) -> Result<String, AllocError> {
     let mut taken = Vec::new(alloc);
     let mut sink = OutputSink::new(ShortWriter {
         taken: &mut taken,
-        calls_left,
+        calls_left: calls.parse::<u32>().unwrap_or(0),
     });
-    let answer = put_all(&mut sink, b"stored");
+    let end = if put_all(&mut sink, b"stored").is_ok() {
+        ""
+    } else {
+        " failed"
+    };
     drop(sink);
-    Ok(answer == want && taken.as_slice() == front.as_bytes())
+    let front = String::from_utf8_lossy(alloc, taken.as_slice())?;
+    format!(in alloc; "{front}{end}")
 }
 
 /// Returns whether a sink in memory fails at its second call only, and keeps what it was given at the others.
-fn keeps(alloc: Global) -> Result<bool, AllocError> {
+pub fn keeps(alloc: Global) -> Result<bool, AllocError> {
     let mut sink = MemSink::of(alloc, &[1])?;
     let first = put_all(&mut sink, b"one,").is_ok() && put_all(&mut sink, b"").is_ok();
     let second = put_all(&mut sink, b"two,").is_err() && put_all(&mut sink, b"three").is_ok();
     Ok(first && second && sink.bytes() == b"one,three".as_slice())
 }
 
-#[test]
-fn a_piece_is_written_whole_or_its_front(rt: HostRuntime) -> Result<(), Fail> {
-    for (calls, want, front) in [
-        (3, Ok(()), "stored"),
-        (2, Ok(()), "stored"),
-        (1, Err(Failed), "sto"),
-    ] {
-        assert!(rt; writes(rt.alloc(), calls, want, front)?, "{calls} calls");
-    }
-    assert!(rt; keeps(rt.alloc())? && put_all(&mut SureSink::new(), b"piece").is_ok());
-    Ok(())
+/// Returns whether a sink that cannot fail takes a piece.
+pub fn sure_sink() -> bool {
+    put_all(&mut SureSink::new(), b"piece").is_ok()
 }
 
-#[test]
-fn a_clock_gives_its_moments_and_then_the_last(rt: HostRuntime) -> Result<(), Fail> {
-    let mut clock = MemClock::of(rt.alloc(), &[1_700_000_000_000_000_000, 5])?;
+/// Returns whether a clock gives its moments, and then the last one.
+pub fn memory_clock(alloc: Global) -> Result<bool, AllocError> {
+    let mut clock = MemClock::of(alloc, &[1_700_000_000_000_000_000, 5])?;
+    let mut same = true;
     for want in [1_700_000_000_000_000_000, 5, 5] {
         clock.pause();
-        assert!(rt; clock.now() == want);
+        same = clock.now() == want && same;
     }
-    // The system's clock stands after the year 2020, in nanoseconds.
-    let mut clock = SystemClock::new(&rt);
-    clock.pause();
-    assert!(rt; clock.now() > 1_600_000_000_000_000_000);
-    Ok(())
+    Ok(same)
 }
 
-#[test]
-fn an_interrupted_call_is_tried_again(rt: HostRuntime) -> Result<(), Fail> {
-    let mut taken = Vec::new(rt.alloc());
+/// Returns whether the system's clock stands after the year 2020, in nanoseconds.
+pub fn system_clock(rt: &HostRuntime) -> bool {
+    let mut clock = SystemClock::new(rt);
+    clock.pause();
+    clock.now() > 1_600_000_000_000_000_000
+}
+
+/// Returns whether a read that is interrupted is tried again.
+pub fn interrupted_source(alloc: Global) -> Result<bool, AllocError> {
+    let mut taken = Vec::new(alloc);
     let mut source = InputSource::new(Interrupted {
         given: b"line",
         taken: &mut taken,
         interruptions: 3,
     });
-    assert!(rt; gives(&mut source, 4, &["line", ""]));
+    Ok(gives(&mut source, 4, &["line", ""]))
+}
+
+/// Returns whether a write that is interrupted is tried again.
+pub fn interrupted_sink(alloc: Global) -> Result<bool, AllocError> {
+    let mut taken = Vec::new(alloc);
     let mut sink = OutputSink::new(Interrupted {
         given: b"",
         taken: &mut taken,
         interruptions: 3,
     });
-    assert!(rt; put_all(&mut sink, b"stored").is_ok());
+    let stored = put_all(&mut sink, b"stored").is_ok();
     drop(sink);
-    assert!(rt; taken.as_slice() == b"stored".as_slice());
-    Ok(())
+    Ok(stored && taken.as_slice() == b"stored".as_slice())
 }
 
 /// Returns whether a source is read in these groups of two lines, up to this many bytes, and then so ended.
@@ -206,33 +204,39 @@ fn reads(
     Ok(reader.advance(source) == end)
 }
 
-#[test]
-fn input_is_read_in_groups_up_to_the_limit(rt: HostRuntime) -> Result<(), Fail> {
+/// Returns whether input is read in groups, up to the limit.
+pub fn reads_groups(alloc: Global) -> Result<bool, ReadFault> {
     for (limit, groups, end) in [
         (9, ["a\nb\n", "\ncd\n", "e"].as_slice(), Ok(false)),
         (8, &["a\nb\n", "\ncd\n"], Err(ReadFault::Long)),
         (0, &[], Err(ReadFault::Long)),
     ] {
-        let mut source = MemSource::of(rt.alloc(), b"a\nb\n\ncd\ne", &[1, 6, 1], &[])?;
-        assert!(rt;
-            reads(rt.alloc(), &mut source, limit, groups, end)?,
-            "at {limit}"
-        );
+        let mut source = MemSource::of(alloc, b"a\nb\n\ncd\ne", &[1, 6, 1], &[])?;
+        if !reads(alloc, &mut source, limit, groups, end)? {
+            return Ok(false);
+        }
     }
-    let mut source = MemSource::of(rt.alloc(), b"a\nb\nc\n", &[5], &[1])?;
-    let failed = Err(ReadFault::Failed);
-    assert!(rt; reads(rt.alloc(), &mut source, 9, &["a\nb\n"], failed)?);
-    Ok(())
+    Ok(true)
 }
 
-#[test]
-fn a_fault_of_a_reader_is_a_fault_of_the_source(rt: HostRuntime) -> Result<(), Fail> {
-    let mut reader = GroupReader::of(rt.alloc(), 1, 9)?;
+/// Returns whether a read that fails ends the groups.
+pub fn reads_failed_group(alloc: Global) -> Result<bool, ReadFault> {
+    let mut source = MemSource::of(alloc, b"a\nb\nc\n", &[5], &[1])?;
+    let failed = Err(ReadFault::Failed);
+    reads(alloc, &mut source, 9, &["a\nb\n"], failed)
+}
+
+/// Returns whether a fault of a reader is a fault of the source.
+pub fn broken_reader(alloc: Global) -> Result<bool, ReadFault> {
+    let mut reader = GroupReader::of(alloc, 1, 9)?;
     let mut source = InputSource::new(BrokenReader { gave: false });
-    assert!(rt; reader.advance(&mut source) == Err(ReadFault::Failed));
-    let long = vec![in rt.alloc(); 7; 200_000]?;
-    let mut reader = GroupReader::of(rt.alloc(), 1, 200_000)?;
+    Ok(reader.advance(&mut source) == Err(ReadFault::Failed))
+}
+
+/// Returns whether a group of 200,000 bytes is read whole.
+pub fn long_group(alloc: Global) -> Result<bool, ReadFault> {
+    let long = vec![in alloc; 7; 200_000]?;
+    let mut reader = GroupReader::of(alloc, 1, 200_000)?;
     let mut source = InputSource::new(long.as_slice());
-    assert!(rt; reader.advance(&mut source)? && reader.group() == long.as_slice());
-    Ok(())
+    Ok(reader.advance(&mut source)? && reader.group() == long.as_slice())
 }
