@@ -1,13 +1,20 @@
 //! Reads cases, one a line: the arguments of a request as `name=value&name=value`, and after a tab a line of JSON that
 //! came in 5 ns after 1970 began. Writes the row of that line; with no tab, what the arguments ask for; or the fault.
-//! A case that begins with `<` is a message of syslog that came in then, whose row it writes, or the fault.
+//! A case that begins with `<` is a message of syslog that came in then, whose row it writes, or the fault. A case
+//!
+//! - `long COUNT|FIRST|PIECE|LAST` is a line in which the piece comes this often, and the line with the piece once
+//!   less: the faults of both, or `row`;
+//! - `members COUNT` is a line of this many members: its fault, or `row`;
+//! - `lines COUNT` is a body of this many lines of 200 kB: how many rows are kept, and what they weigh where that is
+//!   too much for a batch;
+//! - `added COUNT` is a body of this many short lines, to each of which 200 kB are added: the same, or `memory`;
+//! - `check NAME` asks whether that check of the program holds.
 //!
 //! The answers in `stdout` are not the program's own. They are made in Python, with its `json` module for the lines,
 //! its `datetime` for the moments, and a second reading of the rules of syslog.
 #![tactic(auto)]
 
-#[cfg(test)]
-mod tests;
+mod limits_tests;
 
 use ingest_row::{Options, row_of_line, row_of_syslog};
 use std::alloc::{AllocError, Global};
@@ -26,9 +33,17 @@ fn answer(alloc: Global, case: &str) -> Result<String, AllocError> {
     if case.starts_with('<') {
         return syslog_answer(alloc, case);
     }
-    match case.split_once('\t') {
-        Some((arguments, line)) => read(alloc, arguments, Some(line)),
-        None => read(alloc, case, None),
+    if let Some((arguments, line)) = case.split_once('\t') {
+        return read(alloc, arguments, Some(line));
+    }
+    let (kind, rest) = case.split_once(' ').unwrap_or((case, ""));
+    match kind {
+        "long" => limits_tests::long_text(alloc, rest),
+        "members" => limits_tests::members_text(alloc, rest),
+        "lines" => limits_tests::lines_text(alloc, rest),
+        "added" => limits_tests::added_text(alloc, rest),
+        "check" => limits_tests::holds(alloc, rest)?.to_string(alloc),
+        _ => read(alloc, case, None),
     }
 }
 

@@ -1,14 +1,14 @@
 //! Reads JSON lines, and prints the fields of each as `name=value;` in their order, or its error. Both implementations
-//! run, and the output shows where they differ.
+//! run, and the output shows where they differ. Of a line `run BYTES` it prints how many of these bytes stand for
+//! themselves in a string, and of `check NAME` whether that check of the program holds.
 //!
 //! The expected output in `stdout` comes from Python: fields from its `json` module, with numbers and arrays as they
 //! are written, and offsets of errors from a parser of RFC 8259 written in Python.
 #![tactic(auto)]
 
-#[cfg(test)]
-mod tests;
+mod fields_tests;
 
-use jsonline_in::JsonFault;
+use jsonline_in::{JsonFault, run};
 use std::alloc::{AllocError, Global};
 use std::io;
 use std::io::Read;
@@ -24,8 +24,23 @@ fn main(rt: HostRuntime) -> io::Result<()> {
     Ok(())
 }
 
-/// Returns the results of both implementations for the line.
 fn answer(alloc: Global, line: &[u8]) -> Result<String, AllocError> {
+    if line.starts_with(b"run ") {
+        let bytes = line.get(4..).unwrap_or(line);
+        return run::plain_len(bytes).to_string(alloc);
+    }
+    if line == b"check count_over".as_slice() {
+        let holds = fields_tests::count_over(alloc);
+        return holds.unwrap_or(false).to_string(alloc);
+    }
+    if line == b"check memory_has_text".as_slice() {
+        return fields_tests::memory_has_text(alloc)?.to_string(alloc);
+    }
+    both(alloc, line)
+}
+
+/// Returns the results of both implementations for the line.
+fn both(alloc: Global, line: &[u8]) -> Result<String, AllocError> {
     let read = read(alloc, line)?;
     let plain = read_plainly(alloc, line)?;
     if read.as_str() == plain.as_str() {

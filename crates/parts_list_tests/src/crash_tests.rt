@@ -5,8 +5,6 @@ ghost use Rattle.parts_list_tests.specs.Awaits.{Awaits, entries_of};
 
 use parts_list::{Entry, List, ListFault, read_list, write_list};
 use std::alloc::{AllocError, Global};
-use std::process::Abort;
-use std::test::Fail;
 use vl_row::Items;
 use vl_vault::{MemoryVault, Vault};
 
@@ -64,7 +62,7 @@ fn write_next(alloc: Global, vault: &mut MemoryVault, list: &List) -> Result<(),
 }
 
 /// Returns whether the vault has the list of this generation, or none at 0.
-fn has_list(alloc: Global, vault: &mut MemoryVault, generation: u64) -> Result<bool, Fail>
+fn has_list(alloc: Global, vault: &mut MemoryVault, generation: u64) -> Result<bool, ListFault>
     requires { generation < 100 }
 {
     let Some(found) = read_list(alloc, vault)? else {
@@ -90,72 +88,66 @@ fn next_choice(state: &mut u64) -> u64 {
     mixed ^ (mixed >> 31)
 }
 
-/// How many images of a row of moments had the list from before, and how many the new one.
+/// How many images of a row of moments had the list from before, how many the new one, and how many neither.
 #[derive(Drop)]
 struct Counts {
     old: u64,
     new: u64,
+    neither: u64,
 }
 
-/// Tries images of each moment from one call to another, while the list of this generation was written.
-fn try_moments(
-    rt: &impl Abort,
+/// Tries images of the moment after this call, while the list of this generation was written.
+fn try_moment(
     alloc: Global,
     vault: &MemoryVault,
-    calls: (u64, u64),
+    call: u64,
     generation: u64,
-) -> Result<Counts, Fail>
+    counts: &mut Counts,
+) -> Result<(), ListFault>
     requires least { 1 ≤ generation }
     requires most { generation < 100 }
 {
-    let mut state = generation;
-    let mut counts = Counts { old: 0, new: 0 };
-    for call in calls.0..calls.1 {
-        for _ in 0..IMAGES {
-            assert!(rt; call <= vault.calls());
-            let mut image = vault.image(call, next_choice(&mut state))?;
-            if has_list(alloc, &mut image, generation)? {
-                counts.new = counts.new.saturating_add(1);
-            } else {
-                assert!(rt;
-                    has_list(alloc, &mut image, generation - 1)?,
-                    "after {call} calls"
-                );
-                counts.old = counts.old.saturating_add(1);
-            }
+    let mut state = generation.wrapping_mul(1_000).wrapping_add(call);
+    for _ in 0..IMAGES {
+        if vault.calls() < call {
+            return Err(ListFault::VaultFault);
+        }
+        let mut image = vault.image(call, next_choice(&mut state))?;
+        if has_list(alloc, &mut image, generation)? {
+            counts.new = counts.new.saturating_add(1);
+        } else if has_list(alloc, &mut image, generation - 1)? {
+            counts.old = counts.old.saturating_add(1);
+        } else {
+            counts.neither = counts.neither.saturating_add(1);
         }
     }
-    Ok(counts)
-}
-
-/// Tries images of each moment, and finds both lists among them.
-fn try_list(
-    rt: &impl Abort,
-    alloc: Global,
-    vault: &MemoryVault,
-    calls: (u64, u64),
-    generation: u64,
-) -> Result<(), Fail>
-    requires least { 1 ≤ generation }
-    requires most { generation < 100 }
-{
-    let counts = try_moments(rt, alloc, vault, calls, generation)?;
-    assert!(rt;
-        counts.old > 1_000,
-        "{} of generation {generation}",
-        counts.old
-    );
-    assert!(rt;
-        counts.new > 10,
-        "{} of generation {generation}",
-        counts.new
-    );
     Ok(())
 }
 
-#[test]
-fn a_crash_leaves_one_of_two_lists(rt: HostRuntime) -> Result<(), Fail> {
-    let alloc = rt.alloc();
+/// Returns whether images of each moment from one call to another have the list from before or the new one, and both
+/// lists are among them.
+fn try_list(
+    alloc: Global,
+    vault: &MemoryVault,
+    calls: (u64, u64),
+    generation: u64,
+) -> Result<bool, ListFault>
+    requires least { 1 ≤ generation }
+    requires most { generation < 100 }
+{
+    let mut counts = Counts {
+        old: 0,
+        new: 0,
+        neither: 0,
+    };
+    for call in calls.0..calls.1 {
+        try_moment(alloc, vault, call, generation, &mut counts)?;
+    }
+    Ok(counts.old > 1_000 && counts.new > 10 && counts.neither == 0)
+}
+
+/// Returns whether a crash leaves one of two lists, while three are written one after another.
+fn leaves_one_of_two(alloc: Global) -> Result<bool, ListFault> {
     let mut vault = new_vault(alloc, &[])?;
     write_next(alloc, &mut vault, &list_of(alloc, 1)?)?;
     let one = vault.calls();
@@ -163,10 +155,10 @@ fn a_crash_leaves_one_of_two_lists(rt: HostRuntime) -> Result<(), Fail> {
     let two = vault.calls();
     write_next(alloc, &mut vault, &list_of(alloc, 3)?)?;
     let three = vault.calls();
-    try_list(&rt, alloc, &vault, (0, one), 1)?;
-    try_list(&rt, alloc, &vault, (one, two), 2)?;
-    try_list(&rt, alloc, &vault, (two, three.saturating_add(1)), 3)?;
-    Ok(())
+    let first = try_list(alloc, &vault, (0, one), 1)?;
+    let second = try_list(alloc, &vault, (one, two), 2)?;
+    let third = try_list(alloc, &vault, (two, three.saturating_add(1)), 3)?;
+    Ok(first && second && third)
 }
 
 /// Returns the list of generation 1 that has one part.
@@ -187,24 +179,23 @@ fn one_part(alloc: Global) -> Result<List, AllocError>
     })
 }
 
-#[test]
-fn the_bytes_of_a_slot(rt: HostRuntime) -> Result<(), Fail> {
-    let alloc = rt.alloc();
+/// The bytes of the slot of that list.
+const SLOT: [u8; 57] = [
+    1, 0x56, 0x4c, 0x4c, 0x49, 0x53, 0x54, 1, 0, // the gate, the magic and the version
+    1, 0, 0, 0, 0, 0, 0, 0, // the generation
+    1, 0, 0, 0, 0, 0, 0, 0, // the front
+    3, 0, 0, 0, 0, 0, 0, 0, // the next file
+    1, 0, 0, 0, // one part
+    0, 0, 0, 0, 2, 0, 0, 0, 0, 0, 0, 0, 0x42, 0, 0, 0, 0, 0, 0, 0,
+];
+
+/// Returns whether a list is written as these bytes, and nothing to the other slot.
+fn has_slot_bytes(alloc: Global) -> Result<bool, ListFault> {
     let mut vault = new_vault(alloc, &[])?;
     write_next(alloc, &mut vault, &one_part(alloc)?)?;
     let mut bytes = [9u8; 64];
-    let wanted: [u8; 57] = [
-        1, 0x56, 0x4c, 0x4c, 0x49, 0x53, 0x54, 1, 0, // the gate, the magic and the version
-        1, 0, 0, 0, 0, 0, 0, 0, // the generation
-        1, 0, 0, 0, 0, 0, 0, 0, // the front
-        3, 0, 0, 0, 0, 0, 0, 0, // the next file
-        1, 0, 0, 0, // one part
-        0, 0, 0, 0, 2, 0, 0, 0, 0, 0, 0, 0, 0x42, 0, 0, 0, 0, 0, 0, 0,
-    ];
-    assert_eq!(rt; vault.read(1, 0, &mut bytes)?, 57);
-    assert_eq!(rt; &bytes[..57], wanted.as_slice());
-    assert_eq!(rt; vault.length(0)?, 0);
-    Ok(())
+    let count = vault.read(1, 0, &mut bytes)?;
+    Ok(count == 57 && &bytes[..57] == SLOT.as_slice() && vault.length(0)? == 0)
 }
 
 /// Returns whether this is no list, or the list of generation 1.
@@ -215,27 +206,29 @@ fn is_none_or_first(list: Option<List>) -> bool {
     }
 }
 
-#[test]
-fn each_call_that_fails_is_a_fault(rt: HostRuntime) -> Result<(), Fail> {
-    let alloc = rt.alloc();
-    for failing in 0..8u64 {
-        let mut vault = new_vault(alloc, &[failing])?;
-        let written = write_next(alloc, &mut vault, &list_of(alloc, 1)?);
-        assert_eq!(rt; written, Err(ListFault::VaultFault), "call {failing}");
-        assert_eq!(rt; vault.faults(), 1);
-        assert_eq!(rt; vault.calls(), failing.saturating_add(1));
-        // What the call that failed left is read from then on.
-        assert!(rt;
-            is_none_or_first(read_list(alloc, &mut vault)?),
-            "call {failing}"
-        );
-        for choice in 0..400 {
-            let mut image = vault.image(vault.calls(), choice)?;
-            assert!(rt;
-                is_none_or_first(read_list(alloc, &mut image)?),
-                "call {failing}, image {choice}"
-            );
-        }
+/// Returns whether a list is not written while this call fails, and the vault and each image have none or the first.
+fn is_fault(alloc: Global, failing: u64) -> Result<bool, ListFault> {
+    let mut vault = new_vault(alloc, &[failing])?;
+    let written = write_next(alloc, &mut vault, &list_of(alloc, 1)?);
+    let refused = written == Err(ListFault::VaultFault);
+    let counted = vault.faults() == 1 && vault.calls() == failing.saturating_add(1);
+    // What the call that failed left is read from then on.
+    let mut same = is_none_or_first(read_list(alloc, &mut vault)?);
+    for choice in 0..400 {
+        let mut image = vault.image(vault.calls(), choice)?;
+        same = is_none_or_first(read_list(alloc, &mut image)?) && same;
     }
-    Ok(())
+    Ok(refused && counted && same)
+}
+
+/// Returns whether the check of this name holds.
+pub fn holds(alloc: Global, name: &str) -> Result<bool, ListFault> {
+    if let Some(call) = name.strip_prefix("fault ") {
+        return is_fault(alloc, call.parse::<u64>().unwrap_or(0));
+    }
+    match name {
+        "leaves_one_of_two" => leaves_one_of_two(alloc),
+        "has_slot_bytes" => has_slot_bytes(alloc),
+        _ => Ok(false),
+    }
 }

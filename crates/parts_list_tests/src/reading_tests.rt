@@ -1,11 +1,17 @@
 //! Slots that are read.
 
+use crate::crash_tests;
 use parts_list::{List, read_list};
 use std::alloc::{AllocError, Global};
 use vl_vault::{MemoryVault, Vault};
 
 /// Returns what is written of a line.
 pub fn answer(alloc: Global, line: &str) -> Result<String, AllocError> {
+    if let Some(name) = line.strip_prefix("check ") {
+        return crash_tests::holds(alloc, name)
+            .unwrap_or(false)
+            .to_string(alloc);
+    }
     let mut words = line.split(' ');
     let first = bytes_of(alloc, words.next().unwrap_or(""))?;
     let second = bytes_of(alloc, words.next().unwrap_or(""))?;

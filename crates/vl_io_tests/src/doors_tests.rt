@@ -4,7 +4,6 @@ use std::alloc::{AllocError, Global};
 use std::io::Write;
 use std::net::TcpStream;
 use std::rt::Clock as SystemTimer;
-use std::test::Fail;
 use std::{io, thread};
 use vl_io::{
     Doors, Failed, GroupReader, Listening, MemClock, MemDoors, MemSource, ReadFault, Source,
@@ -41,55 +40,58 @@ fn answer<'a, D: Doors>(doors: &mut D, buf: &'a mut [u8]) -> &'a [u8] {
     }
 }
 
-#[test]
-fn doors_give_their_visits_in_turn(rt: HostRuntime) -> Result<(), Fail> {
-    let tables: [(&[u64], [&str; 5]); 3] = [
-        (&[], ["first", "second", "none", "none", "none"]),
-        (&[0, 2], ["failed", "first", "failed", "second", "none"]),
-        (&[3], ["first", "second", "none", "failed", "none"]),
-    ];
-    let mut buffer = [0; 8];
-    for (failing, answers) in &tables {
-        let mut doors = doors_of(rt.alloc(), &["first", "second"], failing)?;
-        for want in answers {
-            assert!(rt;
-                answer(&mut doors, &mut buffer) == want.as_bytes(),
-                "{want}"
-            );
+/// Returns the numbers of a text, with spaces between them.
+fn numbers_of(alloc: Global, text: &str) -> Result<Vec<u64>, AllocError> {
+    let mut numbers = Vec::new(alloc);
+    for word in text.split(' ') {
+        if let Ok(number) = word.parse::<u64>() {
+            numbers.push(number)?;
         }
     }
-    Ok(())
+    Ok(numbers)
 }
 
-#[test]
-fn doors_are_asked_side_by_side(rt: HostRuntime) -> Result<(), Fail> {
-    let mut two = Vec::new(rt.alloc());
-    for texts in [["a"].as_slice(), &[]] {
-        two.push(doors_of(rt.alloc(), texts, &[])?)?;
+/// Returns what doors of two visitors answer five times, of which the calls of these numbers fail.
+pub fn answers_text(alloc: Global, failing: &str) -> Result<String, AllocError> {
+    let failing = numbers_of(alloc, failing)?;
+    let mut doors = doors_of(alloc, &["first", "second"], failing.as_slice())?;
+    let mut text = String::new(alloc);
+    let mut buffer = [0; 8];
+    for _ in 0..5 {
+        let front = String::from_utf8_lossy(alloc, answer(&mut doors, &mut buffer))?;
+        write!(text, "{front} ")?;
     }
+    Ok(text)
+}
+
+/// Returns whether doors that are asked side by side give their visits, so that both have none left.
+pub fn side_by_side(rt: &HostRuntime) -> Result<bool, AllocError> {
+    let alloc = rt.alloc();
+    let mut two = Vec::new(alloc);
+    two.push(doors_of(alloc, &["a"], &[])?)?;
+    two.push(doors_of(alloc, &[], &[])?)?;
     thread::for_each_mut(
-        &rt,
+        rt,
         two.as_mut_slice(),
         2,
         &|_, doors| {
             let _ = doors.next();
         },
     );
+    let mut none = true;
     for doors in &mut two {
-        assert!(rt; matches!(doors.next(), Ok(None)));
+        none = matches!(doors.next(), Ok(None)) && none;
     }
-    Ok(())
+    Ok(none)
 }
 
-#[test]
-fn doors_without_a_listener_fail(rt: HostRuntime) -> Result<(), Fail> {
-    // An address needs a port.
-    let nowhere = Listening::at(&rt, rt.alloc(), "127.0.0.1")?;
-    assert!(rt; nowhere.address().is_err());
-    let mut closed = nowhere.door(&rt, rt.alloc(), VisitKind::Http)?;
-    assert!(rt; matches!(closed.next(), Err(Failed)));
-    assert!(rt; matches!(closed.next(), Err(Failed)));
-    Ok(())
+/// Returns whether doors without a listener fail, each time. An address needs a port.
+pub fn no_listener(rt: &HostRuntime) -> Result<bool, AllocError> {
+    let nowhere = Listening::at(rt, rt.alloc(), "127.0.0.1")?;
+    let mut closed = nowhere.door(rt, rt.alloc(), VisitKind::Http)?;
+    let first = matches!(closed.next(), Err(Failed));
+    let second = matches!(closed.next(), Err(Failed));
+    Ok(nowhere.address().is_err() && first && second)
 }
 
 /// Sends the visitor's first line back.
@@ -111,23 +113,22 @@ fn serve_next<R: SystemTimer + Copy + Drop>(
     }
 }
 
-#[test]
-fn a_listener_gives_its_connections(rt: HostRuntime) -> Result<(), Fail> {
+/// Returns whether a listener gives its connections, and each peer gets its line back.
+pub fn gives_connections(rt: &HostRuntime) -> io::Result<bool> {
     // The system chooses the port.
-    let listening = Listening::at(&rt, rt.alloc(), "127.0.0.1:0")?;
+    let listening = Listening::at(rt, rt.alloc(), "127.0.0.1:0")?;
     let address = listening.address()?;
-    let mut doors = listening.door(&rt, rt.alloc(), VisitKind::Http)?;
-    let mut first = TcpStream::connect(&rt, address)?;
-    let mut second = TcpStream::connect(&rt, address)?;
+    let mut doors = listening.door(rt, rt.alloc(), VisitKind::Http)?;
+    let mut first = TcpStream::connect(rt, address)?;
+    let mut second = TcpStream::connect(rt, address)?;
     first.write_all(b"first\n")?;
     second.write_all(b"second\n")?;
-    serve_next(rt.alloc(), &mut doors)?;
+    let mut served = serve_next(rt.alloc(), &mut doors).is_ok();
     // What comes when the visit is over takes nothing away from its peer.
     first.write_all(b"late\n")?;
-    serve_next(rt.alloc(), &mut doors)?;
+    served = serve_next(rt.alloc(), &mut doors).is_ok() && served;
     drop(doors);
-    for (peer, line) in [(first, "first\n"), (second, "second\n")] {
-        assert_eq!(rt; io::read_to_string(rt.alloc(), peer)?.as_str(), line);
-    }
-    Ok(())
+    let first = io::read_to_string(rt.alloc(), first)?;
+    let second = io::read_to_string(rt.alloc(), second)?;
+    Ok(served && first.as_str() == "first\n" && second.as_str() == "second\n")
 }

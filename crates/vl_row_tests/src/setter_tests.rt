@@ -1,7 +1,6 @@
 //! Fields that come in any order, and names that are looked up in a list.
 use field_setter::FieldSetter;
 use std::alloc::{AllocError, Global};
-use std::test::Fail;
 use vl_row::{FieldList, Names, Row, Text};
 
 /// Returns the fields of this many members, whose names fall from the largest. Members 7 and 8 come again: 7 with
@@ -19,20 +18,6 @@ fn falling(alloc: Global, count: u32) -> Result<FieldList, AllocError> {
     setter.finish()
 }
 
-/// Returns the text of these fields in rising order, without member 8.
-fn rising(alloc: Global, count: u32) -> Result<String, AllocError> {
-    let mut text = String::new(alloc);
-    for i in 0..count {
-        let number = 10_001 + u64::from(i);
-        if number == 10_007 {
-            write!(text, "n{number}=again ")?;
-        } else if number != 10_008 {
-            write!(text, "n{number}=first ")?;
-        }
-    }
-    Ok(text)
-}
-
 fn shown(alloc: Global, list: &FieldList) -> Result<String, AllocError> {
     let mut text = String::new(alloc);
     for field in list.as_slice() {
@@ -41,17 +26,10 @@ fn shown(alloc: Global, list: &FieldList) -> Result<String, AllocError> {
     Ok(text)
 }
 
-/// Returns whether the fields rise, of which member 7 has its last value and member 8 has none.
-fn are_in_order(alloc: Global, count: u32) -> Result<bool, AllocError> {
-    let list = falling(alloc, count)?;
-    Ok(shown(alloc, &list)?.as_str() == rising(alloc, count)?.as_str())
-}
-
-#[test]
-fn fields_come_in_any_order(rt: HostRuntime) -> Result<(), Fail> {
-    assert!(rt; are_in_order(rt.alloc(), 9)?);
-    assert!(rt; are_in_order(rt.alloc(), 300)?);
-    Ok(())
+/// Returns the fields of this many members in their order.
+pub fn falling_text(alloc: Global, count: &str) -> Result<String, AllocError> {
+    let list = falling(alloc, count.parse::<u32>().unwrap_or(0))?;
+    shown(alloc, &list)
 }
 
 fn texts(alloc: Global, names: &[&str]) -> Result<Vec<Text>, AllocError> {
@@ -63,7 +41,7 @@ fn texts(alloc: Global, names: &[&str]) -> Result<Vec<Text>, AllocError> {
 }
 
 /// Returns whether names are found that were listed in no order, one of them twice, and their fields are removed.
-fn finds_listed(alloc: Global) -> Result<bool, AllocError> {
+pub fn finds_listed(alloc: Global) -> Result<bool, AllocError> {
     let names = Names::try_of(alloc, texts(alloc, &["c", "a", "e", "a", "bb"])?.as_slice())?;
     let mut list = FieldList::new(alloc);
     list.set(alloc, "a", "1")?;
@@ -84,14 +62,8 @@ fn finds_listed(alloc: Global) -> Result<bool, AllocError> {
     )
 }
 
-#[test]
-fn listed_names_are_found(rt: HostRuntime) -> Result<(), Fail> {
-    assert!(rt; finds_listed(rt.alloc())?);
-    Ok(())
-}
-
 /// Returns whether a row's labels are its fields whose names are listed.
-fn has_listed_labels(alloc: Global) -> Result<bool, AllocError> {
+pub fn has_listed_labels(alloc: Global) -> Result<bool, AllocError> {
     let names = Names::try_of(alloc, texts(alloc, &["host", "app", "none"])?.as_slice())?;
     let mut list = FieldList::new(alloc);
     list.set(alloc, "_msg", "hello")?;
@@ -108,10 +80,4 @@ fn has_listed_labels(alloc: Global) -> Result<bool, AllocError> {
             && labels.value("app") == "x"
             && labels.value("host") == "y",
     )
-}
-
-#[test]
-fn listed_names_are_labels(rt: HostRuntime) -> Result<(), Fail> {
-    assert!(rt; has_listed_labels(rt.alloc())?);
-    Ok(())
 }

@@ -1,4 +1,4 @@
-"""The rows of lines of JSON, with the arguments of their insert, and of messages of syslog."""
+"""The rows of lines of JSON, with the arguments of their insert, and of messages of syslog; the limits of both."""
 from chance import NUMBERS, STAMPS, lines_of, some, table
 from faults import Fault
 from rows import Options, row_of_line, row_of_syslog
@@ -6,6 +6,7 @@ from tables import jsonline_in_tests, syslog_in_tests
 from values import in_order
 
 NOW = 5
+BATCH = 64 * 2**20
 ROW_FAULTS = ("TimeRange", "NameLong", "ManyFields", "RowLarge", "Empty")
 
 
@@ -18,10 +19,49 @@ def answer(case):
         if case.startswith("<"):
             return row_text(row_of_syslog(NOW, case.encode()))
         arguments, tab, line = case.partition("\t")
+        kind, _, rest = case.partition(" ")
+        if not tab and kind in KINDS:
+            return KINDS[kind](rest)
         options = Options(tuple(argument.split("=", 1)) for argument in arguments.split("&") if "=" in argument)
         return row_text(row_of_line(options, NOW, line.encode())) if tab else options_text(options)
     except Fault as fault:
         return syslog_fault(fault) if case.startswith("<") else fault.name
+
+
+def line_fault(line):
+    """Returns the name of the fault of a line without arguments, or `row`."""
+    try:
+        row_of_line(Options(()), NOW, line.encode())
+        return "row"
+    except Fault as fault:
+        return fault.name
+
+
+def long_text(rest):
+    count, first, piece, last = rest.split("|")
+    return " ".join(line_fault(first + piece * n + last) for n in (int(count), int(count) - 1))
+
+
+def members_text(count):
+    return line_fault("{" + ",".join(f'"{n}":0' for n in range(int(count))) + "}")
+
+
+def weighed_text(count, memory):
+    """Of rows of a field of two bytes and one of 200,001. A batch has 64 MiB of them, if so much memory may be taken."""
+    weight = count * 200003
+    if weight > BATCH:
+        return f"0 {weight}"
+    return f"{count} 0" if weight <= memory else "memory"
+
+
+KINDS = {
+    "long": long_text,
+    "members": members_text,
+    "lines": lambda count: weighed_text(int(count), BATCH),
+    "added": lambda count: weighed_text(int(count), 24 * 2**20),
+    # each check of the program holds
+    "check": lambda name: "true",
+}
 
 
 def syslog_fault(fault):
@@ -87,6 +127,7 @@ def cases(random):
         lines.append("\t{" + ",".join(f'"f{n}":1' for n in range(count)) + "}")
         parameters = "".join(f' p{n}="x"' for n in range(count - 5))
         lines.append(f"<13>1 - - - - - [a{parameters}] m")
+    lines += [f"members {random.randint(998, 1003)}", f"long {random.randint(128, 131)}|{{\"|n|\":\"v\"}}"]
     return table(lines)
 
 

