@@ -3,30 +3,30 @@
 Read in another way a connection gives the same; one of which a read or a write fails ends there. The program says
 nothing of that where it is so.
 """
-from chance import lines_of, table
 from sessions import HttpSession, Log
 from spelling import case_of, spelled, unspelled
-from tables.http_in_tests import damaged
+from tables.http_in_tests import chunks, damaged
 
 TIMES, SHOWN = (5, 6, 7), 12
 LONGEST = 4000  # of more bytes only the number is written
 
 
-def answers(stdin):
-    return table(map(answer, lines_of(stdin)))
-
-
 def answer(line):
     name, count, first, last = (line.split(" | ", 3) + ["", "", ""])[:4]
     data = unspelled(first) * (int(count) if count.isdigit() else 1) + unspelled(last)
-    session = HttpSession(Log(), data, TIMES)
+    return f"{name} | {told(HttpSession(Log(), data, TIMES))}"
+
+
+def told(session):
+    """Returns what was written, the first turns, and how the session ended."""
     turns = "".join(f" at {now} with {front}, 0 settled;" for now, front in session.turns[:SHOWN])
-    return f"{name} | {spelled(session.written, LONGEST)}{turns} {len(session.turns)} turns, {session.end}"
+    return f"{spelled(session.written, LONGEST)}{turns} {len(session.turns)} turns, {session.end}"
 
 
 LINES = (
     '{"_msg":"a b","app":"x"}', '{"_msg":"error","n":7,"app":"y"}', '{"n":"9223372036854775807"}', "x", "", " ", "[]",
-    "{}", '{"_time":"2024-05-01T10:00:00Z","_msg":"é"}', '{"_time":"x"}', '{"a":{"b":null,"c":[1, 2]}}', '{"a":',
+    "{}", '{"_time":1714557600,"_msg":"a","n":6}', '{"_time":"2024-05-01T10:00:00Z","_msg":"é"}',
+    '{"_time":"x"}', '{"a":{"b":null,"c":[1, 2]}}', '{"a":',
 )  # fmt: skip
 QUERIES = (
     "*", "a", "error", "n:>5", '{app="x"}', "* | stats count() as n", "* | stats sum(n) as s", "* | fields _msg",
@@ -53,7 +53,27 @@ def request(random):
     return f"{random.choice(REST)} HTTP/1.1{end}\r\n".encode("utf-8")
 
 
+OTHER = ["GET /status", "GET /health", "HEAD /status", "PUT /insert/jsonline", "GET /x?y", "GET /select/logsql/query"]
+ENDS = (b"GET /status HTTP/1.0\r\n\r\n", b"GET /status HTTP/1.1\r\n", b"what\r\n\r\n", b"")
+
+
+def open_request(random):
+    """Returns the bytes of a request that leaves the connection open, some with a body in chunks."""
+    kind = random.randrange(4)
+    if kind == 0:
+        return f"{random.choice(OTHER)} HTTP/1.1\r\nHost: a\r\n\r\n".encode()
+    if kind == 1:
+        query = random.choice(QUERIES).replace(" ", "+")
+        return f"GET /select/logsql/query?query={query} HTTP/1.1\r\n\r\n".encode()
+    body = "\n".join(random.choices(LINES, k=random.randrange(6))).encode()
+    path = "/insert/jsonline" + random.choice(OPTIONS)
+    if kind == 2:
+        return f"POST {path} HTTP/1.1\r\nTransfer-Encoding: chunked\r\n\r\n".encode() + chunks(random, body)
+    return f"POST {path} HTTP/1.1\r\nContent-Length: {len(body)}\r\n\r\n".encode() + body
+
+
 def cases(random):
+    """Returns the lines of a table of other connections."""
     one, last = case_of(b"GET /health HTTP/1.1\r\n\r\n"), case_of(b"GET /status HTTP/1.0\r\n\r\n")
     lines = [f"{count} and a last one | {count} | {one} | {last}" for count in (0, 1, 998, 999, 1000)]
     insert = case_of(b'POST /insert/jsonline HTTP/1.1\r\nContent-Length: 9\r\n\r\n{"a":"b"}')
@@ -64,4 +84,7 @@ def cases(random):
         if n % 4 == 0:
             lines.append(f"cut {n} | 1 | {case_of(data[: random.randrange(len(data))])} | ")
             lines.append(f"damaged {n} | 1 | {case_of(damaged(random, data))} | ")
-    return table(lines)
+    for n in range(25):
+        data = b"".join(open_request(random) for _ in range(8)) + random.choice(ENDS)
+        lines.append(f"eight {n} | 1 | {case_of(data)} | ")
+    return lines
