@@ -1,26 +1,81 @@
-//! Reads a case on each line: what it shows, how often the connection has the bytes that follow, those, and the
-//! bytes after them. Serves it over an empty desk, and writes what was written, the moments of the first turns
-//! with how many batches had been seen and were settled then, and how the session ended. A short connection is also
-//! read a byte at a time, and so that each of its reads fails in turn, and each is served so that each write does;
+//! Without words it reads a case on each line, serves it over an empty desk, and writes what came of it.
+//!
+//! A case of HTTP is in parts with ` | ` between them: what it shows, how often the connection has the bytes that
+//! follow, those, and the bytes after them. The answer is what was written, the moments of the first turns with how
+//! many batches had been seen and were settled then, and how the session ended. A short connection is also read a byte
+//! at a time, and so that each of its reads fails in turn, and each is served so that each write does; where that is
+//! not what it is to be, it is written too.
+//!
+//! A case of syslog begins with `syslog / `, and is in parts with ` / ` between them: what it shows, a query, how many
+//! bytes a read gives at most, or 0, how often the input has the bytes that follow, those, and the bytes after them.
+//! The answer is how many messages were read and refused, how the session ended, how many batches there are then, and
+//! what the query answers. A short input is also read a byte at a time, and so that each of its reads fails in turn;
 //! where that is not what it is to be, it is written too.
 //!
 //! A byte that is not visible ASCII is written as `\0a;`, and n of the same as `\61x65536;`.
 //!
+//! After the cases it writes a line for each check that has no case: an input of syslog without an end, lines that are
+//! inserted and queries that are asked without a session, the limits of what is held, and sessions of several callers
+//! of one desk.
+//!
 //! The answers in `stdout` are not the program's own: they come from a second reading of the same rules in Python.
+//!
+//! With a word it serves one session over the standard streams, for measuring: `http`, `syslog` or `inserts`.
 #![tactic(auto)]
 
-mod answers_tests;
+mod callers_tests;
+mod case_tests;
+mod connection_tests;
+mod desk_tests;
+mod endless_tests;
+mod http_answers_tests;
+mod http_sessions_tests;
+mod inserts;
 mod limits_tests;
-mod sessions_tests;
+mod measured;
+mod scripted_tests;
 mod spelling_tests;
+mod syslog_answers_tests;
+mod syslog_sessions_tests;
 
-use answers_tests::answer;
-use std::io;
+use desk_tests::push_desks;
+use endless_tests::push_endless;
+use limits_tests::push_limits;
+use measured::{measure, task_of};
+use std::alloc::{AllocError, AllocGlobal};
+use std::random::RandomSource;
+use std::sync::Wait;
+use std::thread::Threads;
+use std::{env, io};
 
 fn main(rt: HostRuntime) -> io::Result<()> {
+    let words: Vec<String> = env::args(&rt)?.skip(1).collect(rt.alloc())?;
+    match task_of(&words) {
+        Some(task) => measure(&rt, rt, task),
+        None => answer_all(&rt, rt),
+    }
+}
+
+/// Answers each case, and then makes the checks.
+fn answer_all<R: AllocGlobal + Threads + Wait + RandomSource + Sync>(
+    handle: &R,
+    rt: HostRuntime,
+) -> io::Result<()> {
     for line in rt.lines(rt.alloc()) {
-        let answer = answer(&rt, line?.as_str())?;
+        let answer = answer(handle, line?.as_str())?;
         println!(rt; "{answer}")?;
     }
-    Ok(())
+    let mut checks = String::new(rt.alloc());
+    push_endless(handle, &mut checks)?;
+    push_limits(handle, &mut checks)?;
+    push_desks(handle, &mut checks)?;
+    print!(rt; "{checks}")
+}
+
+/// Answers a case of its kind.
+fn answer<R: AllocGlobal + Wait + RandomSource>(rt: &R, line: &str) -> Result<String, AllocError> {
+    match line.strip_prefix("syslog / ") {
+        Some(case) => syslog_answers_tests::answer(rt, case),
+        None => http_answers_tests::answer(rt, line),
+    }
 }

@@ -1,67 +1,124 @@
-"""Connections over a log that is empty before (docs/HTTP.md): what is written, and how they end.
+"""Sessions over a log that is empty before: of HTTP (`connections`), and of syslog (`streams`), which begin with their
+kind. Then a line for each check that has no case: the program has its bytes, and here they stand again.
 
-Read in another way a connection gives the same; one of which a read or a write fails ends there. The program says
-nothing of that where it is so.
+The last two are sessions of several callers of one log. Their bytes and threads are the program's own; what is computed
+here is what the log then says.
 """
 from chance import lines_of, table
-from sessions import HttpSession, Log
-from spelling import case_of, spelled, unspelled
-from tables.http_in_tests import damaged
+import connections
+from faults import Fault
+from rows import Options
+from sessions import UNSETTLED, HttpSession, Log, rows_of_body
+from spelling import spelled
+import streams
+from values import json_line
 
-TIMES, SHOWN = (5, 6, 7), 12
-LONGEST = 4000  # of more bytes only the number is written
+KIND = "syslog / "
+TIMES = (5,)
+A, B, C = (b'{"_msg":"%s"}\n' % message for message in (b"a", b"b", b"c"))
 
 
 def answers(stdin):
-    return table(map(answer, lines_of(stdin)))
+    return table([*map(answer, lines_of(stdin)), *checks()])
 
 
 def answer(line):
-    name, count, first, last = (line.split(" | ", 3) + ["", "", ""])[:4]
-    data = unspelled(first) * (int(count) if count.isdigit() else 1) + unspelled(last)
-    session = HttpSession(Log(), data, TIMES)
-    turns = "".join(f" at {now} with {front}, 0 settled;" for now, front in session.turns[:SHOWN])
-    return f"{name} | {spelled(session.written, LONGEST)}{turns} {len(session.turns)} turns, {session.end}"
-
-
-LINES = (
-    '{"_msg":"a b","app":"x"}', '{"_msg":"error","n":7,"app":"y"}', '{"n":"9223372036854775807"}', "x", "", " ", "[]",
-    "{}", '{"_time":"2024-05-01T10:00:00Z","_msg":"é"}', '{"_time":"x"}', '{"a":{"b":null,"c":[1, 2]}}', '{"a":',
-)  # fmt: skip
-QUERIES = (
-    "*", "a", "error", "n:>5", '{app="x"}', "* | stats count() as n", "* | stats sum(n) as s", "* | fields _msg",
-    "a b)", "~%22(%22", "", "* | limit 1", "_time:1s", "app:in(x,y) | sort by (app desc)", "* | stats by (n) count()",
-)  # fmt: skip
-OPTIONS = ("", "?_stream_fields=app", "?extra_fields=app%3Dz&_msg_field=a.c", "?ignore_fields=app", "?extra_fields=x")
-REST = ["GET /status", "GET /health", "HEAD /health", "GET /x", "POST /status", "DELETE /insert/jsonline"]
-
-
-def request(random):
-    """Returns the bytes of a request that inserts, asks, or does neither."""
-    end = random.choice(["\r\n"] * 8 + ["\r\nConnection: close\r\n"])
-    kind = random.randrange(3)
-    if kind == 0:
-        body = "\n".join(random.choices(LINES, k=random.randrange(5))) + random.choice(["", "\n"])
-        size = len(body.encode("utf-8"))
-        first = f"POST /insert/jsonline{random.choice(OPTIONS)} HTTP/1.1"
-        return f"{first}\r\nContent-Length: {size}{end}\r\n{body}".encode("utf-8")
-    if kind == 1:
-        query = random.choice(QUERIES).replace(" ", "+")
-        more = random.choice(["", "", "", "&limit=1", "&timeout=1s"])
-        version = random.choice(["1.1"] * 5 + ["1.0"])
-        return f"GET /select/logsql/query?query={query}{more} HTTP/{version}{end}\r\n".encode("utf-8")
-    return f"{random.choice(REST)} HTTP/1.1{end}\r\n".encode("utf-8")
+    return streams.answer(line.removeprefix(KIND)) if line.startswith(KIND) else connections.answer(line)
 
 
 def cases(random):
-    one, last = case_of(b"GET /health HTTP/1.1\r\n\r\n"), case_of(b"GET /status HTTP/1.0\r\n\r\n")
-    lines = [f"{count} and a last one | {count} | {one} | {last}" for count in (0, 1, 998, 999, 1000)]
-    insert = case_of(b'POST /insert/jsonline HTTP/1.1\r\nContent-Length: 9\r\n\r\n{"a":"b"}')
-    lines.append(f"many inserts | 300 | {insert} | {last}")
-    for n in range(120):
-        data = b"".join(request(random) for _ in range(random.randint(1, 4)))
-        lines.append(f"case {n} | 1 | {case_of(data)} | ")
-        if n % 4 == 0:
-            lines.append(f"cut {n} | 1 | {case_of(data[: random.randrange(len(data))])} | ")
-            lines.append(f"damaged {n} | 1 | {case_of(damaged(random, data))} | ")
-    return table(lines)
+    return table([*connections.cases(random), *(KIND + line for line in streams.cases(random))])
+
+
+def checks():
+    return [streams.endless(), batches(), queries(), refusals(), full(), heavy(), two_sessions(), eight_sessions()]
+
+
+def inserted(log, lines):
+    """Inserts lines, and returns what came of it."""
+    rows, refused = rows_of_body(Options([]), TIMES[0], lines)
+    if rows:
+        try:
+            log.insert(rows)
+        except Fault:
+            return f"Full {{ held: {UNSETTLED} }}"
+    return f"accepted {len(rows)}, refused {len(refused)}, batch {len(log.batches) if rows else 0}"
+
+
+def asked(log, query):
+    """Returns the answer to a query."""
+    try:
+        lines = "".join(map(json_line, log.records(query, TIMES[0])))
+    except Fault as fault:
+        if fault.name == "Overflow":
+            return f"overflow in {fault.at}"
+        return f"pattern {fault.at}" if fault.name == "RegexRefused" else f"query {fault}"
+    return f"{len(log.batches)} batches {spelled(lines.encode('utf-8'), connections.LONGEST)}"
+
+
+def served(log, data):
+    """Returns what came of a connection."""
+    return connections.told(HttpSession(log, data, TIMES))
+
+
+def batches():
+    log = Log()
+    told = [inserted(log, lines) for lines in (A + b"\nx\n" + B, b"x\n", C)]
+    return f"lines become one batch: {'; '.join(told)}; front {len(log.batches)}"
+
+
+def queries():
+    log = Log()
+    none = asked(log, "*")
+    inserted(log, A)
+    inserted(log, B + b'{"_msg":"a c"}\n')
+    return f"a query sees all batches: {none}; {asked(log, 'a | fields _msg')}"
+
+
+def refusals():
+    log = Log()
+    told = inserted(log, b'{"a":"9223372036854775807"}\n{"a":"1"}\n')
+    faults = [asked(log, query) for query in ("a | stats by (x)", 'b:~"c" or ~"("', "* | stats sum(a) as s")]
+    return f"a query is refused by name: {told}; {'; '.join(faults)}"
+
+
+def full():
+    log = Log()
+    in_turn = all(inserted(log, A) == f"accepted 1, refused 0, batch {number}" for number in range(1, UNSETTLED + 1))
+    told = [inserted(log, A), inserted(log, b"x\n"), served(log, insert(A))]
+    return (
+        f"no more than {UNSETTLED:,} batches wait: {str(in_turn).lower()}; {'; '.join(told)}; front {len(log.batches)}"
+    )
+
+
+def heavy():
+    log = Log()
+    body = b'{"bc":1}\n\n' * 5000
+    told = served(log, insert(body, b"?extra_fields=a=" + b"x" * 14000))
+    return f"rows that are too heavy are not taken in: {told}; front {len(log.batches)}"
+
+
+def insert(body, arguments=b""):
+    head = b"POST /insert/jsonline%s HTTP/1.1\r\nContent-Length: %d\r\n\r\n"
+    return head % (arguments, len(body)) + body
+
+
+def select(query):
+    return b"GET /select/logsql/query?query=%s HTTP/1.1\r\n\r\n" % query
+
+
+def two_sessions():
+    """Between the second request of one session and its third one, the other inserts a line."""
+    log, asks = Log(), select(b"*+%7C+fields+_msg")
+    session = HttpSession(log, insert(A) + asks, TIMES)
+    HttpSession(log, insert(B), TIMES)
+    rest = HttpSession(log, insert(C) + asks, TIMES)
+    session.written, session.turns, session.end = session.written + rest.written, session.turns + rest.turns, rest.end
+    return f"two sessions: {connections.told(session)}"
+
+
+def eight_sessions():
+    log = Log()
+    for caller in range(8):
+        HttpSession(log, insert(b'{"caller":"%d"}\n' % caller) * 16, TIMES)
+    return f"eight sessions insert and ask: {served(log, select(b'*+%7C+stats+count()+as+n'))}"

@@ -1,6 +1,5 @@
-//! One session over a desk that is empty before.
-ghost use Rattle.std.specs.Prelude.{◌<◌, All, IfOk};
-
+//! One session of HTTP over a desk that is empty before.
+use crate::case_tests::{listed, pieces};
 use crate::spelling_tests::push_spelled;
 use log_desk::Desk;
 use std::alloc::{AllocError, AllocGlobal, Global};
@@ -35,7 +34,7 @@ pub fn tell<R: AllocGlobal + Wait + RandomSource>(
     setting: Setting,
 ) -> Result<Told, AllocError> {
     let alloc = rt.alloc();
-    let pieces = pieces(alloc, bytes.len(), setting.by_bytes)?;
+    let pieces = pieces(alloc, bytes.len(), if setting.by_bytes { 1 } else { 0 })?;
     let reads = listed(alloc, setting.failing_read)?;
     let writes = listed(alloc, setting.failing_write)?;
     let mut source = MemSource::of(alloc, bytes, &pieces, &reads)?;
@@ -60,7 +59,8 @@ pub fn tell<R: AllocGlobal + Wait + RandomSource>(
     })
 }
 
-fn shown(alloc: Global, written: &[u8], report: &Report) -> Result<String, AllocError> {
+/// Returns what was written, the first turns, and how the session ended.
+pub fn shown(alloc: Global, written: &[u8], report: &Report) -> Result<String, AllocError> {
     let mut text = String::new(alloc);
     push_spelled(written, &mut text)?;
     let turns = report.turns.as_slice();
@@ -74,20 +74,4 @@ fn shown(alloc: Global, written: &[u8], report: &Report) -> Result<String, Alloc
     }
     write!(text, " {} turns, {:?}", turns.len(), report.end)?;
     Ok(text)
-}
-
-/// Returns a piece for each byte, or no pieces.
-fn pieces(alloc: Global, count: usize, by_bytes: bool) -> Result<Vec<usize>, AllocError>
-    ensures { IfOk result (λ pieces. All (λ piece. 0 < piece) pieces.items) }
-{
-    let count = if by_bytes { count } else { 0 };
-    vec![in alloc; 1; count]
-}
-
-fn listed(alloc: Global, call: Option<u64>) -> Result<Vec<u64>, AllocError> {
-    let mut calls = Vec::new(alloc);
-    if let Some(call) = call {
-        calls.push(call)?;
-    }
-    Ok(calls)
 }

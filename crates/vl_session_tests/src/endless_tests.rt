@@ -1,10 +1,11 @@
-//! An input without an end.
+//! An input of syslog without an end.
 ghost use Rattle.std.specs.Prelude.{◌≤◌, IfOk, None, length};
 ghost use Rattle.vl_io.specs.Bytes.{ReadConsumes};
 ghost use Rattle.vl_io.specs.Faults.{HasCause};
 
 use log_desk::Desk;
 use std::alloc::{AllocError, AllocGlobal};
+use std::fmt::Write;
 use std::random::RandomSource;
 use std::sync::Wait;
 use vl_io::{Failed, MemClock, Source};
@@ -33,14 +34,18 @@ impl Source for SameLine {
     }
 }
 
-/// Returns a session over it.
-pub fn endless_input<R: AllocGlobal + Wait + RandomSource>(rt: &R) -> Result<String, AllocError> {
+/// Takes it in, and adds how many messages were accepted and refused.
+pub fn push_endless<R: AllocGlobal + Wait + RandomSource>(
+    rt: &R,
+    out: &mut String,
+) -> Result<(), AllocError> {
     let alloc = rt.alloc();
     let mut clock = MemClock::of(alloc, &[5])?;
     let (desk, mut pass) = Desk::fresh(rt, alloc, 1)?;
     let report = syslog_session(rt, alloc, &desk, &mut pass, &mut SameLine, &mut clock);
-    format!(in alloc;
-        "no end: accepted {}, refused {}, {:?}",
+    write!(
+        out,
+        "no end: accepted {}, refused {}, {:?}\n",
         report.accepted, report.refused, report.end
     )
 }

@@ -1,9 +1,9 @@
-//! One session over a desk that is empty before.
+//! One session of syslog over a desk that is empty before.
 ghost use Rattle.turn_lock.specs.Passes.{IsPassOf};
-ghost use Rattle.std.specs.Prelude.{◌<◌, All, IfOk};
 
+use crate::case_tests::{listed, pieces};
 use log_desk::{Desk, Pass};
-use std::alloc::{AllocError, AllocGlobal, Global};
+use std::alloc::{AllocError, AllocGlobal};
 use std::fmt::Write;
 use std::random::RandomSource;
 use std::sync::Wait;
@@ -65,22 +65,4 @@ fn push_lines<R: AllocGlobal + Wait + RandomSource>(
         write!(out, " {line}")?;
     }
     Ok(())
-}
-
-/// Pieces of this length for all bytes, or no pieces.
-fn pieces(alloc: Global, count: usize, len: usize) -> Result<Vec<usize>, AllocError>
-    ensures { IfOk result (λ pieces. All (λ piece. 0 < piece) pieces.items) }
-{
-    if len == 0 {
-        return Ok(Vec::new(alloc));
-    }
-    vec![in alloc; len; count]
-}
-
-fn listed(alloc: Global, call: Option<u64>) -> Result<Vec<u64>, AllocError> {
-    let mut calls = Vec::new(alloc);
-    if let Some(call) = call {
-        calls.push(call)?;
-    }
-    Ok(calls)
 }

@@ -1,7 +1,7 @@
-//! What sessions come to.
-use crate::sessions_tests::{Setting, Told, tell};
-use crate::spelling_tests::bytes_of;
-use std::alloc::{AllocError, AllocGlobal, Global};
+//! What sessions of syslog come to.
+use crate::case_tests::input;
+use crate::syslog_sessions_tests::{Setting, Told, tell};
+use std::alloc::{AllocError, AllocGlobal};
 use std::fmt::Write;
 use std::random::RandomSource;
 use std::sync::Wait;
@@ -21,7 +21,7 @@ pub fn answer<R: AllocGlobal + Wait + RandomSource>(
         piece: piece.parse().unwrap_or(0),
         failing_read: None,
     };
-    let bytes = input(rt.alloc(), case)?;
+    let bytes = input(rt.alloc(), case, " / ")?;
     let whole = tell(rt, &bytes, query, setting)?;
     let mut answer = format!(in rt.alloc(); "{name}: ")?;
     push_told(&whole, &mut answer)?;
@@ -40,20 +40,6 @@ pub fn push_told(told: &Told, out: &mut String) -> Result<(), AllocError> {
         "accepted {}, refused {}, {:?}",
         report.accepted, report.refused, report.end
     )
-}
-
-/// Returns the bytes of an input: this many times the same, and then others.
-fn input(alloc: Global, case: &str) -> Result<Vec<u8>, AllocError> {
-    let (count, case) = case.split_once(" / ").unwrap_or((case, ""));
-    let (first, last) = case.split_once(" / ").unwrap_or((case, ""));
-    let count: u32 = count.parse().unwrap_or(1);
-    let first = bytes_of(alloc, first)?;
-    let mut bytes = Vec::new(alloc);
-    for _ in 0..count {
-        bytes.extend_from_slice(&first)?;
-    }
-    bytes.extend_from_slice(&bytes_of(alloc, last)?)?;
-    Ok(bytes)
 }
 
 /// Reads a byte at a time.

@@ -2,7 +2,7 @@
 ghost use Rattle.std.specs.Prelude.{◌≡◌, IfOk};
 ghost use Rattle.std.specs.List.{AllByRecursion};
 ghost use Rattle.turn_lock.specs.Passes.{IsPassOf};
-ghost use Rattle.session_stdio.specs.Callers.{IsCallerOf};
+ghost use Rattle.vl_session_tests.specs.Callers.{IsCallerOf};
 
 use ingest_row::Options;
 use log_desk::{Desk, Pass};

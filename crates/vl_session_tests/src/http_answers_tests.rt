@@ -1,7 +1,7 @@
-//! What connections come to.
-use crate::sessions_tests::{Setting, Told, tell};
-use crate::spelling_tests::bytes_of;
-use std::alloc::{AllocError, AllocGlobal, Global};
+//! What connections of HTTP come to.
+use crate::case_tests::input;
+use crate::http_sessions_tests::{Setting, Told, tell};
+use std::alloc::{AllocError, AllocGlobal};
 use std::random::RandomSource;
 use std::sync::Wait;
 use vl_session::End;
@@ -17,7 +17,7 @@ pub fn answer<R: AllocGlobal + Wait + RandomSource>(
     line: &str,
 ) -> Result<String, AllocError> {
     let (name, case) = line.split_once(" | ").unwrap_or((line, ""));
-    let bytes = connection(rt.alloc(), case)?;
+    let bytes = input(rt.alloc(), case, " | ")?;
     let whole = tell(rt, &bytes, Setting::default())?;
     let mut answer = format!(in rt.alloc(); "{name} | {}", whole.text)?;
     if bytes.len() <= SHORT {
@@ -26,20 +26,6 @@ pub fn answer<R: AllocGlobal + Wait + RandomSource>(
     }
     push_writes(rt, &bytes, &whole, &mut answer)?;
     Ok(answer)
-}
-
-/// Returns the bytes of a connection: this many times the same, and then others.
-fn connection(alloc: Global, case: &str) -> Result<Vec<u8>, AllocError> {
-    let (count, case) = case.split_once(" | ").unwrap_or((case, ""));
-    let (first, last) = case.split_once(" | ").unwrap_or((case, ""));
-    let count: u32 = count.parse().unwrap_or(1);
-    let first = bytes_of(alloc, first)?;
-    let mut bytes = Vec::new(alloc);
-    for _ in 0..count {
-        bytes.extend_from_slice(&first)?;
-    }
-    bytes.extend_from_slice(&bytes_of(alloc, last)?)?;
-    Ok(bytes)
 }
 
 /// Reads a byte at a time.

@@ -2,20 +2,14 @@
 refused, how the session ends, and what a query answers afterwards.
 
 A short input is also read a byte at a time, and so that each of its reads fails; the answer is written where it is not
-the same, or not the one of the input that ended there. The last answer is that to an input without an end, of which
-each read has one line of the length of a read.
+the same, or not the one of the input that ended there.
 """
-from chance import lines_of, table
 from faults import Fault
 from sessions import INPUT, READ, Log, SyslogSession, syslog_session
 from spelling import case_of, unspelled
 from values import json_line
 
 TIMES, QUERY_TIME, SHORT = (5, 6, 7), 9, 200
-
-
-def answers(stdin):
-    return table([*map(answer, lines_of(stdin)), endless()])
 
 
 class Told:
@@ -77,6 +71,7 @@ def is_stopped(told, closed):
 
 
 def endless():
+    """Returns the answer to an input without an end, of which each read has one line of the length of a read."""
     session = SyslogSession(Log(), TIMES)
     line = b"a" * (READ - 1) + b"\n"
     for _ in range(INPUT // READ):
@@ -107,6 +102,7 @@ def frame(random):
 
 
 def cases(random):
+    """Returns the lines of a table of other streams."""
     one = case_of(b"<13>1 - - - - - -\n")
     counts = "* | stats count() as n"
     lines = [f"{count} in a read / {counts} / 0 / {count} / {one}" for count in (255, 256, 257, 513, 3640)]
@@ -121,4 +117,4 @@ def cases(random):
         # a query that counts has other lines wherever a read fails, so short inputs have none
         query, piece = random.choice(QUERIES), random.choice([0, 0, 1, 7, 18, 40])
         lines.append(f"case {n} / {query} / {piece} / 1 / {case_of(data)}")
-    return table(lines)
+    return lines
