@@ -12,7 +12,11 @@ mod parts_tests;
 mod shelf_tests;
 mod threads_tests;
 
+use std::alloc::AllocGlobal;
 use std::io;
+use std::sync::Wait;
+use std::thread::Threads;
+use std::time::Clock;
 
 fn main(rt: HostRuntime) -> io::Result<()> {
     for line in rt.lines(rt.alloc()) {
@@ -24,7 +28,7 @@ fn main(rt: HostRuntime) -> io::Result<()> {
 }
 
 /// Returns whether the check of this line holds.
-fn holds(rt: &HostRuntime, line: &str) -> io::Result<bool> {
+fn holds<R: AllocGlobal + Clock + Threads + Wait + Sync>(rt: &R, line: &str) -> io::Result<bool> {
     let alloc = rt.alloc();
     let (name, number) = line.split_once(' ').unwrap_or((line, ""));
     let number = number.parse::<u64>().unwrap_or(0);

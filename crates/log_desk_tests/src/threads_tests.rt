@@ -4,11 +4,11 @@ ghost use Rattle.turn_lock.specs.Passes.{IsPassOf};
 
 use crate::batches_tests::{insert_one, row_count, rows_of};
 use log_desk::{Desk, Pass};
-use std::alloc::{AllocError, Global};
+use std::alloc::{AllocError, AllocGlobal, Global};
 use std::io;
 use std::sync::Wait;
 use std::thread::{Threads, join};
-use std::time::Instant;
+use std::time::{Clock, Instant};
 
 /// How many batches each caller inserts.
 const ROUNDS: u64 = 64;
@@ -175,7 +175,7 @@ fn holds_all<R: Wait>(
 }
 
 /// Returns whether eight callers insert and look as they should, within these seconds.
-pub fn eight_callers(rt: &HostRuntime) -> io::Result<bool> {
+pub fn eight_callers<R: AllocGlobal + Clock + Threads + Wait + Sync>(rt: &R) -> io::Result<bool> {
     let alloc = rt.alloc();
     let start = Instant::now(rt)?;
     let (desk, pass) = Desk::fresh(rt, alloc, 8)?;

@@ -1,9 +1,10 @@
 //! Doors and their visits.
 
-use std::alloc::{AllocError, Global};
+use std::alloc::{AllocError, AllocGlobal, Global};
 use std::io::Write;
 use std::net::TcpStream;
 use std::rt::Clock as SystemTimer;
+use std::thread::Threads;
 use std::{io, thread};
 use vl_io::{
     Doors, Failed, GroupReader, Listening, MemClock, MemDoors, MemSource, ReadFault, Source,
@@ -65,7 +66,7 @@ pub fn answers_text(alloc: Global, failing: &str) -> Result<String, AllocError> 
 }
 
 /// Returns whether doors that are asked side by side give their visits, so that both have none left.
-pub fn side_by_side(rt: &HostRuntime) -> Result<bool, AllocError> {
+pub fn side_by_side<R: AllocGlobal + Threads + Sync>(rt: &R) -> Result<bool, AllocError> {
     let alloc = rt.alloc();
     let mut two = Vec::new(alloc);
     two.push(doors_of(alloc, &["a"], &[])?)?;

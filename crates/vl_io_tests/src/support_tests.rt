@@ -1,6 +1,6 @@
 //! Calls that the tests make on vaults.
 
-use std::alloc::Global;
+use std::alloc::{AllocError, Global};
 use vl_io::ReadFault;
 use vl_vault::{MemoryVault, Vault};
 
@@ -20,6 +20,10 @@ pub fn bytes_of(alloc: Global, vault: &mut MemoryVault, file: u64) -> Result<Vec
     Ok(bytes)
 }
 
+fn keep(images: &mut Vec<Vec<u8>>, bytes: Vec<u8>) -> Result<(), AllocError> {
+    Ok(images.push(bytes)?)
+}
+
 /// Returns the different contents of the file in the images of the last moment, for the choices below this one.
 pub fn images_of(
     alloc: Global,
@@ -32,7 +36,7 @@ pub fn images_of(
         let mut image = vault.image(vault.calls(), choice)?;
         let bytes = bytes_of(alloc, &mut image, file)?;
         if !images.contains(&bytes) {
-            images.push(bytes)?;
+            keep(&mut images, bytes)?;
         }
     }
     Ok(images)
