@@ -12,6 +12,29 @@ use vl_top::run;
 /// Doors that nothing opens.
 type NoDoors = MemDoors<MemSource, MemSink, MemClock>;
 
+/// Which calls of each object fail, counted from 0.
+#[derive(Clone, Copy)]
+pub struct Failing<'a> {
+    pub reads: &'a [u64],
+    pub answers: &'a [u64],
+    pub reports: &'a [u64],
+}
+
+/// No call fails.
+pub const NONE: Failing<'static> = Failing {
+    reads: &[],
+    answers: &[],
+    reports: &[],
+};
+
+/// How a run ended: its status, its output and its error text.
+#[derive(Drop)]
+pub struct Ended {
+    pub status: u8,
+    pub out: MemSink,
+    pub err: MemSink,
+}
+
 /// What a query is asked of.
 #[derive(Drop)]
 pub struct Setting {
@@ -41,51 +64,73 @@ pub fn ask<R: AllocGlobal + Threads + Wait + RandomSource + Sync>(
     query: &str,
 ) -> Result<String, AllocError> {
     let names = setting.stream_fields.as_str();
-    let rows = setting.rows.as_str();
+    let rows = setting.rows.as_bytes();
     let now = setting.now;
     if now < 0 {
         return format!(in rt.alloc(); "no clock reads {now}\n");
     }
     let clock = clock_at(rt.alloc(), now)?;
     if names.is_empty() {
-        return run_words(rt, &["pipe", "--", query], rows, clock);
+        let ended = run_words(rt, &["pipe", "--", query], rows, NONE, clock)?;
+        return lines_of(rt.alloc(), &ended);
     }
     let words = ["pipe", "--stream-fields", names, "--", query];
-    run_words(rt, &words, rows, clock)
+    let ended = run_words(rt, &words, rows, NONE, clock)?;
+    lines_of(rt.alloc(), &ended)
 }
 
-/// A clock that always reads this moment.
-fn clock_at(alloc: Global, now: i64) -> Result<MemClock, AllocError>
-    requires { IsMoment now }
-{
-    MemClock::of(alloc, &[now])
-}
-
-/// What a run with these words prints, and its status unless that is 0.
-fn run_words<R: AllocGlobal + Threads + Wait + RandomSource + Sync>(
-    rt: &R,
-    words: &[&str],
-    input: &str,
-    mut clock: MemClock,
-) -> Result<String, AllocError> {
-    let alloc = rt.alloc();
-    let mut src = MemSource::of(alloc, input.as_bytes(), &[], &[])?;
-    let mut out = MemSink::of(alloc, &[])?;
-    let mut err = MemSink::of(alloc, &[])?;
-    let mut doors: Vec<NoDoors> = Vec::new(alloc);
-    let status = run(
-        rt, words, &mut src, &mut out, &mut err, &mut doors, &mut clock,
-    );
+/// The lines of the output, the lines of the error text, and the status unless that is 0.
+fn lines_of(alloc: Global, ended: &Ended) -> Result<String, AllocError> {
     let mut shown = String::new(alloc);
-    shown.push_str(text_of(out.bytes()))?;
-    shown.push_str(text_of(err.bytes()))?;
-    if status != 0 {
-        write!(shown, "status {status}\n")?;
+    shown.push_str(text_of(ended.out.bytes()))?;
+    shown.push_str(text_of(ended.err.bytes()))?;
+    if ended.status != 0 {
+        write!(shown, "status {}\n", ended.status)?;
     }
     Ok(shown)
 }
 
+/// Runs a command on a clock that stands at 5 ns at first. Returns its status, its output and its error text.
+pub fn end_of<R: AllocGlobal + Threads + Wait + RandomSource + Sync>(
+    rt: &R,
+    words: &[&str],
+    input: &[u8],
+    failing: Failing<'_>,
+) -> Result<String, AllocError> {
+    let clock = clock_at(rt.alloc(), 5)?;
+    let ended = run_words(rt, words, input, failing, clock)?;
+    let out = text_of(ended.out.bytes());
+    let err = text_of(ended.err.bytes());
+    format!(in rt.alloc(); "{} {out:?} {err:?}", ended.status)
+}
+
+/// A clock that reads this moment first, and then another.
+pub fn clock_at(alloc: Global, now: i64) -> Result<MemClock, AllocError>
+    requires { IsMoment now }
+{
+    MemClock::of(alloc, &[now, 7])
+}
+
+/// Runs the program with these words. Its source gives the input in small pieces first.
+pub fn run_words<R: AllocGlobal + Threads + Wait + RandomSource + Sync>(
+    rt: &R,
+    words: &[&str],
+    input: &[u8],
+    failing: Failing<'_>,
+    mut clock: MemClock,
+) -> Result<Ended, AllocError> {
+    let alloc = rt.alloc();
+    let mut src = MemSource::of(alloc, input, &[7, 1, 30], failing.reads)?;
+    let mut out = MemSink::of(alloc, failing.answers)?;
+    let mut err = MemSink::of(alloc, failing.reports)?;
+    let mut doors: Vec<NoDoors> = Vec::new(alloc);
+    let status = run(
+        rt, words, &mut src, &mut out, &mut err, &mut doors, &mut clock,
+    );
+    Ok(Ended { status, out, err })
+}
+
 /// The bytes as text.
-fn text_of(bytes: &[u8]) -> &str {
+pub fn text_of(bytes: &[u8]) -> &str {
     str::from_utf8(bytes).unwrap_or("not UTF-8\n")
 }

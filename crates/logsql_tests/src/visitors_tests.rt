@@ -10,14 +10,14 @@ use std::sync::atomic::{AtomicU64, Ordering};
 use vl_io::{Clock, Failed, Sink, Source, SystemClock};
 
 /// How many replies were written to all visitors.
-pub(crate) type Replies = Arc<AtomicU64, Global>;
+pub type Replies = Arc<AtomicU64, Global>;
 
 /// The most waits for a reply. One takes a millisecond.
 const MOST_WAITS: u64 = 10_000;
 
 /// It sends its bytes once this many replies were written to other visitors. Where they are not, it fails.
 #[derive(Drop)]
-pub(crate) struct WaitingSource<R> {
+pub struct WaitingSource<R> {
     pub replies: Replies,
     pub awaited: u64,
     pub clock: SystemClock<R>,
@@ -61,7 +61,7 @@ impl<R: SystemTimer> Source for WaitingSource<R> {
 
 /// It counts the replies of the status 200 that are written to it.
 #[derive(Drop)]
-pub(crate) struct CountingSink {
+pub struct CountingSink {
     pub replies: Replies,
 }
 
