@@ -77,6 +77,10 @@ def stats(random):
     return " ".join(keys + [function(random, place) for place in range(random.randint(1, 4))])
 
 
+# those that make a pipe which is compared with a slow one
+COMPARED = (sort, uniq, top, lambda random: "stats " + stats(random))
+
+
 def pipe(random):
     """Returns a pipe of any kind."""
     moved = ",".join(f"{random.choice(NAMES)}>{random.choice(NAMES)}" for _ in range(random.randint(1, 3)))

@@ -33,14 +33,15 @@ pub(crate) fn copies(alloc: Global, records: &[FieldList]) -> Result<Recs, Alloc
     Ok(Recs::of(copies))
 }
 
-/// Returns the records in the notation, if both versions made the same.
-pub(crate) fn shown(alloc: Global, plain: &Recs, shipped: &Recs) -> Result<String, AllocError> {
-    if !are_same(plain.as_slice(), shipped.as_slice()) {
+/// Returns the records in the notation, if all versions made the same.
+pub(crate) fn shown(alloc: Global, plain: &Recs, shipped: &[Recs]) -> Result<String, AllocError> {
+    let plain = plain.as_slice();
+    if !shipped.iter().all(|made| are_same(plain, made.as_slice())) {
         return String::from_str(alloc, "differ");
     }
     let mut text = String::new(alloc);
     let mut ahead = "";
-    for record in shipped.as_slice() {
+    for record in plain {
         text.push_str(ahead)?;
         push_record(&mut text, record)?;
         ahead = "\t";

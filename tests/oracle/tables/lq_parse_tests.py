@@ -1,8 +1,11 @@
-"""What queries say, or why they are none."""
-from chance import lines_of, table
+"""What queries say, or why they are none, and their tokens."""
+from chance import TEXTS, lines_of, mutated, table, text_of
 from faults import Fault
 from queries import parse
 from query_cases import deep_queries, queries
+from tokens import tokens_of
+
+TOKENS = "#tokens "
 
 LEAVES = {
     "Any": "some", "Empty": "empty", "OneOf": "in", "Seq": "seq", "Phrase": "phrase", "Prefix": "prefix",
@@ -18,12 +21,24 @@ def answers(stdin):
     return table(answer(line.translate(CONTROLS)) for line in lines_of(stdin))
 
 
-def answer(query):
+def answer(line):
     try:
-        filter_, pipes = parse(query)
-        return filter_text(filter_) + "".join(" | " + pipe_text(*pipe) for pipe in pipes)
+        return tokens(line.removeprefix(TOKENS)) if line.startswith(TOKENS) else said(line)
     except Fault as fault:
         return str(fault)
+
+
+def said(query):
+    filter_, pipes = parse(query)
+    return filter_text(filter_) + "".join(" | " + pipe_text(*pipe) for pipe in pipes)
+
+
+def tokens(query):
+    return "".join(f"{kind(t)}{t.start}{'+' * t.glued}{shown(t.text)} " for t in tokens_of(query))
+
+
+def kind(token):
+    return {"Bare": "B", "Quoted": "Q"}.get(token.kind, token.spelled)
 
 
 def shown(text):
@@ -93,8 +108,23 @@ def function_text(call, names, only, name):
     return f"; {call}{all_shown(names)}{condition} as{shown(name)}"
 
 
+LETTERS = "ab_9é日٣🙂\u0301 \u00a0\u2003./-|()[]{},:=!~*<>+\"'`\\nrt#$%&;?@^"
+
+
+def cases_of_tokens(random):
+    lines = ["", " ", "\\", '"', "''", "``", '"\\', '"\\"', "`\\`", '"\\x', '"\\x"', '"\\é" "', "\u3000a\u2028b"]
+    for _ in range(250):
+        quote = random.choice("\"'`")
+        quoted = quote + text_of(random, "ab \\\\\"'`nrté", 6) + quote
+        query = "".join(random.choice((text_of(random, LETTERS, 6), quoted, random.choice(TEXTS))) for _ in range(3))
+        lines += [query, mutated(random, query, LETTERS)]
+    lines += ["a" * 16384, "a" * 16385, "é" * 8192, "é" * 8192 + " ", "#" * 16385]
+    return lines + ['"' + "a" * 16382 + '"', '"' + "a" * 16383, '"' + "a" * 16384]
+
+
 def cases(random):
     lines = ["", " ", "*", "|", "* |", "a | b", "()", "a\u00a0b", "# a"]
     lines += ["a" * 16384, "a" * 16385, "é" * 8192, "é" * 8193, "a" + " | limit 1" * 100]
     lines += ["in(" + "a," * 300 + "a)", "a or " * 300 + "a", "* | fields " + "a," * 300 + "a"]
-    return table(lines + deep_queries() + queries(random, 400))
+    lines += deep_queries() + queries(random, 400)
+    return table(lines + [TOKENS + query for query in cases_of_tokens(random)])
