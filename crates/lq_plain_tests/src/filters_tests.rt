@@ -135,11 +135,14 @@ impl Asked<'_> {
 /// Returns the selector that a filter is, or negates, and whether it is the selector.
 fn selector_of(filter: &Filter) -> Option<(&Select, bool)> {
     match filter {
-        Filter::Select(select) => Some((select, true)),
-        Filter::Not(filter) => match &**filter {
-            Filter::Select(select) => Some((select, false)),
-            _ => None,
-        },
+        Filter::Not(filter) => Some((select_of(filter)?, false)),
+        _ => Some((select_of(filter)?, true)),
+    }
+}
+
+fn select_of(filter: &Filter) -> Option<&Select> {
+    match filter {
+        Filter::Select(select) => Some(select),
         _ => None,
     }
 }

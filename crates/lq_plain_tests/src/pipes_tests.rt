@@ -12,6 +12,7 @@ use lq_plain::PlainFault;
 use lq_stats::{Partial, Plan, StatFault};
 use lq_tuple::HashSeed;
 use std::alloc::{AllocError, Global};
+use std::slice;
 use vl_row::{FieldList, Recs, Text};
 
 pub(crate) fn of_sort(
@@ -101,9 +102,9 @@ fn compared(
     plain: &Result<Result<Recs, Text>, PlainFault>,
     shipped: Result<Recs, StatFault>,
 ) -> Result<String, AllocError> {
-    match (plain, shipped) {
-        (Ok(Ok(plain)), Ok(shipped)) => shown(alloc, plain, &[shipped]),
-        (Ok(Err(own)), Err(StatFault::Overflow { name })) => named(alloc, own, &name),
+    match (plain, &shipped) {
+        (Ok(Ok(plain)), Ok(shipped)) => shown(alloc, plain, slice::from_ref(shipped)),
+        (Ok(Err(own)), Err(StatFault::Overflow { name })) => named(alloc, own, name),
         _ => String::from_str(alloc, "differ"),
     }
 }
@@ -120,7 +121,7 @@ fn refused(
     plain: &Result<Result<Recs, Text>, PlainFault>,
     fault: PrepareFault,
 ) -> Result<String, AllocError> {
-    match (plain, fault) {
+    match (plain, &fault) {
         (Err(PlainFault::Unreadable), PrepareFault::RegexRefused { nth }) => {
             format!(in alloc; "RegexRefused number {nth}")
         }
