@@ -9,15 +9,13 @@
 //! derivations of the grammar at once, token by token, and finds the faults along them afterwards.
 #![tactic(auto)]
 
+mod answers_tests;
 mod pipes_tests;
 mod shown_tests;
 mod tokens_tests;
 
-use lq_ast::Query;
-use lq_parse::parse;
-use pipes_tests::push_pipes;
-use shown_tests::{DEPTH, push_filter, with_controls};
-use std::alloc::{AllocError, Global};
+use answers_tests::answer;
+use shown_tests::with_controls;
 use std::io;
 
 fn main(rt: HostRuntime) -> io::Result<()> {
@@ -27,26 +25,4 @@ fn main(rt: HostRuntime) -> io::Result<()> {
         println!(rt; "{answer}")?;
     }
     Ok(())
-}
-
-fn answer(alloc: Global, line: &str) -> Result<String, AllocError> {
-    match line.strip_prefix("#tokens ") {
-        Some(text) => tokens_tests::answer(alloc, text),
-        None => said(alloc, line),
-    }
-}
-
-fn said(alloc: Global, text: &str) -> Result<String, AllocError> {
-    match parse(alloc, text) {
-        Ok(query) => shown(alloc, &query),
-        Err(fault) => format!(in alloc; "{fault}"),
-    }
-}
-
-/// Returns a query as text.
-fn shown(alloc: Global, query: &Query) -> Result<String, AllocError> {
-    let mut text = String::new(alloc);
-    push_filter(&query.filter, DEPTH, &mut text)?;
-    push_pipes(query.pipes.as_slice(), &mut text)?;
-    Ok(text)
 }

@@ -14,17 +14,14 @@
 //! The answers are those of a Python program of its own, which calls `unicodedata`, `str.casefold` and `hashlib`.
 #![tactic(auto)]
 
+mod answers_tests;
 mod filters_tests;
 mod pipes_tests;
 mod records_tests;
 
-use lq_ast::{Pipe, Query};
-use lq_parse::parse;
+use answers_tests::answer;
 use lq_tuple::HashSeed;
-use records_tests::records_of;
-use std::alloc::{AllocError, Global};
 use std::io;
-use vl_row::FieldList;
 
 fn main(rt: HostRuntime) -> io::Result<()> {
     let seed = HashSeed::random(&rt);
@@ -33,28 +30,4 @@ fn main(rt: HostRuntime) -> io::Result<()> {
         println!(rt; "{answer}")?;
     }
     Ok(())
-}
-
-fn answer(alloc: Global, seed: HashSeed, case: &str) -> Result<String, AllocError> {
-    let (text, records) = case.split_once('\t').unwrap_or((case, ""));
-    let records = records_of(alloc, records)?;
-    match parse(alloc, text) {
-        Ok(query) => of_query(alloc, seed, &query, records.as_slice()),
-        Err(_) => String::from_str(alloc, "no query"),
-    }
-}
-
-fn of_query(
-    alloc: Global,
-    seed: HashSeed,
-    query: &Query,
-    records: &[FieldList],
-) -> Result<String, AllocError> {
-    match query.pipes.as_slice().first() {
-        Some(Pipe::Sort(pipe)) => pipes_tests::of_sort(alloc, seed, pipe, records),
-        Some(Pipe::Uniq(pipe)) => pipes_tests::of_uniq(alloc, seed, pipe, records),
-        Some(Pipe::Top(pipe)) => pipes_tests::of_top(alloc, seed, pipe, records),
-        Some(Pipe::Stats(pipe)) => pipes_tests::of_stats(alloc, seed, pipe, records),
-        _ => filters_tests::answer(alloc, query, records),
-    }
 }

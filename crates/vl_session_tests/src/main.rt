@@ -23,6 +23,7 @@
 //! With a word it serves one session over the standard streams, for measuring: `http`, `syslog` or `inserts`.
 #![tactic(auto)]
 
+mod answers_tests;
 mod callers_tests;
 mod case_tests;
 mod connection_tests;
@@ -30,22 +31,16 @@ mod desk_tests;
 mod endless_tests;
 mod http_answers_tests;
 mod http_sessions_tests;
-mod inserts;
+mod inserts_tests;
 mod limits_tests;
-mod measured;
+mod measured_tests;
 mod scripted_tests;
 mod spelling_tests;
 mod syslog_answers_tests;
 mod syslog_sessions_tests;
 
-use desk_tests::push_desks;
-use endless_tests::push_endless;
-use limits_tests::push_limits;
-use measured::{measure, task_of};
-use std::alloc::{AllocError, AllocGlobal};
-use std::random::RandomSource;
-use std::sync::Wait;
-use std::thread::Threads;
+use answers_tests::answer_all;
+use measured_tests::{measure, task_of};
 use std::{env, io};
 
 fn main(rt: HostRuntime) -> io::Result<()> {
@@ -53,29 +48,5 @@ fn main(rt: HostRuntime) -> io::Result<()> {
     match task_of(&words) {
         Some(task) => measure(&rt, rt, task),
         None => answer_all(&rt, rt),
-    }
-}
-
-/// Answers each case, and then makes the checks.
-fn answer_all<R: AllocGlobal + Threads + Wait + RandomSource + Sync>(
-    handle: &R,
-    rt: HostRuntime,
-) -> io::Result<()> {
-    for line in rt.lines(rt.alloc()) {
-        let answer = answer(handle, line?.as_str())?;
-        println!(rt; "{answer}")?;
-    }
-    let mut checks = String::new(rt.alloc());
-    push_endless(handle, &mut checks)?;
-    push_limits(handle, &mut checks)?;
-    push_desks(handle, &mut checks)?;
-    print!(rt; "{checks}")
-}
-
-/// Answers a case of its kind.
-fn answer<R: AllocGlobal + Wait + RandomSource>(rt: &R, line: &str) -> Result<String, AllocError> {
-    match line.strip_prefix("syslog / ") {
-        Some(case) => syslog_answers_tests::answer(rt, case),
-        None => http_answers_tests::answer(rt, line),
     }
 }

@@ -1,7 +1,7 @@
 //! One session over the standard streams, at a desk of its own. With the word `http` it reads requests and writes the
 //! replies to them; with `syslog` it takes messages in and writes how many. With `inserts` it reads lines and inserts
 //! them 100 times, in one thread or, with one more word, in each of four, and writes how many microseconds that took.
-use crate::inserts::insert_all;
+use crate::inserts_tests::insert_all;
 use log_desk::Desk;
 use std::alloc::AllocGlobal;
 use std::io::{self, Read};
@@ -14,14 +14,14 @@ use vl_session::{serve_session, syslog_session};
 
 /// What is measured.
 #[derive(Clone, Copy)]
-pub enum Task {
+pub(crate) enum Task {
     Http,
     Syslog,
     Inserts { four: bool },
 }
 
 /// Returns what these words ask for, or nothing where they name no task.
-pub fn task_of(words: &[String]) -> Option<Task> {
+pub(crate) fn task_of(words: &[String]) -> Option<Task> {
     match words.first().map(|word| word.as_str()) {
         Some("http") => Some(Task::Http),
         Some("syslog") => Some(Task::Syslog),
@@ -33,7 +33,7 @@ pub fn task_of(words: &[String]) -> Option<Task> {
 }
 
 /// Serves the session.
-pub fn measure<R: AllocGlobal + Threads + Wait + RandomSource + Sync>(
+pub(crate) fn measure<R: AllocGlobal + Threads + Wait + RandomSource + Sync>(
     handle: &R,
     rt: HostRuntime,
     task: Task,
