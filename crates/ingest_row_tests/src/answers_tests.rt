@@ -89,7 +89,7 @@ fn push_fields(text: &mut String, fields: &[Field]) -> Result<(), AllocError> {
 }
 
 /// Returns the moment, the labels and the fields.
-fn row_text(alloc: Global, row: &Row) -> Result<String, AllocError> {
+pub(crate) fn row_text(alloc: Global, row: &Row) -> Result<String, AllocError> {
     let mut text = format!(in alloc; "{} ", row.time())?;
     push_fields(&mut text, row.stream().as_slice())?;
     text.push_str(" ")?;
