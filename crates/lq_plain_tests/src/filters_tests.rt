@@ -15,6 +15,7 @@ const MINUTE: i64 = 60_000_000_000;
 const FIRST: u32 = 3;
 
 /// A filter, and how it is prepared.
+#[derive(Drop)]
 struct Asked<'q> {
     filter: &'q Filter,
     prepared: &'q Prepared,
