@@ -1,5 +1,5 @@
 //! What no line of `stdin` shows: bodies, and lines at their limits. The lines came in 5 ns after 1970 began.
-use super::row_text;
+use crate::answers_tests::row_text;
 use ingest_row::{Intake, LineKind, Options, Weighed, batch_of_body, row_of_line, weigh_body};
 use std::alloc::{AllocError, Global};
 use vl_row::Field;
