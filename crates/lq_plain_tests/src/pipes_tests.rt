@@ -75,16 +75,42 @@ pub(crate) fn of_stats(
 ) -> Result<String, AllocError> {
     let plain = lq_plain::grouped(alloc, pipe, records);
     let mut nth = 0;
-    match (
-        Partial::of(alloc, pipe),
-        Plan::seeded(alloc, seed, pipe, &mut nth),
-    ) {
-        (Ok(partial), Ok(plan)) => {
+    let plan = Plan::seeded(alloc, seed, pipe, &mut nth);
+    match Partial::of(alloc, pipe) {
+        Ok(partial) => {
             let by_partial = compared(alloc, &plain, finished(alloc, partial, records))?;
-            let by_plan = compared(alloc, &plain, gathered(alloc, &plan, records))?;
+            by_both(alloc, &plain, by_partial, plan, records)
+        }
+        Err(by_partial) => refused_by_both(alloc, &plain, by_partial, plan),
+    }
+}
+
+/// Returns what partial statistics answer, if the plan answers the same.
+fn by_both(
+    alloc: Global,
+    plain: &Result<Result<Recs, Text>, PlainFault>,
+    by_partial: String,
+    plan: Result<Plan, PrepareFault>,
+    records: &[FieldList],
+) -> Result<String, AllocError> {
+    match plan {
+        Ok(plan) => {
+            let by_plan = compared(alloc, plain, gathered(alloc, &plan, records))?;
             same(alloc, by_partial, by_plan)
         }
-        (Err(by_partial), Err(by_plan)) if by_partial == by_plan => refused(alloc, &plain, by_plan),
+        Err(_) => String::from_str(alloc, "differ"),
+    }
+}
+
+/// Returns the fault of partial statistics, if the plan is refused for the same.
+fn refused_by_both(
+    alloc: Global,
+    plain: &Result<Result<Recs, Text>, PlainFault>,
+    by_partial: PrepareFault,
+    plan: Result<Plan, PrepareFault>,
+) -> Result<String, AllocError> {
+    match plan {
+        Err(by_plan) if by_plan == by_partial => refused(alloc, plain, by_partial),
         _ => String::from_str(alloc, "differ"),
     }
 }
