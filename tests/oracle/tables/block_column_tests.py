@@ -38,7 +38,7 @@ def parts(values):
 
 
 def found(rows, rest):
-    """Answers what bytes of any kind say, and the column of these values unless one has more bytes than asked for."""
+    """Answers what bytes of any kind say, each value with its length, and their column unless one is too long."""
     most, digits = cut_once(rest, " ")
     most, items = number_or(most, 0), Items(bytes_of(digits or ""))
     try:
@@ -46,13 +46,10 @@ def found(rows, rest):
         values = take_body(items, kind, rows)
     except Damaged as fault:
         return f"damaged {len(items.data) - fault.at} before the end"
-    shown = [f" {value}" if kind == INTEGERS else f" [{value}]" for value in values]
     sizes = [len(value.encode("utf-8")) for value in values]
+    shown = [(f" {value}" if kind == INTEGERS else f" [{value}]") + f" {size}" for value, size in zip(values, sizes)]
     front = f"{len(items.rest())} left" + "".join(shown)
-    if max(sizes, default=0) > most:
-        return front + " too long"
-    some, every = str(any(sizes)).lower(), str(all(sizes)).lower()
-    return f"{front} {put_column(values).hex()} {max(sizes, default=0)} {some} {every}"
+    return front + (" too long" if max(sizes, default=0) > most else f" {put_column(values).hex()}")
 
 
 ALPHABET = ["", "a", "b", "é", "日本", "7", "-1", "07", "-0", "9223372036854775807", "9223372036854775808", "a b"]
