@@ -153,7 +153,7 @@ grows "members in falling order" "" falling 12000 ManyFields
 grows "members in falling order, with names of the message" "_msg_field=$(names 3900)" falling 12000 ManyFields
 grows "one long outer name" "" nested 60000 NameLong
 grows "one long outer name, with names to ignore" "ignore_fields=a,b&_stream_fields=b" nested 60000 NameLong
-grows "more fields to add than a row may have" "extra_fields=$(added 2500 1)" last 2000 ManyFields
+grows "more fields to add than a row may have" "extra_fields=$(added 2500 1)" last 500 ManyFields
 grows "fields to add" "extra_fields=$(added 900 1)" last 90 '"accepted":"[1-9]'
 adds "a hundred times the fields to add, more than a row may have" 400000 25 2500 507
 adds "forty times the fields to add" 400000 25 1000 507
