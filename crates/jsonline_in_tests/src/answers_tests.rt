@@ -41,7 +41,7 @@ fn read_plainly(alloc: Global, line: &[u8]) -> Result<String, AllocError> {
     shown(alloc, answer, &fields)
 }
 
-fn shown(
+pub(crate) fn shown(
     alloc: Global,
     answer: Result<(), JsonFault>,
     fields: &FieldList,
