@@ -7,8 +7,8 @@ use Rattle.lent_row.specs.declared.value.Value.TheVariants as value
 
 -- the text of a value
 abbrev pub value_text : Value → List ℕ
-value_text (value.Text text) = text.now
-value_text (value.Integer integer) = signed_decimal integer
+value_text (value.Str text) = text.now
+value_text (value.Int integer) = signed_decimal integer
 
 -- the cell at a place
 abbrev pub cell_at : List Field → ℕ → Field

@@ -10,7 +10,8 @@ use vl_row::{FieldList, Stream};
 
 /// A row that is lent: a `Row`, or one of the rows that lie in columns.
 ///
-/// Its fields lie in cells, in byte order of their names. A cell may be empty: then the row has no field of that name.
+/// Its fields lie in cells: those that are filled are in byte order of their names. A cell may be empty. Then the row
+/// has no field of that name.
 pub trait LentRow {
     // The row that it stands for.
     ghost event: { Self → Event };

@@ -18,7 +18,7 @@ impl LentRow for Row {
     }
 
     fn value(&self, name: &str) -> Value<'_> {
-        Value::Text(Row::value(self, name))
+        Value::Str(Row::value(self, name))
     }
 
     fn cell_count(&self) -> usize {
@@ -30,7 +30,7 @@ impl LentRow for Row {
     }
 
     fn value_at(&self, place: usize) -> Value<'_> {
-        Value::Text(self.fields().at(place).value())
+        Value::Str(self.fields().at(place).value())
     }
 
     fn copy_fields(&self, alloc: Global, more: usize) -> Result<FieldList, AllocError> {

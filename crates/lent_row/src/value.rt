@@ -7,9 +7,9 @@ ghost use Rattle.lent_row.specs.Cells.{value_text};
 #[derive(Clone, Copy, Debug)]
 pub enum Value<'a> {
     /// The text, which is empty where the row has no such field.
-    Text(&'a str),
+    Str(&'a str),
     /// An integer, in place of its decimal text.
-    Integer(i64),
+    Int(i64),
 }
 
 impl Value<'_> {
@@ -18,8 +18,8 @@ impl Value<'_> {
         ensures { result ≡ is_empty (value_text self.entry) }
     {
         match self {
-            Value::Text(text) => text.is_empty(),
-            Value::Integer(_) => false,
+            Value::Str(text) => text.is_empty(),
+            Value::Int(_) => false,
         }
     }
 }

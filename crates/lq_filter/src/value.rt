@@ -47,13 +47,13 @@ pub(crate) enum ValueTest {
 impl ValueTest {
     ghost use Rattle.lq_filter.specs.Value.{value_holds};
 
-    // An integer is printed only where its text is asked.
+    // An integer is printed, and then its text is asked.
     fn holds_of<'p>(&'p self, asking: &mut Asking<'p>, value: Value<'_>) -> Result<bool, AllocError>
         ensures { IfOk result (λ found. found ≡ value_holds self.now (value_text value.entry)) }
     {
         match value {
-            Value::Text(text) => self.holds(asking, text),
-            Value::Integer(integer) => self.holds_of_integer(asking, integer),
+            Value::Str(text) => self.holds(asking, text),
+            Value::Int(integer) => self.holds_of_integer(asking, integer),
         }
     }
 
