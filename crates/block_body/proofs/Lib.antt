@@ -6,3 +6,4 @@ pub mod SpanLaws
 pub mod StoreLaws
 pub mod BatchLaws
 pub mod WeightLaws
+pub mod PlaceLaws

@@ -1,6 +1,8 @@
 //! What is known of a block without its values.
 
-ghost use Rattle.std.specs.Prelude.{◌≡◌, ◌<◌, ◌≤◌, ◌^◌, IfOk, Some, length, map, pos, slice_get};
+ghost use Rattle.std.specs.Prelude.{◌≡◌, ◌<◌, ◌≤◌, ◌^◌, IfNone, IfOk, IfSome, Some, false, length, map, pos, slice_get};
+ghost use Rattle.vl_row.specs.Names.{is_among};
+ghost use Rattle.vl_row.specs.Place.{IsInOrder};
 ghost use Rattle.log_model.specs.Field.{weight};
 ghost use Rattle.log_model.specs.Row.{IsRow};
 ghost use Rattle.block_body.specs.Outlines.{outline_of, outline_with, weight_of};
@@ -187,6 +189,16 @@ impl Head {
         columns[c].name()
     }
 
+    /// The column of this name, if there is one, by binary search.
+    pub fn column_named(&self, name: &str) -> Option<usize>
+        requires { IsInOrder self.now.columns }
+        ensures some { IfSome result (λ c.
+            slice_get (map (λ column. column.0) self.now.columns) c ≡ Some name.now) }
+        ensures none { IfNone result (is_among (map (λ column. column.0) self.now.columns) name.now ≡ false) }
+    {
+        place_in(self.column_heads(), name)
+    }
+
     /// The filter of the words of a column's values.
     pub fn bloom(&self, c: usize) -> &Bloom
         requires { c < length self.now.columns }
@@ -215,6 +227,18 @@ impl Head {
         ensures { IfOk result (λ head. head ≡ self.now) }
     {
         self.share()
+    }
+}
+
+/// Where the column of a name stands, if there is one, among columns in order of their names.
+fn place_in(columns: &[ColumnHead], name: &str) -> Option<usize>
+    requires { IsInOrder columns.now }
+    ensures some { IfSome result (λ c. slice_get (map (λ column. column.0) columns.now) c ≡ Some name.now) }
+    ensures none { IfNone result (is_among (map (λ column. column.0) columns.now) name.now ≡ false) }
+{
+    match columns.binary_search_by(|column| column.name().cmp(name)) {
+        Ok(c) => Some(c),
+        Err(_) => None,
     }
 }
 

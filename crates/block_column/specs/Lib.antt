@@ -1,4 +1,3 @@
 pub mod Kinds
 pub mod Cells
 pub mod Body
-pub mod Values

@@ -2,14 +2,14 @@
 
 ghost use Rattle.std.specs.Prelude.{◌≡◌, ◌<◌, IsTrue, Some, bytes_eq, length, map, nat_lt, replicate, slice_get, true};
 ghost use Rattle.std.specs.List.{list_all};
+ghost use Rattle.lent_row.specs.Cells.{value_text};
 ghost use Rattle.block_model.specs.Distinct.{text_at};
 ghost use Rattle.block_column.specs.Cells.{IsCells, kind_in, texts_of};
 ghost use Rattle.block_column.specs.Kinds.{code_of_kind};
-ghost use Rattle.block_column.specs.Values.{value_text};
 
 use crate::codes::is_value;
-use crate::column::Value;
 use col_codec::{IntColumn, TextColumn};
+use lent_row::Value;
 use vl_row::Text;
 
 /// The values of a column, as one of the four kinds has them.

@@ -6,11 +6,11 @@ ghost use Rattle.std.specs.Fmt.{signed_decimal};
 ghost use Rattle.std.specs.List.{list_all};
 ghost use Rattle.byte_format.specs.Format.{front};
 ghost use Rattle.byte_format.specs.Gives.{Gives};
+ghost use Rattle.lent_row.specs.Cells.{value_text};
 ghost use Rattle.block_column.specs.Body.{body};
 ghost use Rattle.block_column.specs.Cells.{IsFirst, texts_of};
 ghost use Rattle.block_model.specs.Distinct.{distinct};
 ghost use Rattle.block_column.specs.Kinds.{body_of, code_of_kind, is_held_once, kind_of};
-ghost use Rattle.block_column.specs.Values.{value_text};
 
 use crate::cells::{Cells, are_all, kind_of, len_of, value_at};
 use crate::kept::into_first;
@@ -21,28 +21,18 @@ use crate::row_texts::RowTexts;
 use crate::take::take_cells;
 use byte_format::Stop;
 use itoa::Buffer;
+use lent_row::Value;
 use std::alloc::{AllocError, Global};
 use std::marker::Model;
 
-/// A value of a column: its text, or the integer whose decimal text it is.
-#[derive(Clone, Copy, Debug)]
-pub enum Value<'a> {
-    /// The text, which is empty where a row has no such field.
-    Str(&'a str),
-    /// An integer, in place of its decimal text.
-    Int(i64),
-}
-
-impl Value<'_> {
-    /// How many bytes the text has, which is in UTF-8.
-    pub fn len(self) -> usize
-        ensures len { result ≡ length (value_text self.entry) }
-        ensures text { IsUtf8 (value_text self.entry) }
-    {
-        match self {
-            Value::Str(text) => len_of_text(text),
-            Value::Int(integer) => decimal_len(integer),
-        }
+/// How many bytes the text of a value has, which is in UTF-8.
+pub fn text_len(value: Value<'_>) -> usize
+    ensures len { result ≡ length (value_text value.entry) }
+    ensures text { IsUtf8 (value_text value.entry) }
+{
+    match value {
+        Value::Str(text) => len_of_text(text),
+        Value::Int(integer) => decimal_len(integer),
     }
 }
 

@@ -14,6 +14,7 @@ mod put;
 mod row_texts;
 mod take;
 
-pub use column::{FoundColumn, Value, ValueColumn};
+pub use column::{FoundColumn, ValueColumn, text_len};
+pub use lent_row::Value;
 pub use row_texts::RowTexts;
 pub use take::take_kind;

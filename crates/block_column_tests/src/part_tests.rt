@@ -3,7 +3,7 @@ ghost use Rattle.std.specs.Prelude.{◌<◌, ◌^◌, IsTrue, length, sum_by};
 
 use crate::column_tests::push_column;
 use crate::hex_tests::{bytes_of, push_digits};
-use block_column::{FoundColumn, Value, ValueColumn, take_kind};
+use block_column::{FoundColumn, Value, ValueColumn, take_kind, text_len};
 use byte_format::Stop;
 use std::alloc::{AllocError, Global};
 use std::fmt::Write;
@@ -64,7 +64,7 @@ fn push_found(answer: &mut String, found: &FoundColumn) {
             Value::Str(text) => write!(answer, " [{text}]"),
             Value::Int(integer) => write!(answer, " {integer}"),
         };
-        let _ = write!(answer, " {}", value.len());
+        let _ = write!(answer, " {}", text_len(value));
     }
 }
 
@@ -90,7 +90,7 @@ fn are_short(found: &FoundColumn, most: usize) -> bool
 {
     let mut size = 0;
     for i in 0..found.len() {
-        let len = found.value(i).len();
+        let len = text_len(found.value(i));
         if len > most || len >= MAX_SIZE - size {
             return false;
         }

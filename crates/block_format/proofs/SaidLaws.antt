@@ -1,17 +1,15 @@
 -- The rows that the items of a block say, one after another.
-use Rattle.std.proofs.Common.{◌≡◌, ℕ, ℤ, zero, suc, pos, negsuc, ◌+◌, ◌<◌, ◌≤◌, ◌≤ℤ◌, ◌^◌, inl, inr, Bool, true, false}
+use Rattle.std.proofs.Common.{◌≡◌, ℕ, ℤ, zero, suc, pos, negsuc, ◌+◌, ◌<◌, ◌≤◌, ◌≤ℤ◌, inl, inr, Bool, true, false}
 use Rattle.std.proofs.Common.{cond, eqb, List}
-use Rattle.std.proofs.Common.{[], ◌∷◌, ◌++◌, length, map, take, get_or, filter, None, Some, FitsSigned, refl, sym, ap}
-use Rattle.std.proofs.Common.{◌∙◌, arith, w64, slice_get}
+use Rattle.std.proofs.Common.{[], ◌∷◌, ◌++◌, length, map, take, get_or, filter, None, Some, refl, sym, ap}
+use Rattle.std.proofs.Common.{◌∙◌, arith, slice_get}
 use Rattle.std.specs.Prelude.{◌||◌, bytes_eq, not, int_lt}
 use Rattle.std.specs.Ordering.{match_ordering}
 use Rattle.std.specs.BTreeMap.{insert_entry}
 use Rattle.std.specs.declared.cmp.Ordering.{Ordering}
 use Rattle.std.specs.declared.cmp.Ordering.TheVariants.{Less, Equal, Greater}
 use Rattle.std.specs.List.{list_all}
-use Rattle.std.specs.Fmt.{decimal, signed_decimal}
-use Rattle.std.proofs.lemmas.Bool.{cases_Bool, eqb-true, le-ltb, lt-ltb}
-use Rattle.std.proofs.lemmas.Fmt.{decimal_nonempty}
+use Rattle.std.proofs.lemmas.Bool.{cases_Bool, eqb-true, lt-ltb}
 use Rattle.std.proofs.lemmas.Int.{ints}
 use Rattle.std.proofs.lemmas.List.{map-append, map_more, take_more}
 use Rattle.std.proofs.lemmas.List.Folds.{list_all_at, list_all_more}
@@ -35,14 +33,6 @@ use Rattle.block_format.specs.Reading.{are_said, has_name, has_spelling, in_orde
 use Rattle.block_format.specs.Reading.{rows_found, rows_said}
 use Rattle.block_format.proofs.OrderLaws.{all-in-order, length-in-order}
 use Rattle.block_format.proofs.TestLaws.{both_from, not-all, not-block, not-numbered, row-refused}
-
--- ---- values
-
-pub integer-some : (n : ℤ) → FitsSigned w64 n → is_empty (signed_decimal n) ≡ false
-integer-some (pos n) fits =
-    let small : n < 2 ^ 64 = omega (arith, ints, fits) in
-    le-ltb (length (decimal n)) 1 (decimal_nonempty n small)
-integer-some (negsuc n) fits = le-ltb (length (45 ∷ decimal (suc n))) 1 (omega arith)
 
 -- ---- fields that are set
 

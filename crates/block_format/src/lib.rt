@@ -17,4 +17,4 @@ pub use labels::put_labels;
 pub use parts::{Parts, take_parts};
 pub use rules::{MAX_CELLS, MAX_COLUMNS, MAX_ROWS, are_rising, is_block};
 pub use said::{rows_said, stream_said};
-pub use values::{is_missing, set_value};
+pub use values::set_value;

@@ -16,7 +16,7 @@ use crate::columns_said::columns_said;
 use crate::parts::Parts;
 use crate::rules;
 use crate::rules::MAX_ROWS;
-use crate::values::{is_missing, set_value};
+use crate::values::set_value;
 use block_column::FoundColumn;
 use block_model::{Key, lend, lent_row};
 use std::alloc::{AllocError, Global};
@@ -125,7 +125,8 @@ fn is_named(column: &NamedColumn) -> bool
         return true;
     }
     for i in 0..column.values.len() {
-        if !is_missing(column.values.value(i)) {
+        let missing = column.values.value(i).is_empty();
+        if !missing {
             return false;
         }
     }
@@ -209,7 +210,7 @@ fn count_of(columns: &[(&str, &FoundColumn)], _rows: usize, i: usize) -> usize
 {
     let mut count = 0;
     for (_, values) in columns {
-        if !is_missing(values.value(i)) {
+        if !values.value(i).is_empty() {
             count += 1;
         }
     }

@@ -16,7 +16,7 @@ use Rattle.std.proofs.lemmas.Map.Text.{is_eq-slice_cmp}
 use Rattle.std.proofs.lemmas.Slice.Eq.{bytes_eq-Decides}
 use Rattle.block_model.proofs.Rising.{above-along}
 use Rattle.byte_format.proofs.Cases.{both_true}
-use Rattle.log_model.specs.Field.{Field, bytes_cmp, field_value, is_filled, set_all, set_field}
+use Rattle.log_model.specs.Field.{Field, bytes_cmp, field_value, is_empty, is_filled, set_all, set_field}
 use Rattle.log_model.specs.Row.{has_field}
 use Rattle.vl_row.specs.Names.{is_among}
 use Rattle.vl_row.specs.Place.{AllBelow, IsGapAt}
@@ -160,6 +160,47 @@ set-again (n ∷ ns) acc (f ∷ fs) s t h l b =
           ap (λ (old : List Field). set_all old (map (value_named (f ∷ fs)) ns)) (ap (set_field acc n) (no-value
           (f ∷ fs) n above) ∙ not-set acc n b.0)
           ∙ set-again ns acc (f ∷ fs) (sorted_tail bytes_cmp n ns s) t h (listed-behind n ns (f ∷ fs) above l) b.1
+    ]
+
+abbrev is_valued : Field → Bool
+is_valued cell = not (is_empty cell.1)
+
+valued-from : (f : Field) → is_filled f ≡ true → is_valued f ≡ true
+valued-from f e = ap not (second-false (is_empty f.0) (is_empty f.1) e)
+
+-- The values of the fields under all of the names, without those that are empty, are the fields again.
+pub valued-again : (names : List (List ℕ)) (fields : List Field) → IsRising names → IsRising (keys_of fields)
+    → list_all is_filled fields ≡ true → AreListed fields names
+    → filter (λ (cell : Field). not (is_empty cell.1)) (map (value_named fields) names) ≡ fields
+valued-again [] [] s t h l = refl
+valued-again [] (f ∷ fs) s t h l = absurd (let e : false ≡ true = l.0 in cc)
+valued-again (n ∷ ns) [] s t h l = valued-again ns [] (sorted_tail bytes_cmp n ns s) t h l
+valued-again (n ∷ ns) (f ∷ fs) s t h l =
+    elim (cases_Bool (bytes_eq n f.0)) [
+      | inl same ↦
+          let name : n ≡ f.0 = (bytes_eq-Decides n f.0).0 same in
+          let above : Above f.0 ns = rw (sym name) (sorted_head bytes_cmp n ns s) in
+          let filled = both_true (is_filled f) (list_all is_filled fs) h in
+          let value : field_value (f ∷ fs) n ≡ f.1 = rw same refl in
+          let first : value_named (f ∷ fs) n ≡ f = ap (λ (v : List ℕ). (n, v)) value
+          ∙ ap (λ (k : List ℕ). (k, f.1)) name in
+          let rest = listed-behind n ns fs (rw name (sorted_head bytes_cmp f.0 (keys_of fs) t)) l.1 in
+          ap (λ (cell : Field). filter is_valued (cell ∷ map (value_named (f ∷ fs)) ns)) first
+          ∙ ap (λ (b : Bool). cond b (f ∷ filter is_valued (map (value_named (f ∷ fs)) ns))
+          (filter is_valued (map (value_named (f ∷ fs)) ns))) (valued-from f filled.0)
+          ∙ ap (λ (cells : List Field). f ∷ filter is_valued cells) (values-behind f fs ns above)
+          ∙ ap (λ (more : List Field). f ∷ more) (valued-again ns fs (sorted_tail bytes_cmp n ns s)
+          (sorted_tail bytes_cmp f.0 (keys_of fs) t) filled.1 rest)
+      | inr other ↦
+          let in_rest = listed-other f n ns l.0 (λ same. both_ways (bytes_eq n f.0) other ((bytes_eq-Decides n f.0).1
+          same)) in
+          let above : Above n (keys_of (f ∷ fs)) = (
+            above-listed n f.0 ns (sorted_head bytes_cmp n ns s) in_rest,
+            above-along n f.0 (keys_of fs) (above-listed n f.0 ns (sorted_head bytes_cmp n ns s) in_rest) (sorted_head
+                bytes_cmp f.0 (keys_of fs) t),
+          ) in
+          ap (λ (v : List ℕ). filter is_valued ((n, v) ∷ map (value_named (f ∷ fs)) ns)) (no-value (f ∷ fs) n above)
+          ∙ valued-again ns (f ∷ fs) (sorted_tail bytes_cmp n ns s) t h (listed-behind n ns (f ∷ fs) above l)
     ]
 
 -- the value of the field at a place is that of its name

@@ -7,7 +7,7 @@ ghost use Rattle.block_format.specs.Columns.{HasRows};
 ghost use Rattle.block_reading.specs.ByColumns.{AreGrown, AreGrownBy, AreLight, AreNumbersFit, AreWithin, IsFilled};
 ghost use Rattle.block_reading.specs.ByColumns.{IsWithin, bytes_from, bytes_in, has_text, larger};
 
-use block_column::FoundColumn;
+use block_column::{FoundColumn, text_len};
 use block_format::NamedColumn;
 use std::alloc::{AllocError, Global};
 
@@ -79,7 +79,7 @@ fn grow(sizes: &mut [RowSize], name: usize, values: &FoundColumn) -> bool
 {
     let mut some = false;
     for i in 0..sizes.len() {
-        let len = values.value(i).len();
+        let len = text_len(values.value(i));
         let Some(size) = larger(sizes[i], name, len) else {
             return false;
         };

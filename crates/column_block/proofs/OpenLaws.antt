@@ -1,17 +1,24 @@
 -- What an opened block lends is that of the rows.
-use Rattle.std.proofs.Common.{◌≡◌, ℕ, zero, suc, ◌+◌, ◌<◌, List, [], ◌∷◌, length, map, take, get_or, Option}
-use Rattle.std.proofs.Common.{Some, None, IfSome, subst, refl, sym, ap, ◌∙◌, arith, slice_get}
-use Rattle.std.specs.List.{AllByRecursion}
+use Rattle.std.proofs.Common.{◌≡◌, ℕ, zero, suc, ◌+◌, ◌<◌, Bool, true, false, cond, List, [], ◌∷◌, length, map}
+use Rattle.std.proofs.Common.{filter, take, get_or, Option, Some, None, IfSome, subst, refl, sym, ap, ◌∙◌, arith}
+use Rattle.std.proofs.Common.{slice_get, unwrap_or}
+use Rattle.std.specs.Prelude.{bytes_eq}
+use Rattle.std.specs.List.{AllByRecursion, list_any}
+use Rattle.std.specs.List.Sorted.{IsStrictlySortedBy}
+use Rattle.std.specs.Map.{lookup}
+use Rattle.std.proofs.lemmas.Bool.{false≢true}
 use Rattle.std.proofs.lemmas.List.{length-map, map_more}
 use Rattle.std.proofs.lemmas.List.Sums.{fold_push}
 use Rattle.std.proofs.lemmas.Option.{slice_get-get_or}
+use Rattle.std.proofs.lemmas.Slice.Eq.{bytes_eq-Decides}
 use Rattle.byte_format.proofs.Cases.{some_is}
-use Rattle.log_model.specs.Field.{Field, field_value, set_all, set_field}
+use Rattle.lent_row.specs.Cells.{cell_at, has_value}
+use Rattle.log_model.specs.Field.{Field, bytes_cmp, field_value, set_all, set_field}
 use Rattle.log_model.specs.History.{Numbered}
 use Rattle.block_model.specs.Columns.{names_of, row_of, values_of}
 use Rattle.block_model.specs.Keys.{IsNumbered, key_of, keys_of}
 use Rattle.block_model.specs.declared.keys.Key.{Key}
-use Rattle.block_model.proofs.FieldLaws.{AreListed, set-again, value_named}
+use Rattle.block_model.proofs.FieldLaws.{AreListed, set-again, value_named, valued-again}
 use Rattle.block_model.proofs.NameLaws.{are-named, names-rising}
 use Rattle.block_model.proofs.RowLaws.{none-below}
 use Rattle.block_body.specs.Outline.{NamedFilter, Outline}
@@ -19,6 +26,9 @@ use Rattle.block_format.specs.Rows.{labels_of}
 use Rattle.block_body.specs.Outlines.{filter_named, outline_of}
 use Rattle.block_format.specs.Rows.{key_in}
 use Rattle.block_body.proofs.HeldLaws.{get-map}
+use Rattle.column_block.specs.InColumns.{cells_in, no_row, row_at}
+use Rattle.vl_row.specs.Names.{is_among}
+use Rattle.vl_row.specs.Place.{IsInOrder}
 
 -- ---- elements
 
@@ -46,6 +56,11 @@ if-some (Some x) P h = h x refl
 pub at-some : {X : Type 0} (o : Option X) (P : X → Type 0) (x : X) → IfSome o P → o ≡ Some x → P x
 at-some None P x h e = absurd cc
 at-some (Some y) P x h e = subst P (some_is y x e) h
+
+pub inside : {X : Type 0} (xs : List X) (i : ℕ) (x : X) → slice_get xs i ≡ Some x → i < length xs
+inside [] i x e = absurd cc
+inside (y ∷ ys) zero x e = omega arith
+inside (y ∷ ys) (suc i) x e = let lt : i < length ys = inside ys i x e in omega arith
 
 -- ---- keys
 
@@ -78,14 +93,52 @@ pub column-count : (rows : List Numbered) (head : Outline) → head ≡ outline_
     → length head.columns ≡ length (names_of rows)
 column-count rows head h = ap (λ (o : Outline). length o.columns) h ∙ length-map (names_of rows) (filter_named rows)
 
+-- the value in the column of a name
+pub value-named : (rows : List Numbered) (i c : ℕ) (name value : List ℕ) (n : Numbered)
+    → name ≡ get_or (names_of rows) c []
+    → slice_get (values_of rows (get_or (names_of rows) c [])) i ≡ Some value → slice_get rows i ≡ Some n
+    → value ≡ field_value n.row.fields name
+value-named rows i c name value n is read e =
+    some_is value (field_value n.row.fields name) (sym read
+    ∙ ap (λ (other : List ℕ). slice_get (values_of rows other) i) (sym is)
+    ∙ found-map (λ (m : Numbered). field_value m.row.fields name) rows i n e)
+
+-- fields whose names are listed have no value under another name
+unlisted : (fields : List Field) (names : List (List ℕ)) (name : List ℕ) → AreListed fields names
+    → is_among names name ≡ false → field_value fields name ≡ []
+unlisted [] names name listed none = refl
+unlisted (f ∷ fs) names name listed none = by (bytes_eq name f.0) refl (unlisted fs names name listed.1 none)
+  where
+    by : (b : Bool) → bytes_eq name f.0 ≡ b → field_value fs name ≡ []
+        → unwrap_or (cond b (Some f.1) (lookup (bytes_eq name) fs)) [] ≡ []
+    by true same later =
+        let other : list_any (bytes_eq name) names ≡ true =
+        ap (λ (text : List ℕ). list_any (bytes_eq text) names) ((bytes_eq-Decides name f.0).0 same) ∙ listed.0 in
+        absurd (false≢true (sym none ∙ other))
+    by false same later = later
+
+-- no row has a value under a name of no column
+pub value-missing : (rows : List Numbered) (i : ℕ) (name : List ℕ) (n : Numbered) → slice_get rows i ≡ Some n
+    → is_among (names_of rows) name ≡ false → field_value n.row.fields name ≡ []
+value-missing rows i name n e none =
+    unlisted n.row.fields (names_of rows) name
+    (all-at (λ (m : Numbered). AreListed m.row.fields (names_of rows)) rows i n (are-named rows) e) none
+
+-- the names of the columns
+pub all-names : (rows : List Numbered) (head : Outline) → head ≡ outline_of rows
+    → map (λ (column : NamedFilter). column.0) head.columns ≡ names_of rows
+all-names rows head h =
+    ap (λ (o : Outline). map (λ (column : NamedFilter). column.0) o.columns) h ∙ names-again rows (names_of rows)
+
+pub in-order : (rows : List Numbered) (head : Outline) → head ≡ outline_of rows → IsInOrder head.columns
+in-order rows head h = subst (IsStrictlySortedBy bytes_cmp) (sym (all-names rows head h)) (names-rising rows)
+
 pub name-at : (rows : List Numbered) (head : Outline) (c : ℕ) (name : List ℕ) → head ≡ outline_of rows
     → c < length (names_of rows) → slice_get (map (λ (column : NamedFilter). column.0) head.columns) c ≡ Some name
     → name ≡ get_or (names_of rows) c []
 name-at rows head c name h lt e =
-    let all : map (λ (column : NamedFilter). column.0) head.columns ≡ names_of rows =
-    ap (λ (o : Outline). map (λ (column : NamedFilter). column.0) o.columns) h
-    ∙ names-again rows (names_of rows) in
-    some_is name (get_or (names_of rows) c []) (sym e ∙ ap (λ (l : List (List ℕ)). slice_get l c) all
+    some_is name (get_or (names_of rows) c []) (sym e
+    ∙ ap (λ (l : List (List ℕ)). slice_get l c) (all-names rows head h)
     ∙ slice_get-get_or (names_of rows) c [] lt)
 
 -- ---- fields
@@ -121,3 +174,27 @@ pub labels-at : (rows : List Numbered) (head : Outline) (i : ℕ) (n : Numbered)
 labels-at rows head i n h stream e =
     ap (λ (o : Outline). o.labels) h
     ∙ sym (all-at (λ (m : Numbered). m.row.labels ≡ labels_of rows) rows i n stream e)
+
+-- ---- rows that are lent
+
+pub row-there : (rows : List Numbered) (i : ℕ) → i < length rows → slice_get rows i ≡ Some (row_at rows i).numbered
+row-there rows i lt = slice_get-get_or rows i no_row lt
+
+pub cell-there : (rows : List Numbered) (i c : ℕ) → c < length (names_of rows)
+    → cell_at (cells_in (row_at rows i)) c
+    ≡ value_named (row_at rows i).numbered.row.fields (get_or (names_of rows) c [])
+cell-there rows i c lt = get-map (value_named (row_at rows i).numbered.row.fields) (names_of rows) c [] ([], []) lt
+
+pub cell-count : (rows : List Numbered) (i : ℕ) → length (cells_in (row_at rows i)) ≡ length (names_of rows)
+cell-count rows i = length-map (names_of rows) (value_named (row_at rows i).numbered.row.fields)
+
+-- the cells that have a value are the fields
+pub cells-valued : (rows : List Numbered) (i : ℕ) → AllByRecursion IsNumbered rows → i < length rows
+    → filter has_value (cells_in (row_at rows i)) ≡ (row_at rows i).numbered.row.fields
+cells-valued rows i each lt =
+    let n : Numbered = (row_at rows i).numbered in
+    let there = row-there rows i lt in
+    let numbered = all-at IsNumbered rows i n each there in
+    let listed = all-at (λ (m : Numbered). AreListed m.row.fields (names_of rows)) rows i n (are-named rows) there in
+    valued-again (names_of rows) n.row.fields (names-rising rows) numbered.row.fields.ordered numbered.row.fields.filled
+    listed

@@ -2,14 +2,17 @@
 #![tactic(auto)]
 
 mod block;
+mod cells;
 mod fault;
 mod open;
+mod open_row;
 mod steps;
 
 pub use block::Block;
 pub use block_body::Head;
-pub use block_column::Value;
 pub use block_format::is_block;
 pub use fault::BlockFault;
+pub use lent_row::Value;
 pub use open::Open;
+pub use open_row::OpenRow;
 pub use steps::Steps;

@@ -1,19 +1,18 @@
 //! Opened blocks, which lend values, keys and rows.
 
-ghost use Rattle.std.specs.Prelude.{◌≡◌, ◌<◌, IfOk, IfSome, OnOk, Some, length, map, slice_get};
-ghost use Rattle.std.specs.Prelude.{slice_index_or, []};
-ghost use Rattle.block_column.specs.Values.{value_text};
-ghost use Rattle.log_model.specs.Field.{set_field};
+ghost use Rattle.std.specs.Prelude.{◌≡◌, ◌<◌, IfOk, Some, [], length, map, slice_get, slice_index_or};
+ghost use Rattle.lent_row.specs.Cells.{value_text};
 ghost use Rattle.block_model.specs.Columns.{names_of, values_of};
 ghost use Rattle.block_format.specs.Rows.{key_in};
 
+use crate::cells::{fields_of, value_in};
+use crate::open_row::OpenRow;
 use block_body::StoredRows;
-use block_column::Value;
-use block_format::{is_missing, set_value};
 use block_model::numbered_row;
+use lent_row::Value;
 use std::alloc::{AllocError, Global};
 use std::marker::Model;
-use vl_row::{FieldList, Numbered};
+use vl_row::Numbered;
 
 /// A block that was opened.
 ///
@@ -39,6 +38,22 @@ impl<'a> Open<'a> {
         Open { stored }
     }
 
+    /// How many rows there are.
+    pub fn len(&self) -> usize
+        ensures { result ≡ length self.now }
+    {
+        self.stored.head().rows()
+    }
+
+    /// A row, lent from the columns.
+    pub fn lent(&self, i: usize) -> OpenRow<'a>
+        requires { i < length self.now }
+        ensures row { slice_get self.now i ≡ Some result.numbered }
+        ensures columns { result.names ≡ names_of self.now }
+    {
+        OpenRow::new(self.stored, i)
+    }
+
     /// The value of a row in a column: its text, which is empty where the row has no such field, or the integer whose
     /// decimal text it is.
     pub fn value(&self, i: usize, c: usize) -> Value<'a>
@@ -47,9 +62,7 @@ impl<'a> Open<'a> {
         ensures { slice_get (values_of self.now (slice_index_or (names_of self.now) c [])) i
             ≡ Some (value_text result) }
     {
-        let stored = self.stored;
-        let columns = stored.columns();
-        columns[c].value(i)
+        value_in(self.stored, i, c)
     }
 
     /// The time of a row, the number of its batch, and its place there.
@@ -67,40 +80,11 @@ impl<'a> Open<'a> {
         requires { i < length self.now }
         ensures { IfOk result (λ numbered. slice_get self.now i ≡ Some numbered) }
     {
-        let fields = self.fields(alloc, i)?;
         let stored = self.stored;
+        let fields = fields_of(alloc, stored, i, 0)?;
         stored.rules();
         let key = stored.key(i);
         let numbered = numbered_row(alloc, stored.head().stream(), key, fields)?;
         Ok(numbered)
-    }
-
-    /// The fields of a row, in memory of their own.
-    fn fields(&self, alloc: Global, i: usize) -> Result<FieldList, AllocError>
-        requires { i < length self.now }
-        ensures { IfOk result (λ fields. IfSome (slice_get self.now i) (λ numbered. fields ≡ numbered.row.fields)) }
-    {
-        let stored = self.stored;
-        let head = stored.head();
-        stored.rules();
-        let mut fields = FieldList::with_room(alloc, self.count(i))?;
-        for c in 0..head.columns() {
-            set_value(alloc, &mut fields, head.name(c), self.value(i, c))?;
-        }
-        Ok(fields)
-    }
-
-    /// How many fields a row has.
-    fn count(&self, i: usize) -> usize
-        requires { i < length self.now }
-    {
-        let head = self.stored.head();
-        let mut count = 0;
-        for c in 0..head.columns() {
-            if !is_missing(self.value(i, c)) {
-                count += 1;
-            }
-        }
-        count
     }
 }

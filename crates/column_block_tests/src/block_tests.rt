@@ -8,6 +8,7 @@ use crate::hex_tests::{bytes_of, push_digits};
 use crate::plain_tests::plain_text;
 use block_model::lend;
 use column_block::{Block, BlockFault, Head, Open, Steps, Value, is_block};
+use lent_row::LentRow;
 use std::alloc::{AllocError, Global};
 use std::fmt::Write;
 use vl_row::{FieldList, Numbered, Row, Text};
@@ -329,5 +330,41 @@ fn push_row(alloc: Global, text: &mut String, opened: &Open<'_>, i: usize) -> Re
     for field in numbered.row.fields().as_slice() {
         let _ = write!(text, " {}={}", field.name(), field.value());
     }
+    let lent = opened.lent(i);
+    if !is_row(alloc, &lent, &numbered.row)? || !are_cells(alloc, &lent)? {
+        text.push_str(" unlike the row that is lent")?;
+    }
     Ok(())
+}
+
+/// Whether what is lent has the time and the fields of the row.
+fn is_row<R: LentRow>(alloc: Global, lent: &R, row: &Row) -> Result<bool, AllocError> {
+    let fields = row.fields();
+    for field in fields.as_slice() {
+        let text = text_of(alloc, lent.value(field.name()))?;
+        if text.as_str() != field.value() {
+            return Ok(false);
+        }
+    }
+    let copy = lent.copy_fields(alloc, 1)?;
+    Ok(lent.time() == row.time() && copy.len() == fields.len())
+}
+
+/// Whether each cell has the value that is found under its name.
+fn are_cells<R: LentRow>(alloc: Global, lent: &R) -> Result<bool, AllocError> {
+    for c in 0..lent.cell_count() {
+        let text = text_of(alloc, lent.value_at(c))?;
+        let named = text_of(alloc, lent.value(lent.name_at(c)))?;
+        if text != named {
+            return Ok(false);
+        }
+    }
+    Ok(true)
+}
+
+fn text_of(alloc: Global, value: Value<'_>) -> Result<String, AllocError> {
+    match value {
+        Value::Str(text) => format!(in alloc; "{text}"),
+        Value::Int(integer) => format!(in alloc; "{integer}"),
+    }
 }

@@ -1,6 +1,6 @@
 use Rattle.std.proofs.Common.{◌≡◌, ◌<◌, [], ap, arith, get_or, length}
 use Rattle.std.proofs.lemmas.List.Sums.{sum_by_more}
-use Rattle.block_column.specs.Values.{value_text}
+use Rattle.lent_row.specs.Cells.{value_text}
 use Rattle.block_column.proofs.Whole.{text-at}
 use Rattle.block_column_tests.proofs.part_tests.are_short.Goals as goal
 
@@ -13,7 +13,7 @@ loop-i-preserved c =
       size = omega (
         arith,
         c.loop-i.invariant.size,
-        c.len-len.ensures.len,
+        c.text_len-len.ensures.len,
         ap length text,
         sum_by_more length c.args.found.now c.loop-i.i [] lt,
       );

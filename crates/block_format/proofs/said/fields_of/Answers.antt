@@ -1,4 +1,4 @@
-use Rattle.block_column.specs.Values.{value_text}
+use Rattle.lent_row.specs.Cells.{value_text}
 use Rattle.block_format.proofs.SaidLaws.{set-more}
 use Rattle.block_format.proofs.said.fields_of.Goals as goal
 

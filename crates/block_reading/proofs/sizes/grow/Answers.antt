@@ -6,7 +6,7 @@ use Rattle.std.specs.Str.{is_utf8}
 use Rattle.std.proofs.lemmas.List.Folds.{list_all_more, list_any_more}
 use Rattle.std.proofs.lemmas.List.Sums.{sum_by_more}
 use Rattle.std.proofs.lemmas.Str.{is_utf8-from_IsUtf8}
-use Rattle.block_column.specs.Values.{value_text}
+use Rattle.lent_row.specs.Cells.{value_text}
 use Rattle.block_column.proofs.Whole.{text-at}
 use Rattle.block_format.proofs.TestLaws.{both_from}
 use Rattle.block_reading.specs.ByColumns.{IsWithin, has_text, larger, nothing}
@@ -28,10 +28,10 @@ loop-i-preserved c =
     c.loop-i.invariant.left c.loop-i.i (omega arith) in
     let text : get_or c.args.values.now c.loop-i.i [] ≡ value_text c.value.result =
     text-at c.args.values.now c.loop-i.i (value_text c.value.result) there c.value.ensures in
-    let len : c.len-len.result ≡ length (get_or c.args.values.now c.loop-i.i []) = c.len-len.ensures.len ∙ ap length (sym text) in
+    let len : c.text_len-len.result ≡ length (get_or c.args.values.now c.loop-i.i []) = c.text_len-len.ensures.len ∙ ap length (sym text) in
     let size : c.in-Some.size ≡ larger c.args.name (get_or c.args.sizes.now c.loop-i.i nothing)
     (length (get_or c.args.values.now c.loop-i.i [])) = c.in-Some.ensures.size
-    ∙ ap (λ (s : RowSize). larger c.args.name s c.len-len.result) old
+    ∙ ap (λ (s : RowSize). larger c.args.name s c.text_len-len.result) old
     ∙ ap (larger c.args.name (get_or c.args.sizes.now c.loop-i.i nothing)) len in
     record {
       grown = below_more _ _ (λ k h.
@@ -44,13 +44,13 @@ loop-i-preserved c =
           let other : k ≢ c.loop-i.i = omega (arith, le) in
           rw get_or-set_other (c.loop-i.invariant.left k (omega (arith, le)));
       some = c.either-some.ensures
-          ∙ ap (λ (n : ℕ). c.loop-i.some || nat_lt 0 n) c.len-len.ensures.len
+          ∙ ap (λ (n : ℕ). c.loop-i.some || nat_lt 0 n) c.text_len-len.ensures.len
           ∙ ap (λ (b : Bool). b || has_text (value_text c.value.result)) c.loop-i.invariant.some
           ∙ ap (λ (t : List ℕ). list_any has_text (take i values) || has_text t) (sym text)
           ∙ sym (list_any_more has_text values i [] there);
       texts = list_all_more is_utf8 values i [] there
           ∙ both_from (list_all is_utf8 (take i values)) (is_utf8 (get_or values i [])) c.loop-i.invariant.texts
-          (ap is_utf8 text ∙ is_utf8-from_IsUtf8 (value_text c.value.result) c.len-len.ensures.text);
+          (ap is_utf8 text ∙ is_utf8-from_IsUtf8 (value_text c.value.result) c.text_len-len.ensures.text);
       small = omega (
         arith,
         c.loop-i.invariant.small,
