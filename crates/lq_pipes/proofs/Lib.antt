@@ -1,3 +1,4 @@
+pub mod CellWalks
 pub mod Alike
 pub mod Among
 pub mod Enough

@@ -9,7 +9,7 @@ use Rattle.std.specs.Map.{lookup}
 use Rattle.std.specs.Ordering.{is_eq, match_ordering}
 use Rattle.std.specs.declared.cmp.Ordering.{Ordering}
 use Rattle.std.specs.declared.cmp.Ordering.TheVariants.{Less, Equal, Greater}
-use Rattle.std.proofs.lemmas.Bool.{and_from, and_parts}
+use Rattle.std.proofs.lemmas.Bool.{and_from, and_parts, false≢true}
 use Rattle.std.proofs.lemmas.List.Folds.{list_any-append}
 use Rattle.std.proofs.lemmas.Map.Text.{is_eq-slice_cmp}
 use Rattle.std.proofs.lemmas.Slice.Eq.{bytes_eq-Decides}
@@ -319,3 +319,14 @@ pub record_more : (names : List (List ℕ)) (i : ℕ) (name : List ℕ) (r : Rec
 record_more names i name r list below is =
     ap (λ ns. only_fields ns r) (one_more names i name below is)
     ∙ only_more (take i names) name r list.ordered list.filled
+
+-- ---- a field that has a value has a name
+
+no_name : (r : Record) → IsTrue (list_all is_filled r) → field_value r [] ≡ []
+no_name [] h = refl
+no_name (([], value) ∷ r) h = absurd (false≢true h)
+no_name ((byte ∷ name, value) ∷ r) h = no_name r (and_parts (is_filled (byte ∷ name, value)) (list_all is_filled r) h).1
+
+pub named_value : (r : Record) (name : List ℕ) → IsFieldList r → 0 < length (field_value r name) → 0 < length name
+named_value r [] list some = absurd (omega (arith, ap length (no_name r list.filled), some))
+named_value r (byte ∷ name) list some = omega arith

@@ -1,6 +1,7 @@
 //! Records of rows, what pipes make of them, and their lines (LogsQL, "Pipes").
 #![tactic(auto)]
 
+mod cells;
 mod fault;
 mod fields;
 mod kept;

@@ -5,13 +5,14 @@ ghost use Rattle.log_model.specs.Print.{line_text};
 ghost use Rattle.log_model.specs.Row.{record_of};
 ghost use Rattle.lq_pipes.specs.Tokens.{members_tokens, object_tokens};
 
-use crate::members::{write_members, write_members_through};
+use crate::cells::{write_cells, write_cells_through};
 use crate::printed_stream::PrintedStream;
 use json::Writer;
+use lent_row::LentRow;
 use std::alloc::{AllocError, Global};
 use std::marker::Model;
 use time_text::write_moment;
-use vl_row::{Row, Stream, Text};
+use vl_row::{Stream, Text};
 
 /// Room for most lines.
 pub(crate) const LINE_BYTES: usize = 1024;
@@ -44,10 +45,15 @@ impl Printer {
 
     /// Appends the row's record as one JSON object with its keys in byte order, and a line feed. If allocation fails,
     /// `out` is unchanged, and the printer may be used again.
-    pub fn write_row(&mut self, alloc: Global, row: &Row, out: &mut Text) -> Result<(), AllocError>
-        ensures ok { OnOk result (out.new ≡ out.old ++ line_text (record_of row.now)) }
+    pub fn write_row<R: LentRow>(
+        &mut self,
+        alloc: Global,
+        row: &R,
+        out: &mut Text,
+    ) -> Result<(), AllocError>
+        ensures ok { OnOk result (out.new ≡ out.old ++ line_text (record_of (R.event row.now))) }
         ensures err { OnErr result (out.new ≡ out.old) }
-        ensures kept { OnOk result (self.new ≡ row.now.labels) }
+        ensures kept { OnOk result (self.new ≡ (R.event row.now).labels) }
     {
         self.stream.turn_to(alloc, row.stream())?;
         let line = line(alloc, row, &self.stream)?;
@@ -57,9 +63,9 @@ impl Printer {
 
 /// Returns the row's record as a line.
 // It has a buffer of its own, since a writer zeroes room ahead in proportion to what its buffer holds.
-fn line(alloc: Global, row: &Row, stream: &PrintedStream) -> Result<String, AllocError>
-    requires { stream.now ≡ row.now.labels }
-    ensures { IfOk result (λ line. string_bytes line ≡ line_text (record_of row.now)) }
+fn line<R: LentRow>(alloc: Global, row: &R, stream: &PrintedStream) -> Result<String, AllocError>
+    requires { stream.now ≡ (R.event row.now).labels }
+    ensures { IfOk result (λ line. string_bytes line ≡ line_text (record_of (R.event row.now))) }
 {
     let mut moment = Text::try_of(alloc, "")?;
     write_moment(alloc, row.time(), &mut moment)?;
@@ -71,17 +77,17 @@ fn line(alloc: Global, row: &Row, stream: &PrintedStream) -> Result<String, Allo
 }
 
 /// Writes the row's record as an object, with its stream and this text of its time.
-fn write_object(
+fn write_object<R: LentRow>(
     writer: &mut Writer,
-    row: &Row,
+    row: &R,
     stream: &PrintedStream,
     moment: &str,
 ) -> Result<(), AllocError>
-    requires stream { stream.now ≡ row.now.labels }
-    requires time { moment.now ≡ moment_text row.now.moment }
+    requires stream { stream.now ≡ (R.event row.now).labels }
+    requires time { moment.now ≡ moment_text (R.event row.now).moment }
     ensures before { writer.new.before ≡ writer.old.before }
     ensures ok { OnOk result (writer.new.tokens
-        ≡ writer.old.tokens ++ object_tokens (record_of row.now)) }
+        ≡ writer.old.tokens ++ object_tokens (record_of (R.event row.now))) }
 {
     writer.begin_object()?;
     write_record(writer, row, stream, moment)?;
@@ -90,21 +96,21 @@ fn write_object(
 
 /// Writes the members of the row's record: the computed fields go between the stored ones, none of which has their
 /// names.
-fn write_record(
+fn write_record<R: LentRow>(
     writer: &mut Writer,
-    row: &Row,
+    row: &R,
     stream: &PrintedStream,
     moment: &str,
 ) -> Result<(), AllocError>
-    requires stream { stream.now ≡ row.now.labels }
-    requires time { moment.now ≡ moment_text row.now.moment }
+    requires stream { stream.now ≡ (R.event row.now).labels }
+    requires time { moment.now ≡ moment_text (R.event row.now).moment }
     ensures before { writer.new.before ≡ writer.old.before }
     ensures ok { OnOk result (writer.new.tokens
-        ≡ writer.old.tokens ++ members_tokens (record_of row.now)) }
+        ≡ writer.old.tokens ++ members_tokens (record_of (R.event row.now))) }
 {
-    let fields = row.fields().as_slice();
-    let fields = write_members_through(writer, fields, "_stream", stream.text())?;
-    let fields = write_members_through(writer, fields, "_stream_id", stream.id())?;
-    let fields = write_members_through(writer, fields, "_time", moment)?;
-    write_members(writer, fields)
+    row.rules();
+    let next = write_cells_through(writer, row, 0, "_stream", stream.text())?;
+    let next = write_cells_through(writer, row, next, "_stream_id", stream.id())?;
+    let next = write_cells_through(writer, row, next, "_time", moment)?;
+    write_cells(writer, row, next)
 }

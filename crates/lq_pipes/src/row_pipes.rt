@@ -9,22 +9,22 @@ ghost use Rattle.lq_pipes.specs.RowPipes.{Keeps, Passes};
 use crate::needed::Needs;
 use crate::project::records_of;
 use crate::projector::Projector;
+use lent_row::LentRow;
 use lq_ast::{Pipe, SortPipe};
 use lq_order::sorted_places_seeded;
 use lq_tuple::HashSeed;
 use std::alloc::{AllocError, Global};
-use vl_row::Row;
 
 /// Runs the first pipes, as long as they leave records as they are, over rows, with this seed of the tables of values.
 /// The pipes after them are the result.
-pub(crate) fn pass_rows<'p>(
+pub(crate) fn pass_rows<'p, R: LentRow + Copy + Drop>(
     alloc: Global,
     seed: HashSeed,
     pipes: &'p [Pipe],
-    rows: &mut Vec<&Row>,
+    rows: &mut Vec<R>,
 ) -> Result<&'p [Pipe], AllocError>
     ensures { IfOk result (λ left. Passes (map stage pipes.entry.now) (map stage left.now)
-        (map (λ row. record_of row.now) rows.old.items) (map (λ row. record_of row.now) rows.new.items)) }
+        (map (λ row. record_of (R.event row)) rows.old.items) (map (λ row. record_of (R.event row)) rows.new.items)) }
 {
     let mut left = pipes;
     while let [pipe, later @ ..] = left {
@@ -37,40 +37,41 @@ pub(crate) fn pass_rows<'p>(
 }
 
 /// Runs a pipe over rows, if it leaves records as they are. Whether it does is the result.
-fn pass(
+fn pass<R: LentRow + Copy + Drop>(
     alloc: Global,
     seed: HashSeed,
     pipe: &Pipe,
-    rows: &mut Vec<&Row>,
+    rows: &mut Vec<R>,
 ) -> Result<bool, AllocError>
-    ensures { IfOk result (Keeps (stage pipe.now) (map (λ row. record_of row.now) rows.old.items)
-        (map (λ row. record_of row.now) rows.new.items)) }
+    ensures { IfOk result (Keeps (stage pipe.now) (map (λ row. record_of (R.event row)) rows.old.items)
+        (map (λ row. record_of (R.event row)) rows.new.items)) }
 {
     match pipe {
         Pipe::Limit(most) => rows.truncate(*most as usize),
-        Pipe::Offset(first) => *rows = behind(*first, rows.as_slice()).to_vec(alloc)?,
+        Pipe::Offset(first) => leave_out(*first, rows),
         Pipe::Sort(sort) => *rows = sorted_rows(alloc, seed, sort, rows.as_slice())?,
         _ => return Ok(false),
     }
     Ok(true)
 }
 
-/// Returns the rows after the first n.
-fn behind<'a, 'r>(first: u64, rows: &'a [&'r Row]) -> &'a [&'r Row]
-    ensures { result.now ≡ drop first rows.entry.now }
+/// Leaves out the first n rows.
+fn leave_out<R: Copy + Drop>(first: u64, rows: &mut Vec<R>)
+    ensures { rows.new.items ≡ drop first rows.old.items }
 {
-    &rows[rows.len().min(first as usize)..]
+    let first = rows.len().min(first as usize);
+    drop(rows.drain(..first));
 }
 
 /// Returns the rows whose records `sort` keeps, in its order. Records are made of its keys only.
-fn sorted_rows<'r>(
+fn sorted_rows<R: LentRow + Copy + Drop>(
     alloc: Global,
     seed: HashSeed,
     sort: &SortPipe,
-    rows: &[&'r Row],
-) -> Result<Vec<&'r Row>, AllocError>
-    ensures { IfOk result (λ kept. map (λ row. record_of row.now) kept.items
-        ≡ sorted (sorting sort.now) (map (λ row. record_of row.now) rows.now)) }
+    rows: &[R],
+) -> Result<Vec<R>, AllocError>
+    ensures { IfOk result (λ kept. map (λ row. record_of (R.event row)) kept.items
+        ≡ sorted (sorting sort.now) (map (λ row. record_of (R.event row)) rows.now)) }
 {
     let needs = Needs::of_sort(alloc, sort)?;
     let mut projector = Projector::new(alloc, &needs)?;
@@ -80,14 +81,14 @@ fn sorted_rows<'r>(
 }
 
 /// Returns the rows at these places.
-fn rows_at<'r>(
+fn rows_at<R: LentRow + Copy + Drop>(
     alloc: Global,
-    rows: &[&'r Row],
+    rows: &[R],
     places: &[usize],
-) -> Result<Vec<&'r Row>, AllocError>
+) -> Result<Vec<R>, AllocError>
     requires { All (λ place. place < length rows.now) places.now }
-    ensures { IfOk result (λ kept. map (λ row. record_of row.now) kept.items
-        ≡ map (λ place. slice_index_or (map (λ row. record_of row.now) rows.now) place []) places.now) }
+    ensures { IfOk result (λ kept. map (λ row. record_of (R.event row)) kept.items
+        ≡ map (λ place. slice_index_or (map (λ row. record_of (R.event row)) rows.now) place []) places.now) }
 {
     let mut kept = Vec::with_capacity(alloc, places.len())?;
     for place in places {

@@ -21,27 +21,28 @@ use crate::projector::record_law;
 use crate::row_pipes::pass_rows;
 use crate::row_records::RowRecords;
 use crate::step::{Step, run_plain};
+use lent_row::LentRow;
 use lq_ast::{Pipe, StatsPipe};
 use lq_order::Tally;
 use lq_stats::Plan;
 use lq_tuple::HashSeed;
 use std::alloc::{AllocError, Global};
-use vl_row::{Recs, Row, Text};
+use vl_row::{Recs, Text};
 
 /// Returns the records that the pipes make of those of these rows, with the faults of `apply`. Hashes with the given
 /// seed. Records are made late: `limit`, `offset` and `sort` that come first run over rows, a `stats`, `uniq` or `top`
 /// after them takes a few records at a time, and records have only the fields that matter to the pipes.
-pub fn apply_rows(
+pub fn apply_rows<R: LentRow + Copy + Drop>(
     alloc: Global,
     seed: HashSeed,
     pipes: &[Pipe],
-    rows: Vec<&Row>,
+    rows: Vec<R>,
 ) -> Result<Recs, PipeFault>
     requires few { length rows.items < 2 ^ 32 }
     ensures ok { IfOk result (λ made.
-        all_piped (map stage pipes.now) (map (λ row. record_of row.now) rows.entry.items) ≡ Ok made) }
+        all_piped (map stage pipes.now) (map (λ row. record_of (R.event row)) rows.items) ≡ Ok made) }
     ensures readable { IfOk result (λ _. AllByRecursion CanBeRead (flat_map patterns_of_stage (map stage pipes.now))) }
-    ensures fault { IfErr result (IsPipeFault (map stage pipes.now) (map (λ row. record_of row.now) rows.entry.items)) }
+    ensures fault { IfErr result (IsPipeFault (map stage pipes.now) (map (λ row. record_of (R.event row)) rows.items)) }
 {
     let mut rows = rows;
     let pipes = pass_rows(alloc, seed, pipes, &mut rows)?;
@@ -50,20 +51,20 @@ pub fn apply_rows(
 }
 
 /// Returns the records that the pipes of these steps make of those of the rows.
-fn apply_steps(
+fn apply_steps<R: LentRow>(
     alloc: Global,
     seed: HashSeed,
     pipes: &[Pipe],
     steps: &[Step<'_>],
-    rows: &[&Row],
+    rows: &[R],
 ) -> Result<Recs, PipeFault>
     requires same { map stage_of steps.now ≡ map stage pipes.now }
     requires planned { AllByRecursion IsPlanned steps.now }
     requires few { length rows.now < 2 ^ 32 }
     ensures ok { IfOk result (λ made.
-        all_piped (map stage pipes.now) (map (λ row. record_of row.now) rows.now) ≡ Ok made) }
+        all_piped (map stage pipes.now) (map (λ row. record_of (R.event row)) rows.now) ≡ Ok made) }
     ensures fault { IfErr result (IsMadeFault
-        (all_piped (map stage pipes.now) (map (λ row. record_of row.now) rows.now))) }
+        (all_piped (map stage pipes.now) (map (λ row. record_of (R.event row)) rows.now))) }
 {
     rows_law(rows);
     let needs = Needs::of(alloc, pipes)?;
@@ -72,8 +73,8 @@ fn apply_steps(
 }
 
 /// That the records of rows keep the rules of fields. It does nothing: its contract is the law.
-fn rows_law(rows: &[&Row])
-    ensures { AllByRecursion IsFieldList (map (λ row. record_of row.now) rows.now) }
+fn rows_law<R: LentRow>(rows: &[R])
+    ensures { AllByRecursion IsFieldList (map (λ row. record_of (R.event row)) rows.now) }
 {
     for row in rows {
         record_law(row);
@@ -81,16 +82,16 @@ fn rows_law(rows: &[&Row])
 }
 
 /// Returns the records that these steps make of those of rows.
-fn apply_steps_to_rows(
+fn apply_steps_to_rows<R: LentRow>(
     alloc: Global,
     seed: HashSeed,
     steps: &[Step<'_>],
-    rows: RowRecords<'_>,
+    rows: RowRecords<'_, R>,
 ) -> Result<Recs, PipeFault>
-    requires few { length (records_left rows) < 2 ^ 32 }
+    requires few { length (records_left R.event rows) < 2 ^ 32 }
     requires planned { AllByRecursion IsPlanned steps.now }
-    ensures ok { IfOk result (λ made. all_piped (map stage_of steps.now) (records_left rows.entry) ≡ Ok made) }
-    ensures fault { IfErr result (IsMadeFault (all_piped (map stage_of steps.now) (records_left rows.entry))) }
+    ensures ok { IfOk result (λ made. all_piped (map stage_of steps.now) (records_left R.event rows.entry) ≡ Ok made) }
+    ensures fault { IfErr result (IsMadeFault (all_piped (map stage_of steps.now) (records_left R.event rows.entry))) }
 {
     match steps.split_first() {
         Some((first, later)) => {
@@ -103,16 +104,16 @@ fn apply_steps_to_rows(
 
 impl<'p> Step<'p> {
     /// Returns the records that the pipe makes of those of rows. Hashes with the given seed.
-    fn apply_to_rows(
+    fn apply_to_rows<R: LentRow>(
         &self,
         alloc: Global,
         seed: HashSeed,
-        rows: RowRecords<'_>,
+        rows: RowRecords<'_, R>,
     ) -> Result<Recs, PipeFault>
         requires planned { IsPlanned self.now }
-        requires few { length (records_left rows) < 2 ^ 32 }
-        ensures ok { IfOk result (λ made. piped (stage_of self.now) (records_left rows.entry) ≡ Ok made) }
-        ensures fault { IfErr result (IsMadeFault (piped (stage_of self.now) (records_left rows.entry))) }
+        requires few { length (records_left R.event rows) < 2 ^ 32 }
+        ensures ok { IfOk result (λ made. piped (stage_of self.now) (records_left R.event rows.entry) ≡ Ok made) }
+        ensures fault { IfErr result (IsMadeFault (piped (stage_of self.now) (records_left R.event rows.entry))) }
     {
         match self {
             Step::Plain(pipe) => Ok(apply_plain_to_rows(alloc, seed, pipe, rows)?),
@@ -124,15 +125,15 @@ impl<'p> Step<'p> {
 
 /// Returns the records that a pipe which is neither `stats` nor `filter` makes of those of rows. Hashes with the given
 /// seed.
-fn apply_plain_to_rows(
+fn apply_plain_to_rows<R: LentRow>(
     alloc: Global,
     seed: HashSeed,
     pipe: &Pipe,
-    rows: RowRecords<'_>,
+    rows: RowRecords<'_, R>,
 ) -> Result<Recs, AllocError>
     requires plain { is_plain (stage pipe.now) ≡ true }
-    requires few { length (records_left rows) < 2 ^ 32 }
-    ensures { IfOk result (λ made. piped (stage pipe.now) (records_left rows.entry) ≡ Ok made) }
+    requires few { length (records_left R.event rows) < 2 ^ 32 }
+    ensures { IfOk result (λ made. piped (stage pipe.now) (records_left R.event rows.entry) ≡ Ok made) }
 {
     match pipe {
         Pipe::Uniq(uniq) => {
@@ -148,16 +149,16 @@ fn apply_plain_to_rows(
 }
 
 /// Returns the statistics of the records of rows.
-fn statistics_of_rows(
+fn statistics_of_rows<R: LentRow>(
     alloc: Global,
     pipe: &StatsPipe,
     plan: &Plan,
-    rows: RowRecords<'_>,
+    rows: RowRecords<'_, R>,
 ) -> Result<Recs, PipeFault>
     requires planned { IsPlanOf plan.now (grouping pipe.now) }
-    requires few { length (records_left rows) < 2 ^ 32 }
-    ensures ok { IfOk result (λ made. grouped (grouping pipe.now) (records_left rows.entry) ≡ Ok made) }
-    ensures fault { IfErr result (IsMadeFault (grouped (grouping pipe.now) (records_left rows.entry))) }
+    requires few { length (records_left R.event rows) < 2 ^ 32 }
+    ensures ok { IfOk result (λ made. grouped (grouping pipe.now) (records_left R.event rows.entry) ≡ Ok made) }
+    ensures fault { IfErr result (IsMadeFault (grouped (grouping pipe.now) (records_left R.event rows.entry))) }
 {
     let mut gathered = plan.begin(alloc)?;
     let mut rows = rows;
@@ -169,14 +170,14 @@ fn statistics_of_rows(
 }
 
 /// Returns how many of the records of rows have each tuple of these fields.
-fn tally_of_rows<'p>(
+fn tally_of_rows<'p, R: LentRow>(
     alloc: Global,
     seed: HashSeed,
     names: &'p [Text],
-    rows: RowRecords<'_>,
+    rows: RowRecords<'_, R>,
 ) -> Result<Tally<'p>, AllocError>
-    requires few { length (records_left rows) < 2 ^ 32 }
-    ensures { IfOk result (λ tally. Tallies tally names.entry.now (records_left rows.entry)) }
+    requires few { length (records_left R.event rows) < 2 ^ 32 }
+    ensures { IfOk result (λ tally. Tallies tally names.entry.now (records_left R.event rows.entry)) }
 {
     let mut tally = Tally::seeded(alloc, seed, names);
     let mut rows = rows;

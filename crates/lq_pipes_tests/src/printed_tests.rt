@@ -1,5 +1,6 @@
 //! The lines of rows: by the printer, by the plain program, and of their records.
-use crate::plain::write_row;
+use crate::lent_tests::Lent;
+use crate::plain_tests::write_row;
 use lq_pipes::{Printer, lines, rec_of};
 use std::alloc::{AllocError, Global};
 use vl_row::{FieldList, Recs, Row, Text, number};
@@ -9,6 +10,18 @@ pub fn printed(alloc: Global, rows: &[Row]) -> Result<Text, AllocError> {
     let mut out = Text::try_of(alloc, "printed\n")?;
     for row in rows {
         printer.write_row(alloc, row, &mut out)?;
+    }
+    Ok(out)
+}
+
+/// Returns the same, of the rows as they may lie in columns.
+pub fn printed_lent(alloc: Global, rows: &[Row]) -> Result<Text, AllocError> {
+    let mut printer = Printer::new(alloc)?;
+    let mut out = Text::try_of(alloc, "printed\n")?;
+    for row in rows {
+        if let Some(lent) = Lent::of(row) {
+            printer.write_row(alloc, &lent, &mut out)?;
+        }
     }
     Ok(out)
 }

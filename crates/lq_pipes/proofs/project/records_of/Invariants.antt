@@ -5,8 +5,8 @@ use Rattle.lq_pipes.specs.Projector.{projected}
 use Rattle.lq_pipes.proofs.project.records_of.Given as goal
 
 abbrev pub invariant-loop-row : goal.invariant-loop-row
-invariant-loop-row l = record {
+invariant-loop-row g l = record {
   same : projected l.projector ≡ projected l.initial.projector;
   made : l.records.items ≡ map (narrowed (projected l.initial.projector))
-      (map (λ row. record_of row.now) (take l.row-index l.rows));
+      (map (λ row. record_of (g.R.LentRow.event row)) (take l.row-index l.rows));
 }

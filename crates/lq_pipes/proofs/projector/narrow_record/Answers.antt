@@ -5,11 +5,11 @@ use Rattle.lq_pipes.proofs.Projected.{none_kept, record_more}
 use Rattle.lq_pipes.proofs.projector.narrow_record.Goals as goal
 
 pub loop-name-init : goal.loop-name-init
-loop-name-init c = c.in_ok-fields.ensures ∙ sym (none_kept (record_of c.args.row.now))
+loop-name-init g c = c.in_ok-fields.ensures ∙ sym (none_kept (record_of (g.R.LentRow.event c.args.row.now)))
 
 pub loop-name-preserved : goal.loop-name-preserved
-loop-name-preserved c =
-    let r = record_of c.args.row.now in
+loop-name-preserved g c =
+    let r = record_of (g.R.LentRow.event c.args.row.now) in
     let named = c.as_str.ensures.value in
     let before = c.loop-name.invariant in
     c.in_ok-push_field.ensures ∙ (λ i. set_field (before i) (named i) (field_value r (named i)))

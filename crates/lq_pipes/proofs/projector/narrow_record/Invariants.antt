@@ -4,4 +4,4 @@ use Rattle.lq_ast.specs.Records.{only_fields}
 use Rattle.lq_pipes.proofs.projector.narrow_record.Given as goal
 
 abbrev pub invariant-loop-name : goal.invariant-loop-name
-invariant-loop-name l = l.fields ≡ only_fields (take l.name-index l.names) (record_of l.row)
+invariant-loop-name g l = l.fields ≡ only_fields (take l.name-index l.names) (record_of (g.R.LentRow.event l.row))

@@ -3,4 +3,4 @@ use Rattle.lq_pipes.proofs.Projected.{list_of_row}
 use Rattle.lq_pipes.proofs.projector.record_law.Goals as goal
 
 pub returns : goal.returns
-returns c = search (rules, list_of_row)
+returns g c = search (rules, list_of_row)

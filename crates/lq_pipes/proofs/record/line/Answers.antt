@@ -5,6 +5,6 @@ use Rattle.log_model.specs.Row.{record_of}
 use Rattle.lq_pipes.proofs.record.line.Goals as goal
 
 pub returns : goal.returns
-returns c =
-    let printed = print-object_tokens (record_of c.args.row.now) in
+returns g c =
+    let printed = print-object_tokens (record_of (g.R.LentRow.event c.args.row.now)) in
     grind (arith, common_steps)

@@ -5,12 +5,12 @@ use Rattle.lq_pipes.proofs.Merged.{tokens-record_of}
 use Rattle.lq_pipes.proofs.record.write_record.Goals as goal
 
 pub returns-clause-ok : goal.returns-clause-ok
-returns-clause-ok c =
-    let stream = c.in_ok-fields.ensures in
-    let id = c.in_ok-fields-2.ensures in
-    let time = c.in_ok-fields-3.ensures in
-    on_ok_weaker c.write_members.result
-    (λ written. written ∙ tokens-record_of c.args.row.now c.fields.ensures.rules _ _ _ _ _ _ _ _ _ _ _
-    (c.as_slice-fields.ensures.value ∙ c.fields.ensures.value) (c.text.ensures ∙ ap label_text c.requires.stream)
+returns-clause-ok g c =
+    let stream = c.in_ok-next.ensures in
+    let id = c.in_ok-next-2.ensures in
+    let time = c.in_ok-next-3.ensures in
+    on_ok_weaker c.write_cells.result
+    (λ written. written ∙ tokens-record_of (g.R.LentRow.event c.args.row.now) c.rules.ensures.row _ _ _ _ _ _ _ _ _ _ _
+    c.rules.ensures.fields (c.text.ensures ∙ ap label_text c.requires.stream)
     (c.id.ensures ∙ ap stream_id c.requires.stream) c.requires.time stream.ok stream.rest id.ok id.rest time.ok time.rest)
-    c.write_members.ensures.ok
+    c.write_cells.ensures.ok

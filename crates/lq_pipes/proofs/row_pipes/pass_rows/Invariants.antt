@@ -5,9 +5,9 @@ use Rattle.lq_pipes.specs.RowPipes.{Passes}
 use Rattle.lq_pipes.proofs.row_pipes.pass_rows.Given as goal
 
 abbrev pub invariant-loop-left : goal.invariant-loop-left
-invariant-loop-left l =
-    Passes (map stage l.initial.left) (map stage l.left) (map (λ row. record_of row.now) l.initial.rows.items)
-    (map (λ row. record_of row.now) l.rows.items)
+invariant-loop-left g l =
+    Passes (map stage l.initial.left) (map stage l.left) (map (λ row. record_of (g.R.LentRow.event row)) l.initial.rows.items)
+    (map (λ row. record_of (g.R.LentRow.event row)) l.rows.items)
 
 abbrev pub decreases-loop-left : goal.decreases-loop-left
-decreases-loop-left l = length l.left
+decreases-loop-left g l = length l.left

@@ -3,6 +3,6 @@ use Rattle.log_model.specs.Row.{record_of}
 use Rattle.lq_pipes.proofs.row_pipes.rows_at.Given as goal
 
 abbrev pub invariant-loop-place : goal.invariant-loop-place
-invariant-loop-place l =
-    map (λ row. record_of row.now) l.kept.items
-    ≡ map (λ place. get_or (map (λ row. record_of row.now) l.rows) place []) (take l.place-index l.places)
+invariant-loop-place g l =
+    map (λ row. record_of (g.R.LentRow.event row)) l.kept.items
+    ≡ map (λ place. get_or (map (λ row. record_of (g.R.LentRow.event row)) l.rows) place []) (take l.place-index l.places)

@@ -7,8 +7,8 @@ use Rattle.lq_pipes.proofs.Rowwise.{rows_sorted}
 use Rattle.lq_pipes.proofs.row_pipes.sorted_rows.Goals as goal
 
 pub returns : goal.returns
-returns c =
-    let records = map (λ row. record_of row.now) c.args.rows.now in
+returns g c =
+    let records = map (λ row. record_of (g.R.LentRow.event row)) c.args.rows.now in
     let names = c.in_ok-projector.ensures ∙ c.in_ok-needs.ensures in
     let made = c.as_slice.ensures ∙ c.in_ok-records.ensures.made ∙ ap (λ n. map (narrowed n) records) names in
     let is = c.as_slice-2.ensures.value ∙ c.in_ok-places.ensures.sorted in

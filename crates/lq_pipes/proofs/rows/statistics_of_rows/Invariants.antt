@@ -6,12 +6,12 @@ use Rattle.lq_stats.specs.Plan.{IsGathered}
 use Rattle.lq_pipes.proofs.rows.statistics_of_rows.Given as goal
 
 abbrev pub invariant-loop-rows : goal.invariant-loop-rows
-invariant-loop-rows l = record {
+invariant-loop-rows g l = record {
   done : List Record;
   taken : IsGathered l.gathered (grouping l.pipe) done;
-  split : records_left l.initial.rows ≡ done ++ records_left l.rows;
-  few : length (records_left l.initial.rows) < 2 ^ 32;
+  split : records_left g.R.LentRow.event l.initial.rows ≡ done ++ records_left g.R.LentRow.event l.rows;
+  few : length (records_left g.R.LentRow.event l.initial.rows) < 2 ^ 32;
 }
 
 abbrev pub decreases-loop-rows : goal.decreases-loop-rows
-decreases-loop-rows l = length (records_left l.rows)
+decreases-loop-rows g l = length (records_left g.R.LentRow.event l.rows)

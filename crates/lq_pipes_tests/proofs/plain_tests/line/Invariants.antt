@@ -1,7 +1,7 @@
 use Rattle.std.proofs.Common.{◌≡◌, ◌++◌, nat_lt, drop, string_bytes}
 use Rattle.log_model.specs.Print.{object_text}
 use Rattle.lq_pipes.proofs.Printed.{rest_text}
-use Rattle.lq_pipes_tests.proofs.plain.line.Given as goal
+use Rattle.lq_pipes_tests.proofs.plain_tests.line.Given as goal
 
 abbrev pub invariant-loop-place : goal.invariant-loop-place
 invariant-loop-place l =
