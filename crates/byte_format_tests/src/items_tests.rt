@@ -1,5 +1,5 @@
 //! What the readers and writers of items answer.
-use crate::padded::Padded;
+use crate::padded_tests::Padded;
 use byte_format::{
     Stop, first_difference, put_i64s, put_text16, put_text32, put_u32s, put_u64s, read_exactly,
     take_i64, take_i64s, take_inside, take_text16, take_text32, take_u8, take_u16, take_u32,

@@ -7,7 +7,7 @@
 #![tactic(auto)]
 
 mod items_tests;
-mod padded;
+mod padded_tests;
 
 use items_tests::answer;
 use std::io;

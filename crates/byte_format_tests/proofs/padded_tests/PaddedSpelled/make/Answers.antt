@@ -1,6 +1,6 @@
 use Rattle.std.proofs.Common.{[], ◌∷◌, refl}
 use Rattle.std.proofs.lemmas.Bool.{le-leb}
-use Rattle.byte_format_tests.proofs.padded.PaddedSpelled.make.Goals as goal
+use Rattle.byte_format_tests.proofs.padded_tests.PaddedSpelled.make.Goals as goal
 
 pub returns-clause-spelled : goal.returns-clause-spelled
 returns-clause-spelled c =
