@@ -1,17 +1,17 @@
 -- What one turn at the shelf does to what a pass has seen.
-use Rattle.std.proofs.Common.{◌≡◌, ◌≢◌, ℕ, ◌+◌, ◌^◌, ◌<◌, ◌≤◌, List, [], ◌∷◌, ◌++◌, length, refl, sym, ap, subst, ◌∙◌, arith}
+use Rattle.std.proofs.Common.{◌≡◌, ◌≢◌, ℕ, ◌+◌, ◌^◌, ◌<◌, ◌≤◌, List, [], ◌∷◌, ◌++◌, length, sym, ap, subst, ◌∙◌, arith}
 use Rattle.std.proofs.Common.{append_assoc, length-append}
-use Rattle.std.specs.Prelude.{IfOk, IsSomeAnd, Option, Some, None, Result, Ok, Err}
+use Rattle.std.specs.Prelude.{IfOk, Option, Some, None, Result, Ok, Err}
 use Rattle.std.proofs.lemmas.Bool.Decides.{nat_tests}
 use Rattle.log_model.specs.Core.{Contents, Stands, after, commit, count_of, held_limit, with_part}
-use Rattle.log_model.specs.History.{AreRowsOf, Entry as Accepted, History, Numbered, entry_rows, rows_in, with_batch}
+use Rattle.log_model.specs.History.{AreRowsOf, Entry as Accepted, History, Numbered, entry_rows, with_batch}
 use Rattle.log_model.specs.Row.{Batch}
 use Rattle.turn_lock.specs.declared.view.Entry.{Entry}
 use Rattle.turn_lock.specs.Entries.{made, maker_of, whats}
 use Rattle.turn_lock.specs.Passes.{Finds, PassState, after_turn, committed}
 use Rattle.turn_lock.proofs.Laws.{length-whats, numbers-found, whats-committed}
 use Rattle.log_core.specs.Entries.{batch_of, newest_in, seen_history, stands_for}
-use Rattle.log_core.specs.Faults.{IsPartRefused, commit_fault}
+use Rattle.log_core.specs.Faults.{IsRefused, commit_fault}
 use Rattle.log_core.specs.declared.entries.EntryRows.{EntryRows}
 use Rattle.log_core.specs.declared.fault.CommitFault.{CommitFault}
 use Rattle.log_core.proofs.EntryLaws.{counted_entries, newest_committed, stands_newest, stands_seen}
@@ -109,30 +109,12 @@ looked (Ok look) held seen is stands =
     subst (λ s. Stands rows s (seen_history seen)) (sym is) (stands_seen rows held seen stands)
 looked (Err fault) held seen is stands = tt
 
--- The rows of a part stay the same, whatever batch number they have.
-pub rows_in_with_batch : (number : ℕ) (part : List Numbered) → rows_in (with_batch number part) ≡ rows_in part
-rows_in_with_batch number [] = refl
-rows_in_with_batch number (row ∷ part) = ap (λ rest. row.row ∷ rest) (rows_in_with_batch number part)
-
--- A part that is handed back has them still.
-pub rows_back : (stands : Option CommitFault) (part back : List Numbered)
-    (refusal : CommitFault × Option (List Numbered)) → IsPartRefused rows stands part refusal → refusal.1 ≡ Some back
-    → rows_in back ≡ rows_in part
-rows_back (Some fault) part back refusal refused is =
-    let given = refused.1 in
-    let same : back ≡ part = cc in
-    ap rows_in same
-rows_back None part back refusal refused is =
-    let kept = subst (λ given. IsSomeAnd given (λ rest. (number : ℕ) × (rest ≡ with_batch number part))) is refused.1 in
-    ap rows_in kept.1 ∙ rows_in_with_batch kept.0 part
-
 -- ---- why a batch is refused
 
-prevented : (stands : Option CommitFault) (part : List Numbered) (refusal : CommitFault × Option (List Numbered))
-    (fault : CommitFault) → fault ≢ commits.Memory → IsPartRefused rows stands part refusal → refusal.0 ≡ fault
-    → stands ≡ Some fault
-prevented (Some found) part refusal fault other refused is = ap (λ f. Some f) (sym refused.0 ∙ is)
-prevented None part refusal fault other refused is = absurd (other (sym is ∙ refused.0))
+prevented : (stands : Option CommitFault) (part back : List Numbered) (fault : CommitFault) → fault ≢ commits.Memory
+    → IsRefused rows stands part fault back → stands ≡ Some fault
+prevented (Some found) part back fault other refused = ap (λ f. Some f) (sym refused.0)
+prevented None part back fault other refused = absurd (other refused.0)
 
 is_full : (held : Contents (List Numbered)) (limit : ℕ) → commit_fault held ≡ Some (commits.Full limit)
     → (length held.unsettled ≡ held_limit) × (limit ≡ held_limit)
@@ -149,17 +131,14 @@ spent_is_no_memory : commits.Spent ≢ commits.Memory
 spent_is_no_memory same = absurd cc
 
 -- So the cause is one that the desk names, where this much was seen.
-pub refuses : (held : Contents (List Numbered)) (part : List Numbered) (fault : CommitFault)
-    (back : Option (List Numbered)) (count mark : ℕ)
-    → IsPartRefused rows (commit_fault held) part (fault, back) → count_of held ≡ count → held.settled ≡ mark
+pub refuses : (held : Contents (List Numbered)) (part back : List Numbered) (fault : CommitFault) (count mark : ℕ)
+    → IsRefused rows (commit_fault held) part fault back → count_of held ≡ count → held.settled ≡ mark
     → Refuses count mark (fault_of fault)
-refuses held part (commits.Full limit) back count mark refused counted settled =
+refuses held part back (commits.Full limit) count mark refused counted settled =
     let full = is_full held limit
-    (prevented (commit_fault held) part (commits.Full limit, back) (commits.Full limit) (full_is_no_memory limit) refused
-    refl) in
+    (prevented (commit_fault held) part back (commits.Full limit) (full_is_no_memory limit) refused) in
     (omega (arith, full.0, counted, settled), full.1)
-refuses held part commits.Spent back count mark refused counted settled =
-    let spent = is_spent held
-    (prevented (commit_fault held) part (commits.Spent, back) commits.Spent spent_is_no_memory refused refl) in
+refuses held part back commits.Spent count mark refused counted settled =
+    let spent = is_spent held (prevented (commit_fault held) part back commits.Spent spent_is_no_memory refused) in
     ((λ full. spent.0 (omega (arith, full, counted, settled))), omega (arith, spent.1, counted))
-refuses held part commits.Memory back count mark refused counted settled = tt
+refuses held part back commits.Memory count mark refused counted settled = tt

@@ -8,18 +8,20 @@ ghost use Rattle.log_desk.specs.Faults.{HasRoom};
 
 use crate::fault::InsertFault;
 use crate::pass::Pass;
+use crate::prepared::PreparedBatch;
 use log_core::{Shelf, Snapshot};
+use part_file::Part;
 use std::alloc::{AllocError, Global};
 use std::marker::Model;
 use std::sync::Wait;
 use turn_lock::{SplitFault, TurnLock};
-use vl_row::{Batch, RowList};
+use vl_row::Batch;
 
 /// The state that all callers share. `insert`, `look` and `status` take one turn each; an insert that runs out of
 /// memory, one at most.
 #[derive(Drop)]
 pub struct Desk {
-    lock: TurnLock<Shelf<RowList>>,
+    lock: TurnLock<Shelf<Part>>,
 }
 
 impl Model for Desk {
@@ -109,30 +111,51 @@ impl Desk {
         ensures complete { HasRoom (length pass.new.seen) pass.new.mark
             → IfErr result (λ refusal. refusal.0 ≡ InsertFault.Memory) }
     {
-        let part = RowList::from(batch);
+        match PreparedBatch::of(alloc, batch) {
+            Ok(prepared) => self.insert_prepared(rt, alloc, pass, prepared),
+            Err(batch) => Err((InsertFault::Memory, batch)),
+        }
+    }
+
+    /// Does what [`insert`](Desk::insert) does, for a batch whose part was made before.
+    pub fn insert_prepared<R: Wait>(
+        &self,
+        rt: &R,
+        alloc: Global,
+        pass: &mut Pass,
+        prepared: PreparedBatch,
+    ) -> Result<u64, (InsertFault, Batch)>
+        requires { IsPassOf self.now pass.old }
+        ensures pass { IsPassOf self.now pass.new }
+        ensures inserted { IfOk result (λ number. Inserted prepared number pass.old pass.new) }
+        ensures refused { IfErr result (λ refusal. IsRefused self.now refusal.0 pass.old pass.new) }
+        ensures returned { IfErr result (λ refusal. refusal.1 ≡ prepared) }
+        ensures complete { HasRoom (length pass.new.seen) pass.new.mark
+            → IfErr result (λ refusal. refusal.0 ≡ InsertFault.Memory) }
+    {
+        let PreparedBatch { batch, part } = prepared;
         let mut turn = self.lock.enter(rt, &mut pass.at_lock);
         let shelf = turn.value();
         pass.front = shelf.count();
         pass.settled = shelf.settled();
-        match shelf.commit(alloc, part) {
+        match shelf.commit_shared(alloc, part) {
             Ok(number) => {
                 turn.commit();
                 turn.leave();
                 pass.front = number;
                 Ok(number)
             }
-            Err((fault, part)) => {
+            // The part is dropped after the turn.
+            Err((fault, _part)) => {
                 turn.leave();
-                let Some(part) = part else { unreachable!() };
-                // The rows are moved back, not copied.
-                Err((InsertFault::from(fault), part.into_batch()))
+                Err((InsertFault::from(fault), batch))
             }
         }
     }
 
     /// Returns what the desk holds, in one turn: all batches of the history that the pass has then seen. Where memory
     /// runs out, the turn was taken all the same.
-    pub fn look<R: Wait>(&self, rt: &R, pass: &mut Pass) -> Result<Snapshot<RowList>, AllocError>
+    pub fn look<R: Wait>(&self, rt: &R, pass: &mut Pass) -> Result<Snapshot<Part>, AllocError>
         requires { IsPassOf self.now pass.old }
         ensures pass { IsPassOf self.now pass.new }
         ensures looked { Looked self.now pass.old pass.new }

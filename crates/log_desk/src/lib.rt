@@ -5,9 +5,11 @@ mod desk;
 mod fault;
 mod law;
 mod pass;
+mod prepared;
 
 pub use desk::Desk;
 pub use fault::InsertFault;
 pub use law::one_caller_law;
 pub use pass::Pass;
+pub use prepared::PreparedBatch;
 pub use turn_lock::SplitFault;

@@ -2,8 +2,8 @@
 ghost use Rattle.std.specs.Prelude.{◌≡◌, length};
 
 use log_core::Shelf;
+use part_file::Part;
 use std::marker::Model;
-use vl_row::RowList;
 
 /// The token of one caller of a desk.
 ///
@@ -11,7 +11,7 @@ use vl_row::RowList;
 /// many of them were settled. The program sees how long that front is, and how much of it was settled.
 #[derive(Drop)]
 pub struct Pass {
-    pub(crate) at_lock: turn_lock::Pass<Shelf<RowList>>,
+    pub(crate) at_lock: turn_lock::Pass<Shelf<Part>>,
     pub(crate) front: u64,
     pub(crate) settled: u64,
 }

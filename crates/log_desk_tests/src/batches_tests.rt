@@ -1,11 +1,18 @@
 //! Batches whose rows have a message only, and what a look has of them.
 ghost use Rattle.turn_lock.specs.Passes.{IsPassOf};
 
+use column_block::{Open, OpenRow, Steps};
+use lent_row::{LentRow, Value};
 use log_core::Snapshot;
 use log_desk::{Desk, Pass};
+use part_file::Part;
 use std::alloc::{AllocError, Global};
 use std::sync::Wait;
-use vl_row::{Batch, FieldList, Held, Row, RowList};
+use vl_row::{Batch, FieldList, Held, Row};
+
+/// Tells the steps of these tests from others.
+#[derive(Drop)]
+struct Tested;
 
 /// Returns a row with this message.
 fn row_of(alloc: Global, message: &str) -> Result<Option<Row>, AllocError> {
@@ -53,7 +60,7 @@ pub(crate) fn are_rows_of(rows: &[Row], lines: &str) -> bool {
 }
 
 /// Returns how many rows a look has, whatever their messages.
-pub(crate) fn row_count(look: &Snapshot<RowList>) -> u64 {
+pub(crate) fn row_count(look: &Snapshot<Part>) -> u64 {
     let mut count: u64 = 0;
     for i in 0..look.len() {
         count = count.saturating_add(look.part(i).rows());
@@ -62,14 +69,38 @@ pub(crate) fn row_count(look: &Snapshot<RowList>) -> u64 {
 }
 
 /// Returns how many rows of a look have this message.
-pub(crate) fn rows_of(look: &Snapshot<RowList>, message: &str) -> u64 {
+pub(crate) fn rows_of(look: &Snapshot<Part>, message: &str) -> u64 {
     let mut found: u64 = 0;
     for i in 0..look.len() {
-        for row in look.part(i).as_slice() {
-            if row.value("_msg") == message {
-                found = found.saturating_add(1);
-            }
+        found = found.saturating_add(rows_with(look.part(i), message));
+    }
+    found
+}
+
+/// Returns how many rows of a part have this message.
+pub(crate) fn rows_with(part: &Part, message: &str) -> u64 {
+    let mut steps: Steps<Tested> = Steps::new();
+    let mut found: u64 = 0;
+    for block in part.blocks() {
+        let open = block.open(&mut steps);
+        found = found.saturating_add(opened_with(&open, message));
+    }
+    found
+}
+
+fn opened_with(open: &Open<'_>, message: &str) -> u64 {
+    let mut found: u64 = 0;
+    for i in 0..open.len() {
+        if has_message(&open.lent(i), message) {
+            found = found.saturating_add(1);
         }
     }
     found
+}
+
+fn has_message(row: &OpenRow<'_>, message: &str) -> bool {
+    match row.value("_msg") {
+        Value::Str(text) => text == message,
+        Value::Int(number) => message.parse::<i64>().ok() == Some(number),
+    }
 }

@@ -5,13 +5,15 @@ ghost use Rattle.log_model.specs.History.{AreBatch};
 ghost use Rattle.log_model.specs.Core.{AreFront};
 ghost use Rattle.log_core.specs.Shared.{shared_parts};
 
+use crate::batches_tests::rows_with;
 use log_core::{CommitFault, Shelf, Snapshot, SwapFault};
+use part_file::Part;
 use std::alloc::{AllocError, Global};
 use std::sync::Arc;
-use vl_row::{Batch, FieldList, Held, Row, RowList};
+use vl_row::{Batch, FieldList, Held, Row};
 
 /// Returns a part of one row, whose message is this number.
-pub(crate) fn part_of(alloc: Global, number: u64) -> Result<Option<RowList>, AllocError>
+pub(crate) fn part_of(alloc: Global, number: u64) -> Result<Option<Part>, AllocError>
     ensures { IfOk result (λ part. IfSome part AreBatch) }
 {
     let message = format!(in alloc; "{number}")?;
@@ -23,7 +25,7 @@ pub(crate) fn part_of(alloc: Global, number: u64) -> Result<Option<RowList>, All
     let mut rows = Vec::new(alloc);
     rows.push(row)?;
     match Batch::try_of(rows) {
-        Ok(batch) => Ok(Some(RowList::of_batch(alloc, &batch)?)),
+        Ok(batch) => Ok(Some(Part::of_batch(alloc, &batch)?)),
         Err(_) => Ok(None),
     }
 }
@@ -31,7 +33,7 @@ pub(crate) fn part_of(alloc: Global, number: u64) -> Result<Option<RowList>, All
 /// Commits one more batch by either call, and returns its number, or `None` where it is refused.
 pub(crate) fn commit_one(
     alloc: Global,
-    shelf: &mut Shelf<RowList>,
+    shelf: &mut Shelf<Part>,
     in_box: bool,
 ) -> Result<Option<u64>, AllocError> {
     let number = shelf.count().saturating_add(1);
@@ -47,11 +49,7 @@ pub(crate) fn commit_one(
 }
 
 /// Commits batches until there are this many, and returns whether they got their numbers in turn.
-pub(crate) fn fill(
-    alloc: Global,
-    shelf: &mut Shelf<RowList>,
-    count: u64,
-) -> Result<bool, AllocError> {
+pub(crate) fn fill(alloc: Global, shelf: &mut Shelf<Part>, count: u64) -> Result<bool, AllocError> {
     let mut in_turn = true;
     for number in shelf.count()..count {
         let found = commit_one(alloc, shelf, number % 2 == 0)?;
@@ -63,7 +61,7 @@ pub(crate) fn fill(
 /// Returns whether a look holds this many batches, each as the part at its place.
 pub(crate) fn holds(
     alloc: Global,
-    look: &Snapshot<RowList>,
+    look: &Snapshot<Part>,
     count: u64,
     settled: u64,
 ) -> Result<bool, AllocError> {
@@ -74,12 +72,7 @@ pub(crate) fn holds(
     for place in 0..look.len() {
         let number = format!(in alloc; "{}", (place as u64).saturating_add(1))?;
         let part = look.part(place);
-        same = same
-            && part.rows() == 1
-            && part
-                .as_slice()
-                .iter()
-                .all(|row| row.value("_msg") == number.as_str());
+        same = same && part.rows() == 1 && rows_with(part, number.as_str()) == 1;
     }
     Ok(same)
 }
@@ -87,9 +80,9 @@ pub(crate) fn holds(
 /// Returns the first parts of a look.
 fn first_parts(
     alloc: Global,
-    look: &Snapshot<RowList>,
+    look: &Snapshot<Part>,
     count: usize,
-) -> Result<Vec<Arc<RowList>>, AllocError>
+) -> Result<Vec<Arc<Part>>, AllocError>
     requires { count ≤ length (parts_of look.now) }
     ensures { IfOk result (λ parts. shared_parts parts.items ≡ take count (parts_of look.now)) }
 {
@@ -103,9 +96,9 @@ fn first_parts(
 /// Returns the parts of the first `front` batches, or `None` where there are fewer batches or more are settled.
 fn front_parts(
     alloc: Global,
-    shelf: &Shelf<RowList>,
+    shelf: &Shelf<Part>,
     front: u64,
-) -> Result<Option<Vec<Arc<RowList>>>, AllocError>
+) -> Result<Option<Vec<Arc<Part>>>, AllocError>
     ensures { IfOk result (λ days. IfSome days (λ list.
         AreFront (λ rows. rows) shelf.now front (shared_parts list.items))) }
 {
@@ -130,7 +123,7 @@ fn front_parts(
 /// Swaps these parts in as day parts, or returns `None` where there are fewer batches or more are settled.
 pub(crate) fn settle(
     alloc: Global,
-    shelf: &mut Shelf<RowList>,
+    shelf: &mut Shelf<Part>,
     front: u64,
 ) -> Result<Option<Result<(), SwapFault>>, AllocError> {
     match front_parts(alloc, shelf, front)? {
@@ -140,13 +133,13 @@ pub(crate) fn settle(
 }
 
 /// Swaps in no day parts for the first 0 batches.
-pub(crate) fn settle_none(alloc: Global, shelf: &mut Shelf<RowList>) -> Result<(), SwapFault> {
+pub(crate) fn settle_none(alloc: Global, shelf: &mut Shelf<Part>) -> Result<(), SwapFault> {
     let _count = shelf.count();
     shelf.swap(alloc, 0, Vec::new(alloc))
 }
 
 /// Returns whether one more batch is refused as the 4,097th that waits, by either call, and comes back.
-pub(crate) fn is_full(alloc: Global, shelf: &mut Shelf<RowList>) -> Result<bool, AllocError> {
+pub(crate) fn is_full(alloc: Global, shelf: &mut Shelf<Part>) -> Result<bool, AllocError> {
     let Some(part) = part_of(alloc, 7)? else {
         return Ok(false);
     };
@@ -164,15 +157,12 @@ pub(crate) fn is_full(alloc: Global, shelf: &mut Shelf<RowList>) -> Result<bool,
         in_turn
             && fault == CommitFault::Full { held: 4_096 }
             && part.weight() == 5
-            && part.as_slice().iter().all(|row| row.value("_msg") == "7"),
+            && rows_with(&part, "7") == 1,
     )
 }
 
 /// Returns whether a part whose box someone else has is refused.
-pub(crate) fn refuses_shared(
-    alloc: Global,
-    shelf: &mut Shelf<RowList>,
-) -> Result<bool, AllocError> {
+pub(crate) fn refuses_shared(alloc: Global, shelf: &mut Shelf<Part>) -> Result<bool, AllocError> {
     let Some(part) = part_of(alloc, 7)? else {
         return Ok(false);
     };
