@@ -12,5 +12,5 @@ pub use Rattle.vl_session.specs.QueryFault
 pub use Rattle.vl_session.specs.Question
 pub use Rattle.vl_session.specs.Records
 pub use Rattle.vl_session.specs.QueryRefusal
-pub use Rattle.vl_session.specs.RunFault
+pub use Rattle.vl_session.specs.SearchFault
 pub use Rattle.vl_session.specs.declared.insert.InsertionFault

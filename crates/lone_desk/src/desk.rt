@@ -19,7 +19,7 @@ use std::random::RandomSource;
 use std::sync::Wait;
 use vl_row::Batch;
 use vl_session::{
-    Access, Answer, AnswerFault, Insertion, InsertionFault, RunFault, Search, answer_query,
+    Access, Answer, AnswerFault, Insertion, InsertionFault, Search, SearchFault, answer_query,
     insert_lines,
 };
 
@@ -119,7 +119,7 @@ impl<R: Wait + RandomSource> LoneDesk<'_, R> {
     }
 
     /// Answers a prepared query over all batches, at the moment `now`.
-    pub fn answer(&mut self, search: &Search, now: i64) -> Result<Answer, RunFault>
+    pub fn answer(&mut self, search: &Search, now: i64) -> Result<Answer, SearchFault>
         ensures answered { IfOk result (IsSearchAnswer (question search.now) now self.old.history) }
         ensures refused { IfErr result (FailsOver (question search.now) now (rows_of self.old.history)) }
         ensures same { self.new.history ≡ self.old.history }

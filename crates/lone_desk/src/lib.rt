@@ -5,5 +5,5 @@ mod desk;
 
 pub use desk::LoneDesk;
 pub use vl_session::{
-    Answer, AnswerFault, Insertion, InsertionFault, QueryRefusal, RunFault, Search, read_query,
+    Answer, AnswerFault, Insertion, InsertionFault, QueryRefusal, Search, SearchFault, read_query,
 };

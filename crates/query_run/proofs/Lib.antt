@@ -1,5 +1,3 @@
 pub mod AnswerLemmas
-pub mod OrderLaws
-pub mod PlaceOrder
+pub mod Opening
 pub mod QueryLemmas
-pub mod Rising

@@ -1,6 +1,6 @@
 pub mod Answer
 pub mod Asked
-pub mod Order
+pub mod Opened
 pub use Rattle.lq_ast.specs.Evaluation
 pub use Rattle.lq_parse.specs.Faults
 pub use Rattle.lq_ast.specs.Patterns

@@ -1,61 +1,56 @@
 //! The answer to a query over what the shelf held.
-ghost use Rattle.std.specs.Prelude.{◌≡◌, ◌<◌, ◌++◌, OnOk, IfErr, IfOk, Ok, flat_map, length, map};
-ghost use Rattle.std.specs.List.{All, AllByRecursion};
+ghost use Rattle.std.specs.Prelude.{◌≡◌, ◌<◌, IfErr, IfOk, Ok, OnOk, flat_map, length, map};
+ghost use Rattle.std.specs.List.{AllByRecursion};
 ghost use Rattle.log_model.specs.Core.{Stands, parts_of};
 ghost use Rattle.log_model.specs.History.{History, rows_of};
 ghost use Rattle.log_model.specs.Print.{lines_text};
 ghost use Rattle.log_model.specs.Row.{record_of};
-ghost use Rattle.lq_ast.specs.Evaluation.{row_limit, rows_that_hold};
+ghost use Rattle.lq_ast.specs.Evaluation.{evaluate, records, row_limit};
 ghost use Rattle.lq_ast.specs.Patterns.{CanBeRead, patterns_of_stage};
 ghost use Rattle.lq_ast.specs.PipeView.{stage};
 ghost use Rattle.lq_ast.specs.Pipes.{all_piped};
 ghost use Rattle.lq_ast.specs.Question.{question};
-ghost use Rattle.lq_filter.specs.Tree.{condition_of, moment_of, scanned};
-ghost use Rattle.query_run.specs.Answer.{FailsFor, FailsOver, FailsPiped, IsAnswerOver, PrintsPiped, held_in};
-ghost use Rattle.query_run.specs.Order.{IsPlaced, part_at};
+ghost use Rattle.query_run.specs.Answer.{FailsOver, FailsPiped, FailsQuery, IsAnswerOver, PrintsPiped};
+ghost use Rattle.query_run.specs.Opened.{Counts, block_count};
 
-use crate::order::{Place, places_in_order, rows_at};
+use crate::fault::{RunFault, SearchFault};
+use crate::matched::rows_matched;
 use crate::search::Search;
+use column_block::{OpenRow, Steps};
 use log_core::Snapshot;
-use lq_ast::Pipe;
-use lq_filter::{Prepared, Scan};
+use lq_ast::{Pipe, Query};
+use lq_filter::prepare;
 use lq_pipes::{PipeFault, Printer, apply_rows, lines};
 use lq_tuple::HashSeed;
-use std::alloc::{AllocError, AllocFailed, Global};
-use vl_row::{Recs, Row, RowList, Text};
+use part_file::Part;
+use std::alloc::{AllocError, AllocGlobal, Global};
+use std::random::RandomSource;
+use vl_row::{Recs, Text};
 
-/// How many rows are too many for an answer, if they hold.
-const ROW_LIMIT: usize = 4_294_967_296;
-
-/// Why the answer is missing.
+/// Tells the steps of an answer from others.
 #[derive(Drop)]
-pub enum RunFault {
-    /// 2^32 rows hold, or more.
-    ManyRows,
-    /// The total of the function of `stats` with this name is not a 64-bit integer.
-    Overflow { name: Text },
-    /// Memory ran out.
-    Memory,
-}
+struct Answered;
 
-impl From<AllocError> for RunFault {
-    ghost use Rattle.query_run.specs.declared.evaluation.RunFault.TheVariants.{Memory};
-
-    ghost from_gives = { λ _ fault. fault ≡ Memory };
-
-    fn from(_: AllocError) -> RunFault {
-        RunFault::Memory
-    }
-}
-
-impl<T: Drop> From<AllocFailed<T>> for RunFault {
-    ghost use Rattle.query_run.specs.declared.evaluation.RunFault.TheVariants.{Memory};
-
-    ghost from_gives = { λ _ fault. fault ≡ Memory };
-
-    fn from(_: AllocFailed<T>) -> RunFault {
-        RunFault::Memory
-    }
+/// Returns the records that a query finds at the moment `now`, in nanoseconds since 1970, over what a look has. All
+/// blocks are opened, each as one step of the counter. Hashes with a random seed.
+pub fn run_query<R: AllocGlobal + RandomSource, L>(
+    rt: &R,
+    snapshot: &Snapshot<Part>,
+    query: &Query,
+    now: i64,
+    steps: &mut Steps<L>,
+) -> Result<Recs, RunFault>
+    ensures found { IfOk result (λ found. (history : History) → Stands (λ rows. rows) snapshot.now history
+        → evaluate (question query.now) now (rows_of history) ≡ records found) }
+    ensures fault { IfErr result (λ fault. (history : History) → Stands (λ rows. rows) snapshot.now history
+        → FailsQuery (question query.now) now (rows_of history) fault) }
+    ensures steps { OnOk result (Counts steps.old (block_count (parts_of snapshot.now)) steps.new) }
+{
+    let alloc = rt.alloc();
+    let filter = prepare(alloc, query)?;
+    let rows = rows_matched(alloc, &filter, now, snapshot, steps)?;
+    let lent = lent_rows(alloc, rows.as_slice())?;
+    Ok(made_of(alloc, HashSeed::random(rt), query.pipes.as_slice(), lent)?)
 }
 
 /// Returns the answer to the query at the moment `now`, in nanoseconds since 1970: the lines of the records that its
@@ -65,65 +60,31 @@ pub fn answer(
     seed: HashSeed,
     search: &Search,
     now: i64,
-    snapshot: &Snapshot<RowList>,
-) -> Result<Text, RunFault>
+    snapshot: &Snapshot<Part>,
+) -> Result<Text, SearchFault>
     ensures answered { IfOk result (λ text. (history : History) → Stands (λ rows. rows) snapshot.now history
         → IsAnswerOver (question search.now) now (rows_of history) text) }
     ensures fault { IfErr result (λ fault. (history : History) → Stands (λ rows. rows) snapshot.now history
         → FailsOver (question search.now) now (rows_of history) fault) }
 {
-    let places = places_in_order(alloc, snapshot)?;
-    let rows = held_rows(alloc, search.filter(), now, snapshot, places.as_slice())?;
-    piped_lines(alloc, seed, search.query().pipes.as_slice(), rows)
+    let mut steps: Steps<Answered> = Steps::new();
+    let rows = rows_matched(alloc, search.filter(), now, snapshot, &mut steps)?;
+    let lent = lent_rows(alloc, rows.as_slice())?;
+    piped_lines(alloc, seed, search.query().pipes.as_slice(), lent)
 }
 
-/// Returns the rows that hold at the moment `now`, over the parts at these places, one after another.
-fn held_rows<'s>(
+/// Returns the rows as they are lent to pipes.
+fn lent_rows<'r, 's>(
     alloc: Global,
-    filter: &Prepared,
-    now: i64,
-    snapshot: &'s Snapshot<RowList>,
-    places: &[Place],
-) -> Result<Vec<&'s Row>, RunFault>
-    requires { All (IsPlaced (parts_of snapshot.now)) places.now }
-    ensures rows { IfOk result (λ rows. map (λ row. row.now) rows.items
-        ≡ held_in (condition_of filter.now) now (map (part_at (parts_of snapshot.now)) places.now)) }
-    ensures few { IfOk result (λ rows. length rows.items < row_limit) }
-    ensures fault { IfErr result (FailsFor
-        (held_in (condition_of filter.now) now (map (part_at (parts_of snapshot.now)) places.now))) }
+    rows: &'r [OpenRow<'s>],
+) -> Result<Vec<&'r OpenRow<'s>>, AllocError>
+    ensures { IfOk result (λ lent. map (λ row. row.now) lent.items ≡ rows.now) }
 {
-    let mut scan = filter.scan(alloc, now);
-    let mut held = Vec::new(alloc);
-    for i in 0..places.len() {
-        push_rows(&mut scan, rows_at(snapshot, &places[i]), &mut held)?;
-    }
-    Ok(held)
-}
-
-/// Appends those rows that hold, in their order.
-fn push_rows<'s>(
-    scan: &mut Scan<'_>,
-    rows: &'s [Row],
-    held: &mut Vec<&'s Row>,
-) -> Result<(), RunFault>
-    requires { length held.old.items < row_limit }
-    ensures pushed { OnOk result (map (λ row. row.now) held.new.items ≡ map (λ row. row.now) held.old.items
-        ++ rows_that_hold (scanned scan.old) (moment_of scan.old) rows.now) }
-    ensures few { length held.new.items < row_limit }
-    ensures fault { IfErr result (FailsFor (map (λ row. row.now) held.old.items
-        ++ rows_that_hold (scanned scan.old) (moment_of scan.old) rows.now)) }
-    ensures filter { scanned scan.new ≡ scanned scan.old }
-    ensures moment { moment_of scan.new ≡ moment_of scan.old }
-{
+    let mut lent = Vec::with_capacity(alloc, rows.len())?;
     for row in rows {
-        if scan.holds(row)? {
-            if held.len() + 1 == ROW_LIMIT {
-                return Err(RunFault::ManyRows);
-            }
-            held.push(row)?;
-        }
+        lent.push(row)?;
     }
-    Ok(())
+    Ok(lent)
 }
 
 /// Returns the lines of what the pipes make of the records of these rows.
@@ -131,12 +92,14 @@ fn piped_lines(
     alloc: Global,
     seed: HashSeed,
     pipes: &[Pipe],
-    rows: Vec<&Row>,
-) -> Result<Text, RunFault>
+    rows: Vec<&OpenRow<'_>>,
+) -> Result<Text, SearchFault>
     requires few { length rows.items < row_limit }
     requires readable { AllByRecursion CanBeRead (flat_map patterns_of_stage (map stage pipes.now)) }
-    ensures made { IfOk result (PrintsPiped (map stage pipes.now) (map (λ row. record_of row.now) rows.entry.items)) }
-    ensures fault { IfErr result (FailsPiped (map stage pipes.now) (map (λ row. record_of row.now) rows.entry.items)) }
+    ensures made { IfOk result
+        (PrintsPiped (map stage pipes.now) (map (λ row. record_of row.now.numbered.row) rows.entry.items)) }
+    ensures fault { IfErr result
+        (FailsPiped (map stage pipes.now) (map (λ row. record_of row.now.numbered.row) rows.entry.items)) }
 {
     if pipes.is_empty() {
         return Ok(lines_of(alloc, rows.as_slice())?);
@@ -148,29 +111,35 @@ fn piped_lines(
 }
 
 /// Returns the lines of the records of these rows, which are printed without being made.
-fn lines_of(alloc: Global, rows: &[&Row]) -> Result<Text, AllocError>
-    ensures { IfOk result (λ text. text ≡ lines_text (map (λ row. record_of row.now) rows.now)) }
+fn lines_of(alloc: Global, rows: &[&OpenRow<'_>]) -> Result<Text, AllocError>
+    ensures { IfOk result (λ text. text ≡ lines_text (map (λ row. record_of row.now.numbered.row) rows.now)) }
 {
     let mut printer = Printer::new(alloc)?;
     let mut text = Text::new();
     for row in rows {
-        printer.write_row(alloc, row, &mut text)?;
+        printer.write_row(alloc, *row, &mut text)?;
     }
     Ok(text)
 }
 
 /// Returns what the pipes make of the records of these rows.
-fn made_of(alloc: Global, seed: HashSeed, pipes: &[Pipe], rows: Vec<&Row>) -> Result<Recs, RunFault>
+fn made_of(
+    alloc: Global,
+    seed: HashSeed,
+    pipes: &[Pipe],
+    rows: Vec<&OpenRow<'_>>,
+) -> Result<Recs, SearchFault>
     requires few { length rows.items < row_limit }
     requires readable { AllByRecursion CanBeRead (flat_map patterns_of_stage (map stage pipes.now)) }
     ensures made { IfOk result (λ made.
-        all_piped (map stage pipes.now) (map (λ row. record_of row.now) rows.entry.items) ≡ Ok made) }
-    ensures fault { IfErr result (FailsPiped (map stage pipes.now) (map (λ row. record_of row.now) rows.entry.items)) }
+        all_piped (map stage pipes.now) (map (λ row. record_of row.now.numbered.row) rows.entry.items) ≡ Ok made) }
+    ensures fault { IfErr result
+        (FailsPiped (map stage pipes.now) (map (λ row. record_of row.now.numbered.row) rows.entry.items)) }
 {
     match apply_rows(alloc, seed, pipes, rows) {
         Ok(made) => Ok(made),
         Err(PipeFault::RegexRefused { .. }) => unreachable!(),
-        Err(PipeFault::Overflow { name }) => Err(RunFault::Overflow { name }),
-        Err(PipeFault::Memory) => Err(RunFault::Memory),
+        Err(PipeFault::Overflow { name }) => Err(SearchFault::Overflow { name }),
+        Err(PipeFault::Memory) => Err(SearchFault::Memory),
     }
 }

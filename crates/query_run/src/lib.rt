@@ -1,12 +1,15 @@
-//! Prepared queries, and their answers over a snapshot of the shelf.
+//! Prepared queries, and their answers over a look at the shelf.
 #![tactic(auto)]
 
 mod evaluation;
-mod order;
+mod fault;
+mod matched;
+mod opened;
 mod query;
 mod search;
 
-pub use evaluation::{RunFault, answer};
+pub use evaluation::{answer, run_query};
+pub use fault::{RunFault, SearchFault};
 pub use lq_parse::{QueryFault, query_law};
 pub use lq_tuple::HashSeed;
 pub use query::{QueryRefusal, read_query};

@@ -1,7 +1,7 @@
 -- Why a run ends before all is done, as the program keeps it.
 use Rattle.vl_pipe.specs.Program as model
-use Rattle.lone_desk.specs.RunFault.{RunFault}
-use Rattle.lone_desk.specs.RunFault.TheVariants as running
+use Rattle.lone_desk.specs.SearchFault.{SearchFault}
+use Rattle.lone_desk.specs.SearchFault.TheVariants as running
 use Rattle.vl_io.specs.declared.transfer.ReadFault.{ReadFault}
 use Rattle.vl_io.specs.declared.transfer.ReadFault.TheVariants as faults
 use Rattle.vl_pipe.specs.declared.interrupt.Overflow.{Overflow}
@@ -27,7 +27,7 @@ interrupt_at faults.Long = Beyond Long
 interrupt_at faults.Memory = NoMemory
 
 -- what a fault of the evaluation means for the run
-abbrev pub interrupt_of : RunFault → Interrupt
+abbrev pub interrupt_of : SearchFault → Interrupt
 interrupt_of running.ManyRows = NoAnswer ManyRows
 interrupt_of (running.Overflow name) = NoAnswer (Total name)
 interrupt_of running.Memory = NoMemory

@@ -6,8 +6,8 @@ use Rattle.vl_io.specs.Lines.{AreFewer, AreLines, piece_len}
 use Rattle.log_model.specs.Core.{held_limit}
 use Rattle.log_model.specs.Row.{Batch, batch_limit, batch_weight}
 use Rattle.lone_desk.specs.Answer.{FailsOver, IsAnswerOver}
-use Rattle.lone_desk.specs.RunFault.{RunFault}
-use Rattle.lone_desk.specs.RunFault.TheVariants as running
+use Rattle.lone_desk.specs.SearchFault.{SearchFault}
+use Rattle.lone_desk.specs.SearchFault.TheVariants as running
 use Rattle.lone_desk.specs.Question.{Question}
 use Rattle.lone_desk.specs.Faults.{fault_text}
 use Rattle.lone_desk.specs.QueryFault.{QueryFault}
@@ -43,7 +43,7 @@ pub data Overflow : Type 0 where
   -- the total of the function of `stats` with this name is not a 64-bit integer
   total : List ℕ → Overflow
 
-abbrev pub fault_of : Overflow → RunFault
+abbrev pub fault_of : Overflow → SearchFault
 fault_of many_rows = running.ManyRows
 fault_of (total name) = running.Overflow name
 

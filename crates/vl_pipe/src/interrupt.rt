@@ -1,7 +1,7 @@
 ghost use Rattle.std.specs.Prelude.{◌≡◌, ◌++◌, ◌∷◌, [], IfOk, string_bytes};
 ghost use Rattle.vl_pipe.specs.Program.{limit_text, overflow_text, said_of_query};
 
-use lone_desk::RunFault;
+use lone_desk::SearchFault;
 use std::alloc::{AllocError, Global};
 use vl_io::ReadFault;
 use vl_row::Text;
@@ -97,16 +97,16 @@ impl From<ReadFault> for Interrupt {
     }
 }
 
-impl From<RunFault> for Interrupt {
+impl From<SearchFault> for Interrupt {
     ghost use Rattle.vl_pipe.specs.Interrupt.{interrupt_of};
 
     ghost from_gives = { λ fault interrupt. interrupt ≡ interrupt_of fault };
 
-    fn from(fault: RunFault) -> Interrupt {
+    fn from(fault: SearchFault) -> Interrupt {
         match fault {
-            RunFault::ManyRows => Interrupt::NoAnswer(Overflow::ManyRows),
-            RunFault::Overflow { name } => Interrupt::NoAnswer(Overflow::Total(name)),
-            RunFault::Memory => Interrupt::NoMemory,
+            SearchFault::ManyRows => Interrupt::NoAnswer(Overflow::ManyRows),
+            SearchFault::Overflow { name } => Interrupt::NoAnswer(Overflow::Total(name)),
+            SearchFault::Memory => Interrupt::NoMemory,
         }
     }
 }

@@ -2,8 +2,8 @@
 use Rattle.std.proofs.Common.{refl, subst, sym}
 use Rattle.std.specs.Prelude.{OnErr, Result, Ok, Err}
 use Rattle.log_desk.specs.Seen.{Caller, Follows, Seen}
-use Rattle.query_run.specs.declared.evaluation.RunFault.{RunFault}
-use Rattle.query_run.specs.declared.evaluation.RunFault.TheVariants.{ManyRows, Overflow, Memory}
+use Rattle.query_run.specs.declared.fault.SearchFault.{SearchFault}
+use Rattle.query_run.specs.declared.fault.SearchFault.TheVariants.{ManyRows, Overflow, Memory}
 use Rattle.query_run.specs.declared.query.QueryRefusal.{QueryRefusal}
 use Rattle.query_run.specs.declared.query.QueryRefusal.TheVariants as refusals
 use Rattle.vl_session.specs.Answer.{fault_effect, fault_of_refusal, fault_of_run}
@@ -20,7 +20,7 @@ unasked_has caller seen (refusals.Pattern nth) = refl
 unasked_has caller seen refusals.Memory = follows_none caller seen
 
 -- an evaluation that fails
-pub failed_has : (caller : Caller) (old new : Seen) (fault : RunFault) → Looks caller old new
+pub failed_has : (caller : Caller) (old new : Seen) (fault : SearchFault) → Looks caller old new
     → Has caller old new (fault_effect (fault_of_run fault))
 failed_has caller old new ManyRows looks = looks
 failed_has caller old new (Overflow name) looks = looks

@@ -11,8 +11,8 @@ use Rattle.query_run.specs.Query.{IsQueryText}
 use Rattle.query_run.specs.QueryFault.TheVariants as spelling
 use Rattle.query_run.specs.Answer.{FailsOver}
 use Rattle.query_run.specs.Asked.{ForReadableQuery, Refuses}
-use Rattle.query_run.specs.declared.evaluation.RunFault.{RunFault}
-use Rattle.query_run.specs.declared.evaluation.RunFault.TheVariants.{ManyRows, Overflow, Memory}
+use Rattle.query_run.specs.declared.fault.SearchFault.{SearchFault}
+use Rattle.query_run.specs.declared.fault.SearchFault.TheVariants.{ManyRows, Overflow, Memory}
 use Rattle.query_run.specs.declared.query.QueryRefusal.{QueryRefusal}
 use Rattle.query_run.specs.declared.query.QueryRefusal.TheVariants as refusals
 use Rattle.vl_session.specs.Answer.{FailsQuery, IsQueryAnswer, IsSearchAnswer}
@@ -64,7 +64,7 @@ refused_as text now history refusal fault is refuses lasting =
     subst (FailsQuery text now history) (sym is) (refused_text text now history refusal refuses lasting)
 
 -- why a query has no answer
-failed_run : (text : List ℕ) (now : ℤ) (query : Question) (history : History) (fault : RunFault) → pos 0 ≤ℤ now
+failed_run : (text : List ℕ) (now : ℤ) (query : Question) (history : History) (fault : SearchFault) → pos 0 ≤ℤ now
     → IsQueryText text query → AllByRecursion CanBeRead (all_patterns query)
     → FailsOver query now (rows_of history) fault → FailsQuery text (unsigned_abs now) history (fault_of_run fault)
 failed_run text now query history ManyRows from spelled readable fails =
@@ -73,7 +73,7 @@ failed_run text now query history (Overflow name) from spelled readable fails =
     asks text now query (λ query now. FailsOver query now (rows_of history) (Overflow name)) from spelled readable fails
 failed_run text now query history Memory from spelled readable fails = tt
 
-pub failed_as : (text : List ℕ) (now : ℤ) (query : Question) (history : History) (run : RunFault) (fault : AnswerFault)
+pub failed_as : (text : List ℕ) (now : ℤ) (query : Question) (history : History) (run : SearchFault) (fault : AnswerFault)
     → fault ≡ fault_of_run run → pos 0 ≤ℤ now → IsQueryText text query → AllByRecursion CanBeRead (all_patterns query)
     → FailsOver query now (rows_of history) run → FailsQuery text (unsigned_abs now) history fault
 failed_as text now query history run fault is from spelled readable fails =

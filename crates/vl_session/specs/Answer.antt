@@ -6,8 +6,8 @@ use Rattle.query_run.specs.Asked.{ForReadableQuery, HasUnreadablePattern, IsUnsp
 use Rattle.query_run.specs.Question.{Question}
 use Rattle.query_run.specs.Records.{Record}
 use Rattle.query_run.specs.QueryFault.TheVariants as spelling
-use Rattle.query_run.specs.declared.evaluation.RunFault.{RunFault}
-use Rattle.query_run.specs.declared.evaluation.RunFault.TheVariants as running
+use Rattle.query_run.specs.declared.fault.SearchFault.{SearchFault}
+use Rattle.query_run.specs.declared.fault.SearchFault.TheVariants as running
 use Rattle.query_run.specs.declared.query.QueryRefusal.{QueryRefusal}
 use Rattle.query_run.specs.declared.query.QueryRefusal.TheVariants as refusals
 use Rattle.vl_session.specs.Query.{HasQueryOutcome, QueryOutcome, found, many_rows, overflows, unreadable}
@@ -65,7 +65,7 @@ fault_of_refusal (refusals.Unspelled fault) = Query fault
 fault_of_refusal (refusals.Pattern nth) = RegexRefused nth
 fault_of_refusal refusals.Memory = Memory
 
-abbrev pub fault_of_run : RunFault → AnswerFault
+abbrev pub fault_of_run : SearchFault → AnswerFault
 fault_of_run running.ManyRows = ManyRows
 fault_of_run (running.Overflow name) = Overflow name
 fault_of_run running.Memory = Memory

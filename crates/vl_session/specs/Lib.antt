@@ -23,5 +23,5 @@ pub use Rattle.query_run.specs.Patterns
 pub use Rattle.query_run.specs.QueryFault
 pub use Rattle.query_run.specs.Question
 pub use Rattle.query_run.specs.Records
-pub use Rattle.query_run.specs.declared.evaluation.RunFault
+pub use Rattle.query_run.specs.declared.fault.SearchFault
 pub use Rattle.query_run.specs.declared.query.QueryRefusal

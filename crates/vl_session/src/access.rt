@@ -7,9 +7,10 @@ ghost use Rattle.vl_session.specs.Seen.{IsRefused, Looks, Takes};
 
 use log_core::Snapshot;
 use log_desk::{Desk, InsertFault, Pass};
+use part_file::Part;
 use std::alloc::{AllocError, Global};
 use std::sync::Wait;
-use vl_row::{Batch, RowList};
+use vl_row::Batch;
 
 /// The desk, and what its calls take besides a pass.
 #[derive(Drop)]
@@ -21,7 +22,7 @@ pub struct Access<'d, R> {
 
 impl<R: Wait> Access<'_, R> {
     /// Returns what the desk holds, in one turn.
-    pub(crate) fn look(&self, pass: &mut Pass) -> Result<Snapshot<RowList>, AllocError>
+    pub(crate) fn look(&self, pass: &mut Pass) -> Result<Snapshot<Part>, AllocError>
         requires { IsPassOf self.now.desk.now pass.old }
         ensures looks { Looks (caller_of pass.old) (seen_of pass.old) (seen_of pass.new) }
         ensures stands { IfOk result (λ look. Stands (λ rows. rows) look (seen_of pass.new).history) }

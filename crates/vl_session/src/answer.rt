@@ -13,7 +13,7 @@ ghost use Rattle.vl_session.specs.Seen.{Has, Looks};
 use crate::access::Access;
 use crate::law::select_law;
 use log_desk::{Desk, Pass};
-use query_run::{HashSeed, QueryFault, QueryRefusal, RunFault, Search, answer, read_query};
+use query_run::{HashSeed, QueryFault, QueryRefusal, Search, SearchFault, answer, read_query};
 use std::alloc::{AllocError, Global};
 use std::random::RandomSource;
 use std::sync::Wait;
@@ -58,16 +58,16 @@ impl From<QueryRefusal> for AnswerFault {
     }
 }
 
-impl From<RunFault> for AnswerFault {
+impl From<SearchFault> for AnswerFault {
     ghost use Rattle.vl_session.specs.Answer.{fault_of_run};
 
     ghost from_gives = { λ run fault. fault ≡ fault_of_run run };
 
-    fn from(fault: RunFault) -> AnswerFault {
+    fn from(fault: SearchFault) -> AnswerFault {
         match fault {
-            RunFault::ManyRows => AnswerFault::ManyRows,
-            RunFault::Overflow { name } => AnswerFault::Overflow { name },
-            RunFault::Memory => AnswerFault::Memory,
+            SearchFault::ManyRows => AnswerFault::ManyRows,
+            SearchFault::Overflow { name } => AnswerFault::Overflow { name },
+            SearchFault::Memory => AnswerFault::Memory,
         }
     }
 }
@@ -117,7 +117,7 @@ pub fn answer_query<R: Wait + RandomSource>(
 impl<R: Wait + RandomSource> Access<'_, R> {
     /// Answers a prepared query, as [`answer_query`] does. Hashes with a new seed, where the system gives one. A look
     /// at the log takes one turn.
-    pub fn answer(&self, pass: &mut Pass, search: &Search, now: i64) -> Result<Answer, RunFault>
+    pub fn answer(&self, pass: &mut Pass, search: &Search, now: i64) -> Result<Answer, SearchFault>
         requires { IsPassOf self.now.desk.now pass.old }
         ensures answered { IfOk result (IsSearchAnswer (question search.now) now (seen_of pass.new).history) }
         ensures refused { IfErr result (FailsOver (question search.now) now (rows_of (seen_of pass.new).history)) }
@@ -127,7 +127,7 @@ impl<R: Wait + RandomSource> Access<'_, R> {
     {
         let snapshot = match self.look(pass) {
             Ok(snapshot) => snapshot,
-            Err(AllocError) => return Err(RunFault::Memory),
+            Err(AllocError) => return Err(SearchFault::Memory),
         };
         let front = snapshot.front();
         let seed = HashSeed::random(self.rt);

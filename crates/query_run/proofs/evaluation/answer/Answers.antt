@@ -1,17 +1,16 @@
-use Rattle.std.proofs.Common.{◌≡◌, ◌∙◌, FitsSigned, ap, flat_map, map, subst, sym, w64}
-use Rattle.std.specs.List.{AllByRecursion}
+use Rattle.std.proofs.Common.{◌≡◌, ◌∙◌, ◌<◌, FitsSigned, ap, arith, flat_map, length, map, subst, sym, w64}
 use Rattle.std.proofs.lemmas.Int.{to_z-of_z}
-use Rattle.log_model.specs.Core.{parts_of}
-use Rattle.log_model.specs.History.{rows_in, rows_of}
-use Rattle.lq_ast.specs.Evaluation.{rows_that_hold}
+use Rattle.std.specs.List.{AllByRecursion}
+use Rattle.std.proofs.lemmas.List.{length-map}
+use Rattle.column_block.specs.declared.open_row.OpenRow.{OpenRow}
+use Rattle.log_model.specs.History.{rows_of}
+use Rattle.log_model.specs.Row.{record_of}
+use Rattle.lq_ast.specs.Evaluation.{row_limit}
 use Rattle.lq_ast.specs.Patterns.{CanBeRead, patterns_of_stage}
 use Rattle.lq_ast.specs.PipeView.{stage}
 use Rattle.lq_ast.specs.Question.{question}
 use Rattle.lq_ast.specs.declared.query.Query.{Query}
-use Rattle.query_run.specs.Answer.{FailsFor, FailsOver}
-use Rattle.query_run.specs.Order.{part_at}
-use Rattle.query_run.proofs.AnswerLemmas.{answers, err_so, fails, fails-gathering, if_err, ok_so}
-use Rattle.query_run.proofs.OrderLaws.{in_order}
+use Rattle.query_run.proofs.AnswerLemmas.{answers, err_so, fails, lent_records, ok_so}
 use Rattle.query_run.proofs.QueryLemmas.{readable_pipes}
 use Rattle.query_run.proofs.evaluation.answer.Goals as goal
 
@@ -25,43 +24,44 @@ piped_lines-requires-clause-readable c =
 
 pub returns-clause-answered : goal.returns-clause-answered
 returns-clause-answered c =
-    let fits : FitsSigned w64 c.args.now = c.ranges.now in
     let query = question c.args.search.now in
     let stages : map stage c.as_slice-2.result.now ≡ query.stages =
     ap (map stage) c.as_slice-2.ensures ∙ ap (λ (q : Query). map stage q.pipes) c.query.ensures.same in
+    let lent = c.in_ok-lent.lent.items in
+    let same : map (λ row. row.now) lent ≡ c.in_ok-rows.rows.items = c.in_ok-lent.ensures ∙ c.as_slice.ensures.value in
+    let fits : FitsSigned w64 c.args.now = c.ranges.now in
+    let rows = rw c.filter.ensures at (simp to_z-of_z at c.in_ok-rows.ensures.rows) in
+    let few : length (map (λ row. record_of row.now.numbered.row) lent) < row_limit =
+    omega (
+      arith,
+      c.in_ok-rows.ensures.few,
+      ap length same,
+      length-map lent (λ row. row.now),
+      length-map lent (λ row. record_of row.now.numbered.row),
+    ) in
     ok_so c.piped_lines.result _ _ (rw stages at c.piped_lines.ensures.made)
-    (λ text printed history stands. answers query c.args.now (rows_of history) c.in_ok-rows.rows.items
-    ((rw c.filter.ensures at (simp to_z-of_z at c.in_ok-rows.ensures.rows))
-    ∙ ap (λ places. rows_that_hold query.condition c.args.now
-    (flat_map rows_in (map (part_at (parts_of c.args.snapshot.now)) places))) c.as_slice.ensures.value
-    ∙ ap (rows_that_hold query.condition c.args.now)
-    (in_order c.args.snapshot.now c.in_ok-places.places.items history c.in_ok-places.ensures stands))
-    c.in_ok-rows.ensures.few text printed)
+    (λ text printed history stands. answers query c.args.now (rows_of history) _
+    (lent_records (λ (row : OpenRow). row.numbered.row) lent c.in_ok-rows.rows.items _ same (rows history stands))
+    few text printed)
 
 pub returns-clause-fault : goal.returns-clause-fault
 returns-clause-fault c =
-    let fits : FitsSigned w64 c.args.now = c.ranges.now in
     let query = question c.args.search.now in
     let stages : map stage c.as_slice-2.result.now ≡ query.stages =
     ap (map stage) c.as_slice-2.ensures ∙ ap (λ (q : Query). map stage q.pipes) c.query.ensures.same in
-    err_so c.piped_lines.result _ _ (rw stages at c.piped_lines.ensures.fault)
-    (λ fault failed history stands. fails query c.args.now (rows_of history) c.in_ok-rows.rows.items
-    ((rw c.filter.ensures at (simp to_z-of_z at c.in_ok-rows.ensures.rows))
-    ∙ ap (λ places. rows_that_hold query.condition c.args.now
-    (flat_map rows_in (map (part_at (parts_of c.args.snapshot.now)) places))) c.as_slice.ensures.value
-    ∙ ap (rows_that_hold query.condition c.args.now)
-    (in_order c.args.snapshot.now c.in_ok-places.places.items history c.in_ok-places.ensures stands))
-    c.in_ok-rows.ensures.few fault failed)
-
-pub returns-in_err-rows-clause-fault : goal.returns-in_err-rows-clause-fault
-returns-in_err-rows-clause-fault c =
+    let lent = c.in_ok-lent.lent.items in
+    let same : map (λ row. row.now) lent ≡ c.in_ok-rows.rows.items = c.in_ok-lent.ensures ∙ c.as_slice.ensures.value in
     let fits : FitsSigned w64 c.args.now = c.ranges.now in
-    let query = question c.args.search.now in
-    let fault = c.in_err-rows.field-0.0 in
-    if_err c.from_residual-in_err-rows.result _ _ c.from_residual-in_err-rows.ensures.1
-    (λ fails is history stands. subst (FailsOver query c.args.now (rows_of history)) (sym is)
-    (fails-gathering query c.args.now (rows_of history) fault
-    (subst (λ rows. FailsFor (rows_that_hold query.condition c.args.now rows) fault)
-    (ap (λ places. flat_map rows_in (map (part_at (parts_of c.args.snapshot.now)) places)) c.as_slice.ensures.value
-    ∙ in_order c.args.snapshot.now c.in_ok-places.places.items history c.in_ok-places.ensures stands)
-    (rw c.filter.ensures at (simp to_z-of_z at c.in_err-rows.ensures.fault)))))
+    let rows = rw c.filter.ensures at (simp to_z-of_z at c.in_ok-rows.ensures.rows) in
+    let few : length (map (λ row. record_of row.now.numbered.row) lent) < row_limit =
+    omega (
+      arith,
+      c.in_ok-rows.ensures.few,
+      ap length same,
+      length-map lent (λ row. row.now),
+      length-map lent (λ row. record_of row.now.numbered.row),
+    ) in
+    err_so c.piped_lines.result _ _ (rw stages at c.piped_lines.ensures.fault)
+    (λ fault failed history stands. fails query c.args.now (rows_of history) _
+    (lent_records (λ (row : OpenRow). row.numbered.row) lent c.in_ok-rows.rows.items _ same (rows history stands))
+    few fault failed)
