@@ -3,7 +3,8 @@
 # built program, each to a server of its own, and compares the processor time that they take:
 # - many lines with a list of names, and the same lines with a hundred times the names: at most three times the time;
 # - one input, and one four times as long: at most 6.8 times the time, which is 2.6 times for twice the input.
-# At its peak a server has at most 64 MB, or 20 times the bytes of the input where that is more.
+# At its peak a server has at most 64 MB, or 20 times the bytes of the input where that is more. Some tests give one
+# input, for its peak alone.
 # usage: tests/hostile.sh     (the environment variable DUVONKA is the path of another build)
 # Its last line is 'N passed, M failed, K skipped'.
 set -u
@@ -53,6 +54,12 @@ nested() {
 # tiny COUNT: this many lines of one member
 tiny() { awk -v n="$1" 'BEGIN { for (i = 0; i < n; i++) print "{\"a\":1}" }'; }
 
+# three COUNT: this many lines of three members
+three() { awk -v n="$1" 'BEGIN { for (i = 0; i < n; i++) print "{\"a\":\"b\",\"c\":\"d\",\"e\":\"f\"}" }'; }
+
+# padded COUNT: this many lines without a member, with 300 blanks in each
+padded() { awk -v n="$1" 'BEGIN { for (i = 0; i < n; i++) printf "{%300s}\n", "" }'; }
+
 # empty COUNT: this many lines without a member
 empty() { awk -v n="$1" 'BEGIN { for (i = 0; i < n; i++) print "{}" }'; }
 
@@ -64,6 +71,9 @@ names() { awk -v n="$1" 'BEGIN { for (i = 1; i < n; i++) printf "%X,", i; printf
 
 # added COUNT VALUE: a list of this many fields with this value, whose names fall
 added() { awk -v n="$1" -v value="$2" 'BEGIN { for (i = n; i > 0; i--) printf "%s%X=%s", i < n ? "," : "", i, value }'; }
+
+# value SIZE: a value of this many bytes
+value() { printf "%${1}s" "" | tr ' ' v; }
 
 # used ID: prints the processor time of a process so far in milliseconds, and its peak of memory in KiB
 used() {
@@ -127,13 +137,13 @@ listed() {
   judge "$1"
 }
 
-# adds NAME SIZE FEW MANY REPLY: judges what this many lines take with a few fields to add, and with many, where the
-# request may run out of memory but has to answer soon
+# adds NAME SIZE FEW MANY REPLY: judges what this many lines take with a short list of fields to add, and with a long
+# one, where the request may run out of memory but has to answer soon
 adds() {
   local one=0 took peak why=''
   empty "$2" > "$work/lines"
-  spend "extra_fields=$(added "$3" 1)" "$work/lines" HTTP/1.1 && one=$took \
-    && spend "extra_fields=$(added "$4" 1)" "$work/lines" "$5" && compare 150 "$work/lines"
+  spend "extra_fields=$3" "$work/lines" HTTP/1.1 && one=$took \
+    && spend "extra_fields=$4" "$work/lines" "$5" && compare 150 "$work/lines"
   judge "$1"
 }
 
@@ -146,6 +156,14 @@ grows() {
   judge "$1"
 }
 
+# keeps NAME ARGUMENTS MAKER SIZE REPLY MOST: judges whether a server has at most this many KiB for such an input
+keeps() {
+  local one=0 took=0 peak=0 why=''
+  "$3" "$4" > "$work/lines"
+  spend "$2" "$work/lines" "$5" && [ "$peak" -gt "$6" ] && why="$peak KiB, above $6"
+  judge "$1"
+}
+
 listed "names to ignore" ignore_fields
 listed "names of the stream" _stream_fields
 listed "names of the message" _msg_field
@@ -155,14 +173,21 @@ grows "one long outer name" "" nested 60000 NameLong
 grows "one long outer name, with names to ignore" "ignore_fields=a,b&_stream_fields=b" nested 60000 NameLong
 grows "more fields to add than a row may have" "extra_fields=$(added 2500 1)" last 500 ManyFields
 grows "fields to add" "extra_fields=$(added 900 1)" last 90 '"accepted":"[1-9]'
-adds "a hundred times the fields to add, more than a row may have" 400000 25 2500 507
-adds "forty times the fields to add" 400000 25 1000 507
+adds "a hundred times the fields to add, more than a row may have" 400000 "$(added 25 1)" "$(added 2500 1)" 507
+adds "forty times the fields to add" 400000 "$(added 25 1)" "$(added 1000 1)" 507
+adds "a hundred times the bytes to add" 400000 "f=$(value 150)" "f=$(value 15000)" 507
 grows "fields to add, in rows of more than the memory for them" "extra_fields=$(added 900 1)" empty 5000 507
 grows "labels that are added" "extra_fields=$(added 800 1)&_stream_fields=$(names 800)" empty 20000 507
 grows "fields to add, in rows that are too much for a batch" "extra_fields=$(added 250 "$(printf '0%.0s' {1..50})")" \
   empty 5300 Large
-grows "a large field to add, in rows that are too much for a batch" "extra_fields=f=$(printf 'v%.0s' {1..15000})" \
-  empty 8000 Large
+grows "a large field to add, in rows that are too much for a batch" "extra_fields=f=$(value 15000)" empty 8000 Large
+# Their rows count nearly 14 times their bytes.
+grows "lines of short members" "" three 100000 '"accepted":"[14]00000"'
+keeps "as many short lines as the bound lets through" "" tiny 236294 '"accepted":"236294"' "$MOST"
+keeps "one short line more than the bound lets through" "" tiny 236295 507 "$MOST"
+keeps "lines of one label" _stream_fields=a tiny 102000 '"accepted":"102000"' "$MOST"
+# Rows are kept only until they weigh too much for a batch.
+keeps "rows that are three times too much for a batch" "extra_fields=f=$(value 2000)" padded 100000 Large 150000
 # A long name that is asked for has all long names read, up to 64 times the bytes of the line; then memory runs out.
 grows "one long outer name, with a long name to ignore" "ignore_fields=$(printf 'b%.0s' {1..129})" nested 60000 HTTP/1.1
 echo "$passed passed, $failed failed, 0 skipped"

@@ -9,7 +9,7 @@ use std::alloc::{AllocError, Global};
 use vl_row::{Field, FieldList, Text};
 
 /// Up to this many names or fields of a list are taken one by one.
-const FEW: usize = 8;
+pub(crate) const FEW: usize = 8;
 
 /// Removes the fields that are ignored.
 pub(crate) fn remove_ignored(o: &Options, fields: &mut FieldList)

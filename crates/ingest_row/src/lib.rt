@@ -5,6 +5,7 @@
 mod body;
 mod complete;
 mod fault;
+mod held;
 mod kind;
 mod law;
 mod line;

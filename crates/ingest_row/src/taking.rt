@@ -7,6 +7,7 @@ ghost use Rattle.ingest_row.specs.Intake.{Outcome, outcome_of, refused_from, row
 ghost use Rattle.ingest_row.specs.Weighing.{IsTakingIn, IsWeighing};
 
 use crate::body::{Intake, LineOutcome, read_line};
+use crate::held::{Added, bytes_of, members_of};
 use crate::kind::LineKind;
 use crate::line::ROOM;
 use crate::lines::next_line;
@@ -16,9 +17,6 @@ use vl_row::Row;
 
 /// The largest weight of a batch.
 pub(crate) const LIMIT: u64 = 67_108_864;
-
-/// The bytes that a row takes without its fields, and those of a field, beside long names and values.
-const ITEM: u64 = 64;
 
 /// Added fields may take this many times the bytes that rows may take, since those of refused rows are not kept.
 const WORK: u64 = 16;
@@ -33,10 +31,12 @@ pub(crate) struct Taking {
     room: usize,
     /// What the rows weigh together, or the largest `u64` where that is more.
     pub(crate) weight: u64,
-    /// About how many bytes the rows take.
+    /// At most how many bytes the rows take, and the blocks that are made of them.
     held: u64,
-    /// How many bytes the fields take that are added to a line.
-    added: u64,
+    /// The fields that are added to a line.
+    added: Added,
+    /// Whether they are added to a line with a long name, too.
+    are_added_to_long: bool,
     /// How many bytes the added fields of all lines took.
     made: u64,
     /// How many bytes the rows may take before reading stops. It also stops where they weigh more than a batch may.
@@ -57,14 +57,15 @@ impl Taking {
             room: ROOM,
             weight: 0,
             held: 0,
-            added: (o.added().len() as u64).saturating_mul(ITEM),
+            added: Added::of(o),
+            are_added_to_long: !o.are_short(),
             made: 0,
             most,
         }
     }
 
-    /// Returns whether reading stops.
-    fn is_full(&self) -> bool
+    /// Returns whether the rows take or weigh too much. Then reading stops.
+    pub(crate) fn is_full(&self) -> bool
         ensures { self.now.most ≡ None → IsFalse result }
     {
         match self.most {
@@ -76,18 +77,31 @@ impl Taking {
     /// Returns the bytes that were made once another line has this outcome. The error is that this is more than may be
     /// made of a body.
     fn made_with(&self, made: u64, outcome: &LineOutcome) -> Result<u64, AllocError> {
-        if !is_complete(outcome) {
+        if !self.is_complete(outcome) {
             return Ok(made);
         }
-        let made = made.saturating_add(self.added);
+        let made = made.saturating_add(self.added.bytes);
         match self.most {
             Some(most) if made > most.saturating_mul(WORK) => Err(AllocError),
             _ => Ok(made),
         }
     }
 
-    /// Adds the row or the refusal of the next line.
-    fn add(&mut self, outcome: LineOutcome) -> Result<(), AllocError>
+    /// Returns whether the fields that are added to each line were added to this one. A line with a long name is
+    /// refused before, unless an option names such a field.
+    fn is_complete(&self, outcome: &LineOutcome) -> bool {
+        match outcome {
+            LineOutcome::Read(_) => true,
+            LineOutcome::Refused(LineKind::NameLong) => self.are_added_to_long,
+            LineOutcome::Refused(kind) => {
+                matches!(kind, LineKind::ManyFields | LineKind::RowLarge)
+            }
+            LineOutcome::PassedOver => false,
+        }
+    }
+
+    /// Adds the row or the refusal of the next line, which is this one.
+    fn add(&mut self, alloc: Global, line: &[u8], outcome: LineOutcome) -> Result<(), AllocError>
         requires { self.old.number + 1 < 2 ^ 64 }
         ensures rows { OnOk result
             (self.new.intake.rows ≡ self.old.intake.rows ++ rows_read (outcome_of outcome ∷ [])) }
@@ -101,12 +115,27 @@ impl Taking {
         self.number += 1;
         self.weight = self.weight.saturating_add(weight_of(&outcome));
         self.made = self.made_with(self.made, &outcome)?;
-        if let LineOutcome::Read(row) = &outcome {
-            // The field of the moment is not a field of the row.
-            self.room = row.fields().len() + 1;
-            self.held = self.held.saturating_add(bytes_of(row));
+        match outcome {
+            LineOutcome::Read(row) => self.add_row(alloc, line, row),
+            other => self.intake.add(self.number, other),
         }
-        self.intake.add(self.number, outcome)
+    }
+
+    /// Adds the row of a line, and counts what it takes.
+    fn add_row(&mut self, alloc: Global, line: &[u8], row: Row) -> Result<(), AllocError>
+        ensures rows { OnOk result (self.new.intake.rows ≡ self.old.intake.rows ++ row ∷ []) }
+        ensures refused { OnOk result (self.new.intake.refused ≡ self.old.intake.refused) }
+        ensures number { self.new.number ≡ self.old.number }
+        ensures weight { self.new.weight ≡ self.old.weight }
+        ensures most { self.new.most ≡ self.old.most }
+    {
+        let slots = self
+            .added
+            .slots(self.room, members_of(line), row.fields().len());
+        let row = fitted(alloc, row, slots.is_wide)?;
+        self.room = slots.next;
+        self.held = self.held.saturating_add(bytes_of(&row, slots.most));
+        self.intake.add(self.number, LineOutcome::Read(row))
     }
 
     pub(crate) fn into_intake(self) -> Intake
@@ -126,27 +155,15 @@ fn weight_of(outcome: &LineOutcome) -> u64
     }
 }
 
-/// Returns whether the fields that are added to each line were added to this one.
-fn is_complete(outcome: &LineOutcome) -> bool {
-    match outcome {
-        LineOutcome::Read(_) => true,
-        LineOutcome::Refused(kind) => matches!(
-            kind,
-            LineKind::NameLong | LineKind::ManyFields | LineKind::RowLarge
-        ),
-        LineOutcome::PassedOver => false,
+/// Returns the row, copied into lists without room to spare if it is wide.
+fn fitted(alloc: Global, row: Row, is_wide: bool) -> Result<Row, AllocError>
+    ensures { IfOk result (λ fit. fit ≡ row) }
+{
+    if is_wide {
+        row.try_copy(alloc)
+    } else {
+        Ok(row)
     }
-}
-
-/// Returns about how many bytes a row takes. Its labels are copies of fields.
-fn bytes_of(row: &Row) -> u64 {
-    let mut bytes = row.weight().saturating_add(ITEM);
-    bytes = bytes.saturating_add((row.fields().len() as u64).saturating_mul(ITEM));
-    for label in row.stream().as_slice() {
-        let text = label.name().len() + label.value().len();
-        bytes = bytes.saturating_add(ITEM).saturating_add(text as u64);
-    }
-    bytes
 }
 
 /// Reads the first of these lines, and returns the others.
@@ -170,7 +187,7 @@ pub(crate) fn take_lines<'a>(
             return Ok(rest);
         };
         let outcome = read_line(alloc, o, now, line, taking.room)?;
-        taking.add(outcome)?;
+        taking.add(alloc, line, outcome)?;
         rest = after;
     }
     Ok(rest)

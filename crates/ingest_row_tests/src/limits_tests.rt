@@ -199,24 +199,45 @@ fn long_lines(alloc: Global, lines: usize) -> Result<(usize, u64), AllocError> {
     weighs(alloc, &Options::plain(alloc), body.as_str())
 }
 
-/// Weighs a body of this many short lines, to each of which 200 kB are added.
-fn short_lines(alloc: Global, lines: usize) -> Result<(usize, u64), AllocError> {
+/// Weighs a body of these lines, to each of which 200 kB are added. The field that is added may be a label, too.
+fn added_lines(alloc: Global, labels: &str, lines: Long<'_>) -> Result<(usize, u64), AllocError> {
     let value = Long {
         first: "f=",
         piece: HUNDRED,
         count: 2_000,
         last: "",
     };
-    let Some(options) = asked(alloc, "extra_fields", value.text(alloc)?.as_str())? else {
+    let value = value.text(alloc)?;
+    let fields = Field::try_of(alloc, "extra_fields", value.as_str())?;
+    let labels = Field::try_of(alloc, "_stream_fields", labels)?;
+    let Some(options) = Options::read(alloc, &[fields, labels]).ok() else {
         return Ok((0, 0));
     };
-    let body = Long {
-        first: "",
-        piece: "{\"a\":\"b\"}\n",
-        count: lines,
-        last: "x",
+    weighs(alloc, &options, lines.text(alloc)?.as_str())
+}
+
+/// Weighs a body of this many equal lines, each with this many blanks at its end, in the same way.
+fn equal_lines(
+    alloc: Global,
+    count: usize,
+    labels: &str,
+    blanks: usize,
+    text: &str,
+) -> Result<(usize, u64), AllocError> {
+    let line = Long {
+        first: text,
+        piece: " ",
+        count: blanks,
+        last: "\n",
     };
-    weighs(alloc, &options, body.text(alloc)?.as_str())
+    let line = line.text(alloc)?;
+    let lines = Long {
+        first: "",
+        piece: line.as_str(),
+        count,
+        last: "",
+    };
+    added_lines(alloc, labels, lines)
 }
 
 /// Returns how many rows are kept of a body of this many long lines, or what they weigh.
@@ -225,9 +246,12 @@ pub fn lines_text(alloc: Global, count: &str) -> Result<String, AllocError> {
     format!(in alloc; "{rows} {weight}")
 }
 
-/// Returns how many rows are kept of a body of this many short lines, or what they weigh, or that memory ran out.
-pub fn added_text(alloc: Global, count: &str) -> Result<String, AllocError> {
-    match short_lines(alloc, count_of(count)) {
+/// Returns how many rows are kept of a body of equal lines, or what they weigh, or that memory ran out.
+pub fn added_text(alloc: Global, case: &str) -> Result<String, AllocError> {
+    let (count, rest) = case.split_once('|').unwrap_or((case, ""));
+    let (labels, rest) = rest.split_once('|').unwrap_or((rest, ""));
+    let (blanks, text) = rest.split_once('|').unwrap_or((rest, ""));
+    match equal_lines(alloc, count_of(count), labels, count_of(blanks), text) {
         Ok((rows, weight)) => format!(in alloc; "{rows} {weight}"),
         Err(_) => format!(in alloc; "memory"),
     }

@@ -7,7 +7,8 @@
 //! - `members COUNT` is a line of this many members: its fault, or `row`;
 //! - `lines COUNT` is a body of this many lines of 200 kB: how many rows are kept, and what they weigh where that is
 //!   too much for a batch;
-//! - `added COUNT` is a body of this many short lines, to each of which 200 kB are added: the same, or `memory`;
+//! - `added COUNT|LABELS|BLANKS|LINE` is a body in which this line comes this often, each time with this many blanks at
+//!   its end, and 200 kB are added to each line as the field `f`: the same, or `memory`. The labels are those named;
 //! - `check NAME` asks whether that check of the program holds.
 //!
 //! The answers in `stdout` are not the program's own. They are made in Python, with its `json` module for the lines,

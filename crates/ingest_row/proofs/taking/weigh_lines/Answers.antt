@@ -10,8 +10,9 @@ loop-line-preserved-after-outcome-2 c =
     record {
       fits = omega (arith, c.saturating_add-weight.ensures);
       weighs = simp to_z-of_z (weighs_more c.args.o.now c.args.now c.args.lines.now c.loop-line.rest.now
-          c.in-Some.line.now c.in-Some.after.now c.args.taking.now.weight c.loop-line.weight c.saturating_add-weight.result
-          (outcome_of c.in_ok-outcome.outcome) c.in-Some.ensures.line (simp to_z-of_z at c.in_ok-outcome.ensures)
+          c.in-Some.line.now c.in-Some.after.now c.args.taking.now.weight c.loop-line.weight
+          c.saturating_add-weight.result (outcome_of c.in_ok-outcome.outcome) c.in-Some.ensures.line
+          (simp to_z-of_z at c.in_ok-outcome.ensures)
           (rw c.weight_of.ensures at c.saturating_add-weight.ensures)
           (simp to_z-of_z at c.loop-line.invariant.weighs));
     }
@@ -22,8 +23,9 @@ loop-line-preserved c =
     record {
       fits = omega (arith, c.saturating_add-weight.ensures);
       weighs = simp to_z-of_z (weighs_more c.args.o.now c.args.now c.args.lines.now c.loop-line.rest.now
-          c.in-Some.line.now c.in-Some.after.now c.args.taking.now.weight c.loop-line.weight c.saturating_add-weight.result
-          (outcome_of c.in_ok-outcome.outcome) c.in-Some.ensures.line (simp to_z-of_z at c.in_ok-outcome.ensures)
+          c.in-Some.line.now c.in-Some.after.now c.args.taking.now.weight c.loop-line.weight
+          c.saturating_add-weight.result (outcome_of c.in_ok-outcome.outcome) c.in-Some.ensures.line
+          (simp to_z-of_z at c.in_ok-outcome.ensures)
           (rw c.weight_of.ensures at c.saturating_add-weight.ensures)
           (simp to_z-of_z at c.loop-line.invariant.weighs));
     }
