@@ -46,19 +46,54 @@ def members_text(count):
     return line_fault("{" + ",".join(f'"{n}":0' for n in range(int(count))) + "}")
 
 
-def weighed_text(count, memory):
-    """Of rows of a field of two bytes and one of 200,001. A batch has 64 MiB of them, if so much memory may be taken."""
-    weight = count * 200003
+def lines_text(count):
+    """Of rows of a field of two bytes and one of 200,001."""
+    weight = int(count) * 200003
+    return f"0 {weight}" if weight > BATCH else f"{count} 0"
+
+
+def added_text(rest):
+    """Of equal lines, to each of which 200,000 bytes are added. The memory that rows count has a bound."""
+    count, labels, blanks, line = rest.split("|", 3)
+    line += " " * int(blanks or 0)
+    count = int(count)
+    bound = max(48 * 2**20, 17 * count * (len(line) + 1))
+    options = Options((("extra_fields", "f=" + "v" * 200000), ("_stream_fields", labels)))
+    try:
+        row = row_of_line(options, NOW, line.encode())
+    except Fault as fault:
+        return "memory" if fault.name in ("ManyFields", "RowLarge") and is_much_added(options, count, bound) else "0 0"
+    weight = count * sum(len(name) + len(value) for name, value in in_order(row.fields))
+    if is_much_added(options, count, bound):
+        return "memory"
     if weight > BATCH:
         return f"0 {weight}"
-    return f"{count} 0" if weight <= memory else "memory"
+    return f"{count} 0" if count * memory_of(row) <= bound else "memory"
+
+
+def is_much_added(options, count, bound):
+    """Returns whether what is added to so many lines takes more than 16 times what their rows may take."""
+    sizes = ((64 + len(name) + len(value)) * (2 if name in options.stream_fields else 1)
+             for name, value in options.extra_fields)
+    return count * sum(sizes) > 16 * bound
+
+
+def memory_of(row):
+    """Returns the bytes that a row counts."""
+    def texts(fields):
+        return sum(24 + len(text) for field in fields for text in field if len(text) > 30)
+    labels = in_order(row.labels)
+    slots = max(4, 1 << (len(labels) - 1).bit_length()) if labels else 0
+    fields = in_order(row.fields)
+    taken = 124 + 16 + 64 * len(fields) + texts(fields) + sum(8 + len(value) for _, value in fields)
+    return taken + (16 + 64 * slots + texts(labels) if labels else 0)
 
 
 KINDS = {
     "long": long_text,
     "members": members_text,
-    "lines": lambda count: weighed_text(int(count), BATCH),
-    "added": lambda count: weighed_text(int(count), 24 * 2**20),
+    "lines": lines_text,
+    "added": added_text,
     # each check of the program holds
     "check": lambda name: "true",
 }
