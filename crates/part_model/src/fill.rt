@@ -14,8 +14,11 @@ pub fn block_end(alloc: Global, rows: &[NumberedRef<'_>]) -> Result<usize, Alloc
     requires { 0 < length rows.now }
     ensures { IfOk result (EndsBlock rows.now) }
 {
-    let mut names = BTreeSet::new(alloc);
     let mut last = fields_of(&rows[0]);
+    if rows.len() == 1 || !are_of_one_stream(&rows[0], &rows[1]) {
+        return Ok(1);
+    }
+    let mut names = BTreeSet::new(alloc);
     put_names(&mut names, last)?;
     for i in 1..rows.len() {
         let row = &rows[i];

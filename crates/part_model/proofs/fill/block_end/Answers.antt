@@ -1,9 +1,12 @@
-use Rattle.std.proofs.Common.{◌≡◌, ◌+◌, ◌∙◌, ℕ, List, Bor, length, map, take, arith, ap, sym, rules}
+use Rattle.std.proofs.Common.{◌≡◌, ◌+◌, ◌∙◌, ℕ, List, Bor, length, map, take, arith, ap, subst, sym, rules}
 use Rattle.std.proofs.lemmas.Bool.{both_ways}
 use Rattle.std.proofs.lemmas.List.{length-map}
 use Rattle.block_model.specs.Columns.{names_of, put_names}
 use Rattle.part_model.proofs.EndLaws.{ends-full, ends-last, ends-limit, ends-stream, first-names, first-one, limits-are}
 use Rattle.part_model.proofs.EndLaws.{names-next, one-more, put-first, put-last}
+use Rattle.part_model.specs.Ends.{EndsBlock}
+use Rattle.part_model.proofs.fill.block_end.Goals.{then-rows-eq1-via-then-rows-eq1}
+use Rattle.part_model.proofs.fill.block_end.Goals.{then-rows-eq1-via-else-rows-eq1+then-not-are_of_one_stream}
 use Rattle.part_model.proofs.fill.block_end.Goals as goal
 
 abbrev now_of : Bor (List ℕ) → List ℕ
@@ -26,11 +29,11 @@ returns-then-i-eq-MAX_ROWS c =
     ends-full c.args.rows.now c.loop-i.i c.index-rows-i.result c.loop-i.invariant.one c.loop-i-test.true c.index-rows-i.is
     (omega arith)
 
-pub returns-then-not-are_of_one_stream : goal.returns-then-not-are_of_one_stream
-returns-then-not-are_of_one_stream c =
+pub returns-then-not-are_of_one_stream-2 : goal.returns-then-not-are_of_one_stream-2
+returns-then-not-are_of_one_stream-2 c =
     ends-stream c.args.rows.now c.loop-i.i c.index-rows-i.result c.index-rows-0-in-loop-i.result c.loop-i.invariant.one
-    c.loop-i-test.true c.index-rows-i.is c.index-rows-0-in-loop-i.is (λ e. both_ways c.are_of_one_stream.result
-    c.if-not-are_of_one_stream.true (c.are_of_one_stream.ensures.1 e))
+    c.loop-i-test.true c.index-rows-i.is c.index-rows-0-in-loop-i.is (λ e. both_ways c.are_of_one_stream-in-loop-i.result
+    c.if-not-are_of_one_stream-2.true (c.are_of_one_stream-in-loop-i.ensures.1 e))
 
 pub returns-then-not-are_within : goal.returns-then-not-are_within
 returns-then-not-are_within c =
@@ -58,10 +61,23 @@ loop-i-preserved c =
           c.in_ok-put_other_names.ensures;
       one = one-more c.args.rows.now c.loop-i.i c.index-rows-i.result c.index-rows-0-in-loop-i.result
           c.loop-i.invariant.one c.loop-i-test.true c.index-rows-i.is c.index-rows-0-in-loop-i.is
-          (c.are_of_one_stream.ensures.0 c.if-not-are_of_one_stream.false)
+          (c.are_of_one_stream-in-loop-i.ensures.0 c.if-not-are_of_one_stream-2.false)
           (limits-are c.args.rows.now c.loop-i.i c.len.result c.loop-i-test.true (omega arith) count
           ∙ sym c.are_within.ensures ∙ c.if-not-are_within.false);
     }
 
 pub returns : goal.returns
 returns c = ends-last c.args.rows.now c.loop-i.i c.loop-i.invariant.one (omega arith)
+
+pub returns-then-rows-eq1 : goal.returns-then-rows-eq1
+returns-then-rows-eq1 c =
+    let one = first-one c.args.rows.now c.index-rows-0.result c.requires c.index-rows-0.is c.fields_of-last.ensures.rules in
+    elim c.then-rows-eq1.branch [
+      | then-rows-eq1-via-then-rows-eq1 w ↦
+          let all : 1 ≡ length c.args.rows.now = omega (arith, w.if-rows-eq1.true) in
+          subst (EndsBlock c.args.rows.now) (sym all) (ends-last c.args.rows.now 1 one all)
+      | then-rows-eq1-via-else-rows-eq1+then-not-are_of_one_stream w ↦
+          ends-stream c.args.rows.now 1 w.index-rows-1.result w.index-rows-0-else-rows-eq1.result one
+          (omega (arith, c.requires, w.if-rows-eq1.false)) w.index-rows-1.is w.index-rows-0-else-rows-eq1.is
+          (λ e. both_ways w.are_of_one_stream.result w.if-not-are_of_one_stream.true (w.are_of_one_stream.ensures.1 e))
+    ]
