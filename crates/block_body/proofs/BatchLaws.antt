@@ -1,5 +1,5 @@
 -- The rows of a block under another number of their batch.
-use Rattle.std.proofs.Common.{◌≡◌, ℕ, suc, ℤ, ◌+◌, ◌<◌, ◌^◌, Bool, true, false, eqb, ltb, List, [], ◌∷◌, ◌++◌, length, map}
+use Rattle.std.proofs.Common.{◌≡◌, ℕ, suc, ℤ, ◌+◌, ◌<◌, ◌^◌, Bool, true, List, [], ◌∷◌, ◌++◌, length, map}
 use Rattle.std.proofs.Common.{pos, get_or, refl, sym, ap, subst, ◌∙◌, arith}
 use Rattle.std.specs.Prelude.{◌==◌, ◌&&◌, ◌||◌, nat_lt, not, replicate}
 use Rattle.std.specs.List.{All, AllByRecursion, flat_map, list_all}
@@ -17,7 +17,7 @@ use Rattle.block_model.specs.declared.keys.Key.{Key}
 use Rattle.log_model.specs.Field.{Field, weight}
 use Rattle.log_model.specs.History.{AreOfOneBatch, Numbered, with_batch}
 use Rattle.word_filter.specs.Words.{filter_of}
-use Rattle.block_body.specs.Held.{AreEven, IsHeld, IsStored, columns_in, keys_in, numbers_in, rows_held}
+use Rattle.block_body.specs.Held.{IsHeld, IsStored, columns_in, keys_in, numbers_in, rows_held}
 use Rattle.block_body.specs.Outline.{NamedFilter, Outline}
 use Rattle.block_body.specs.Outlines.{filter_named, first_moment, last_moment, outline_of, weight_of}
 use Rattle.block_body.specs.declared.body.Batches.{Batches}
@@ -243,7 +243,7 @@ pub stored-under : (head : Outline) (body : Body) (old : Batches) (number : ℕ)
     × IsStored (rows_held head body (batches.One number)) head body (batches.One number)
 stored-under head body old number small one s =
     let rows : List Numbered = rows_held head body old in
-    let columns : List Column = columns_in head.columns body.columns.items in
+    let columns : List Column = columns_in head.columns body.columns in
     let keys : keys_in body (batches.One number) ≡ map (under number) (keys_in body old) = keys-under number
     body.times.items (numbers_in (length body.times.items) old) body.places.items (numbers-wide (length body.times.items) old
     s.even.wide) s.even.places in
@@ -251,7 +251,7 @@ stored-under head body old number small one s =
     ap (λ (k : List Key). rows_from head.labels columns 0 k) keys
     ∙ rows-under number head.labels columns 0 (keys_in body old) in
     let held : IsHeld (with_batch number (rows_held head body old)) head (keys_in body (batches.One number))
-    body.columns.items = record {
+    body.columns = record {
       block = block-under number rows one s.held.block;
       each = numbered-under number rows small s.held.each;
       texts = texts-under number rows ∙ s.held.texts;
@@ -262,7 +262,7 @@ stored-under head body old number small one s =
       all,
       record {
         even = record { places = s.even.places; wide = tt };
-        held = subst (λ (r : List Numbered). IsHeld r head (keys_in body (batches.One number)) body.columns.items) (sym
+        held = subst (λ (r : List Numbered). IsHeld r head (keys_in body (batches.One number)) body.columns) (sym
             all) held;
       },
     )

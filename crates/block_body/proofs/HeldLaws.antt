@@ -1,6 +1,6 @@
 -- What a block holds says its rows.
 use Rattle.std.proofs.Common.{◌≡◌, ℕ, zero, suc, ◌+◌, ◌-◌, ◌<◌, ◌^◌, List, [], ◌∷◌, ◌++◌, length, map, take, get_or}
-use Rattle.std.proofs.Common.{Some, true, leb, refl, sym, ap, ◌∙◌, arith, slice_get}
+use Rattle.std.proofs.Common.{Some, true, refl, sym, ap, ◌∙◌, arith, slice_get}
 use Rattle.std.proofs.lemmas.Bool.{leb-true}
 use Rattle.byte_format.proofs.Cases.{both_true}
 use Rattle.std.specs.List.{AllByRecursion, list_all}

@@ -7,3 +7,5 @@ pub mod StoreLaws
 pub mod BatchLaws
 pub mod WeightLaws
 pub mod PlaceLaws
+pub mod NamedLaws
+pub mod ColumnLaws

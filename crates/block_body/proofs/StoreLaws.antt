@@ -54,7 +54,7 @@ keys-length body numbers even =
 -- keys that are taken apart are stored so
 pub stored : (head : Outline) (keys : List Key) (columns : List (List (List ℕ))) (body : Body) (numbers : Batches)
     → body.times.items ≡ map (λ (key : Key). key.time) keys → body.places.items ≡ map (λ (key : Key). key.place) keys
-    → body.columns.items ≡ columns → IsWide (length keys) numbers
+    → body.columns ≡ columns → IsWide (length keys) numbers
     → numbers_in (length keys) numbers ≡ map (λ (key : Key). key.batch) keys
     → IsHeld (rows_in head keys columns) head keys columns
     → (rows_held head body numbers ≡ rows_in head keys columns)
@@ -67,13 +67,13 @@ stored head keys columns body numbers t p c wide n h =
     ∙ ap (λ (l : List ℕ). zipped (map (λ (key : Key). key.time) keys) l body.places.items) n
     ∙ ap (λ (l : List ℕ). zipped (map (λ (key : Key). key.time) keys) (map (λ (key : Key). key.batch) keys) l) p
     ∙ zipped-again keys in (
-      ap (λ (k : List Key). rows_in head k body.columns.items) same ∙ ap (rows_in head keys) c,
+      ap (λ (k : List Key). rows_in head k body.columns) same ∙ ap (rows_in head keys) c,
       record {
         even = record {
           places = ap length p ∙ length-map keys (λ (key : Key). key.place) ∙ sym count;
           wide = subst (λ (m : ℕ). IsWide m numbers) (sym count) wide;
         };
-        held = subst (λ (k : List Key). IsHeld (rows_in head k body.columns.items) head k body.columns.items) (sym same)
+        held = subst (λ (k : List Key). IsHeld (rows_in head k body.columns) head k body.columns) (sym same)
             (subst (λ (l : List (List (List ℕ))). IsHeld (rows_in head keys l) head keys l) (sym c) h);
       },
     )
@@ -86,10 +86,10 @@ pub shared-stored : (head : Outline) (body : Body) (a b : Batches)
 shared-stored head body a b same wide s =
     let keys : keys_in body b ≡ keys_in body a =
     ap (λ (l : List ℕ). zipped body.times.items l body.places.items) (same (length body.times.items)) in (
-      ap (λ (k : List Key). rows_in head k body.columns.items) keys,
+      ap (λ (k : List Key). rows_in head k body.columns) keys,
       record {
         even = record { places = s.even.places; wide = wide (length body.times.items) s.even.wide };
-        held = subst (λ (k : List Key). IsHeld (rows_in head k body.columns.items) head k body.columns.items) (sym keys)
+        held = subst (λ (k : List Key). IsHeld (rows_in head k body.columns) head k body.columns) (sym keys)
             s.held;
       },
     )

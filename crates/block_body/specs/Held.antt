@@ -63,7 +63,7 @@ pub record AreEven (body : Body) (numbers : Batches) : Type 0 where
 
 -- the rows that are held
 abbrev pub rows_held : Outline → Body → Batches → List Numbered
-rows_held head body numbers = rows_in head (keys_in body numbers) body.columns.items
+rows_held head body numbers = rows_in head (keys_in body numbers) body.columns
 
 -- What is held is that of these rows, which are those of a block.
 pub record IsHeld (rows : List Numbered) (head : Outline) (keys : List Key)
@@ -78,4 +78,4 @@ pub record IsHeld (rows : List Numbered) (head : Outline) (keys : List Key)
 -- A block holds rows of a block so.
 pub record IsStored (rows : List Numbered) (head : Outline) (body : Body) (numbers : Batches) : Type 0 where
   pub even : AreEven body numbers
-  pub held : IsHeld rows head (keys_in body numbers) body.columns.items
+  pub held : IsHeld rows head (keys_in body numbers) body.columns

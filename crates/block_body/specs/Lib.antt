@@ -1,3 +1,4 @@
 pub mod Outline
 pub mod Outlines
+pub mod HeldColumns
 pub mod Held

@@ -6,7 +6,7 @@ ghost use Rattle.std.specs.Int.{w64, to_le_bytes};
 ghost use Rattle.std.specs.List.{flat_map, list_all};
 ghost use Rattle.block_body.specs.Held.{AreEven, IsWide, batch_at, key_at, keys_in, numbers_in};
 
-use block_column::ValueColumn;
+use crate::held_columns::HeldColumns;
 use block_model::Key;
 use byte_format::put_u64s;
 use std::alloc::{AllocError, Global};
@@ -17,7 +17,7 @@ use std::sync::Arc;
 pub(crate) struct Body {
     pub(crate) times: Vec<i64>,
     pub(crate) places: Vec<u32>,
-    pub(crate) columns: Vec<ValueColumn>,
+    pub(crate) columns: HeldColumns,
 }
 
 /// The numbers of the batches of a block's rows.
@@ -84,14 +84,10 @@ fn key_at(times: &[i64], places: &[u32], batch: u64, i: usize) -> Key
 }
 
 /// The body of the rows of these keys, which have these columns.
-pub(crate) fn body_of(
-    alloc: Global,
-    keys: &[Key],
-    columns: Vec<ValueColumn>,
-) -> Result<Body, AllocError>
+pub(crate) fn body_of(alloc: Global, keys: &[Key], columns: HeldColumns) -> Result<Body, AllocError>
     ensures times { IfOk result (λ body. body.times.items ≡ map (λ key. key.time) keys.now) }
     ensures places { IfOk result (λ body. body.places.items ≡ map (λ key. key.place) keys.now) }
-    ensures columns { IfOk result (λ body. body.columns.items ≡ columns.items) }
+    ensures columns { IfOk result (λ body. body.columns ≡ columns) }
 {
     let mut times = Vec::with_capacity(alloc, keys.len())?;
     let mut places = Vec::with_capacity(alloc, keys.len())?;

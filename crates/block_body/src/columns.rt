@@ -1,24 +1,83 @@
 //! The columns of a block.
 
-ghost use Rattle.std.specs.Prelude.{◌≡◌, ◌<◌, ◌≤◌, ◌^◌, IfOk, length, map, sum_by};
+ghost use Rattle.std.specs.Prelude.{◌≡◌, ◌<◌, ◌≤◌, ◌^◌, ◌∷◌, [], IfOk, length, map, sum_by};
 ghost use Rattle.std.specs.List.{All};
+ghost use Rattle.log_model.specs.Field.{field_value};
 ghost use Rattle.word_filter.specs.Words.{HasWords, filter_of};
 ghost use Rattle.block_model.specs.Columns.{values_of};
 ghost use Rattle.block_body.specs.Outlines.{filter_named};
 
 use crate::head::ColumnHead;
+use crate::held_columns::HeldColumns;
+use crate::names::Name;
 use block_column::ValueColumn;
 use block_model::{NumberedRef, column_values};
 use std::alloc::{AllocError, Global};
 use token_bloom::Bloom;
-use vl_row::Text;
 use word_filter::filter_of;
 
 /// The columns of these names: their heads, and their values.
 pub(crate) fn columns_of(
     alloc: Global,
     rows: &[NumberedRef<'_>],
-    names: &[Text],
+    names: &[Name],
+) -> Result<(Vec<ColumnHead>, HeldColumns), AllocError>
+    requires few { length rows.now ≤ 4096 }
+    requires narrow { length names.now ≤ 2000 }
+    ensures heads { IfOk result (λ x. x.0.items ≡ map (filter_named rows.now) names.now) }
+    ensures values { IfOk result (λ x. x.1 ≡ map (values_of rows.now) names.now) }
+{
+    if rows.len() == 1 {
+        return columns_of_row(alloc, &rows[0], names);
+    }
+    let (heads, columns) = columns_of_rows(alloc, rows, names)?;
+    Ok((heads, HeldColumns::of(columns)))
+}
+
+/// The columns of one row.
+fn columns_of_row(
+    alloc: Global,
+    numbered: &NumberedRef<'_>,
+    names: &[Name],
+) -> Result<(Vec<ColumnHead>, HeldColumns), AllocError>
+    requires { length names.now ≤ 2000 }
+    ensures heads { IfOk result (λ x. x.0.items ≡ map (filter_named (numbered.now ∷ [])) names.now) }
+    ensures values { IfOk result (λ x. x.1 ≡ map (values_of (numbered.now ∷ [])) names.now) }
+{
+    let mut heads = Vec::with_capacity(alloc, names.len())?;
+    let mut values = Vec::with_capacity(alloc, names.len())?;
+    for name in names {
+        let value = value_in(numbered, name.as_str());
+        heads.push(head_of_value(alloc, name, value)?)?;
+        values.push(value)?;
+    }
+    let columns = HeldColumns::of_row(alloc, values.as_slice())?;
+    Ok((heads, columns))
+}
+
+/// The value of the field of this name.
+fn value_in<'a>(numbered: &NumberedRef<'a>, name: &str) -> &'a str
+    ensures value { result.now ≡ field_value numbered.now.row.fields name.now }
+    ensures size { length result.now ≤ 262_144 }
+{
+    let row = numbered.row;
+    row.fields().get(name)
+}
+
+/// The head of a column of one row, which has this value.
+fn head_of_value(alloc: Global, name: &Name, value: &str) -> Result<ColumnHead, AllocError>
+    requires { length value.now < 2 ^ 32 }
+    ensures { IfOk result (λ head. head ≡ (name.now, filter_of (value.now ∷ []))) }
+{
+    let bloom = filter_of(alloc, &[value])?;
+    let shared = name.share()?;
+    Ok(ColumnHead::new(shared, bloom))
+}
+
+fn columns_of_rows(
+    alloc: Global,
+    rows: &[NumberedRef<'_>],
+    names: &[Name],
 ) -> Result<(Vec<ColumnHead>, Vec<ValueColumn>), AllocError>
     requires { length rows.now ≤ 4096 }
     ensures heads { IfOk result (λ x. x.0.items ≡ map (filter_named rows.now) names.now) }
@@ -37,7 +96,7 @@ pub(crate) fn columns_of(
 fn column_of(
     alloc: Global,
     rows: &[NumberedRef<'_>],
-    name: &Text,
+    name: &Name,
 ) -> Result<(ColumnHead, ValueColumn), AllocError>
     requires { length rows.now ≤ 4096 }
     ensures head { IfOk result (λ x. x.0 ≡ filter_named rows.now name.now) }
@@ -46,8 +105,8 @@ fn column_of(
     let values = column_values(alloc, rows, name.as_str())?;
     let column = ValueColumn::try_of(alloc, values.as_slice())?;
     let bloom = filter_of_column(alloc, &column, values.as_slice())?;
-    let name = name.try_copy(alloc)?;
-    Ok((ColumnHead::new(name, bloom), column))
+    let shared = name.share()?;
+    Ok((ColumnHead::new(shared, bloom), column))
 }
 
 /// The filter of the words of a column's values, whose texts are at hand. Only distinct values are searched for words

@@ -7,19 +7,20 @@ ghost use Rattle.log_model.specs.Field.{weight};
 ghost use Rattle.log_model.specs.Row.{IsRow};
 ghost use Rattle.block_body.specs.Outlines.{outline_of, outline_with, weight_of};
 
+use crate::names::Name;
 use block_model::NumberedRef;
 use std::alloc::{AllocError, Global};
 use std::marker::Model;
 use std::sync::Arc;
 use token_bloom::Bloom;
-use vl_row::{Stream, Text};
+use vl_row::Stream;
 
 /// A column's name, and a filter of the words of its values.
 ///
 /// A contract sees it as both.
 #[derive(Drop)]
 pub struct ColumnHead {
-    name: Text,
+    name: Name,
     bloom: Bloom,
 }
 
@@ -35,7 +36,7 @@ impl Model for ColumnHead {
 }
 
 impl ColumnHead {
-    pub fn new(name: Text, bloom: Bloom) -> ColumnHead
+    pub fn new(name: Name, bloom: Bloom) -> ColumnHead
         requires { length bloom < 2 ^ 32 }
         ensures { result ≡ (name, bloom) }
     {
@@ -73,7 +74,7 @@ struct Known {
 }
 
 /// What is known of a block without its values: the stream, the times, and of each column its name and a filter of the
-/// words of its values. Copies share it.
+/// words of its values. The columns are in byte order of their names. Copies share it.
 #[derive(Drop)]
 pub struct Head {
     known: Arc<Known>,
@@ -81,6 +82,7 @@ pub struct Head {
 
 impl Model for Head {
     ghost use Rattle.std.specs.Arc.{arc_value};
+    ghost use Rattle.vl_row.specs.Place.{IsInOrder};
     ghost use Rattle.block_body.specs.Outline.{Outline};
 
     ghost Value = { Outline };
@@ -93,6 +95,8 @@ impl Model for Head {
       weight = (arc_value h.known).extent.weight;
       columns = (arc_value h.known).columns.items;
     } };
+
+    ghost invariant = { λ h. IsInOrder (arc_value h.known).columns.items };
 }
 
 impl Head {
@@ -120,13 +124,14 @@ impl Head {
         Ok(head)
     }
 
-    /// The head of rows in this stream, which have this extent and these columns.
+    /// The head of rows in this stream, which have this extent and these columns, in byte order of their names.
     pub fn new(
         alloc: Global,
         stream: Stream,
         extent: Extent,
         columns: Vec<ColumnHead>,
     ) -> Result<Head, AllocError>
+        requires { IsInOrder columns.items }
         ensures { IfOk result (λ head. head ≡ outline_with stream extent columns.items) }
     {
         let known = Known {
@@ -180,7 +185,7 @@ impl Head {
         self.known.columns.len()
     }
 
-    /// The name of a column. The columns are in byte order of their names.
+    /// The name of a column.
     pub fn name(&self, c: usize) -> &str
         requires { c < length self.now.columns }
         ensures { slice_get (map (λ column. column.0) self.now.columns) c ≡ Some result.now }
@@ -191,12 +196,11 @@ impl Head {
 
     /// The column of this name, if there is one, by binary search.
     pub fn column_named(&self, name: &str) -> Option<usize>
-        requires { IsInOrder self.now.columns }
         ensures some { IfSome result (λ c.
             slice_get (map (λ column. column.0) self.now.columns) c ≡ Some name.now) }
         ensures none { IfNone result (is_among (map (λ column. column.0) self.now.columns) name.now ≡ false) }
     {
-        place_in(self.column_heads(), name)
+        place_in(self.known.columns.as_slice(), name)
     }
 
     /// The filter of the words of a column's values.

@@ -4,9 +4,12 @@
 mod body;
 mod columns;
 mod head;
+mod held_columns;
+mod names;
 mod stored;
 mod write;
 
 pub use columns::{filter_of_column, filter_of_held};
 pub use head::{ColumnHead, Extent, Head};
+pub use names::{ColumnNames, Name};
 pub use stored::StoredRows;

@@ -1,8 +1,10 @@
 //! Rows of a block, held by columns.
 
-ghost use Rattle.std.specs.Prelude.{◌≡◌, ◌<◌, ◌++◌, IfOk, OnOk, Some, length, map, slice_get};
+ghost use Rattle.std.specs.Prelude.{◌≡◌, ◌<◌, ◌++◌, [], IfOk, OnOk, Some, length, slice_get};
+ghost use Rattle.std.specs.Prelude.{slice_index_or};
 ghost use Rattle.std.specs.List.{AllByRecursion};
 ghost use Rattle.byte_format.specs.Spelling.{HasSpelling};
+ghost use Rattle.lent_row.specs.Cells.{value_text};
 ghost use Rattle.log_model.specs.History.{AreOfOneBatch, with_batch};
 ghost use Rattle.block_model.specs.Columns.{names_of, values_of};
 ghost use Rattle.block_model.specs.Keys.{IsNumbered, keys_of};
@@ -15,8 +17,11 @@ ghost use Rattle.block_body.specs.Outlines.{IsSpan, outline_of};
 use crate::body::{Batches, Body, batches_of, body_of};
 use crate::columns::columns_of;
 use crate::head::Head;
+use crate::held_columns::HeldColumns;
+use crate::names::ColumnNames;
 use block_column::ValueColumn;
-use block_model::{Key, NumberedRef, column_names, row_keys};
+use block_model::{Key, NumberedRef, row_keys};
+use lent_row::Value;
 use std::alloc::{AllocError, Global};
 use std::marker::Model;
 use std::sync::Arc;
@@ -46,17 +51,21 @@ impl Model for StoredRows {
 }
 
 impl StoredRows {
-    /// Holds these rows, which are lent.
-    pub fn of_lent(alloc: Global, rows: &[NumberedRef<'_>]) -> Result<StoredRows, AllocError>
+    /// Holds these rows, which are lent. The names of the columns are shared with the last block if they can be.
+    pub fn of_lent(
+        alloc: Global,
+        rows: &[NumberedRef<'_>],
+        names: &mut ColumnNames,
+    ) -> Result<StoredRows, AllocError>
         requires { IsBlock rows.now }
         ensures rows { IfOk result (λ stored. stored ≡ rows.now) }
         ensures rules { IfOk result (λ stored. AllByRecursion IsNumbered rows.now) }
     {
         let keys = row_keys(alloc, rows)?;
-        let names = column_names(alloc, rows)?;
+        names.learn(alloc, rows)?;
         let (heads, columns) = columns_of(alloc, rows, names.as_slice())?;
         let head = Head::of(alloc, rows, heads)?;
-        let stored = StoredRows::held(alloc, head, keys.as_slice(), columns)?;
+        let stored = StoredRows::with(alloc, head, keys.as_slice(), columns)?;
         Ok(stored)
     }
 
@@ -69,6 +78,19 @@ impl StoredRows {
     ) -> Result<StoredRows, AllocError>
         requires { IsHeld (rows_in head keys.now columns.items) head keys.now columns.items }
         ensures { IfOk result (λ stored. stored ≡ rows_in head keys.now columns.items) }
+    {
+        StoredRows::with(alloc, head, keys, HeldColumns::of(columns))
+    }
+
+    /// Holds the rows of these keys, which have this head and these columns.
+    fn with(
+        alloc: Global,
+        head: Head,
+        keys: &[Key],
+        columns: HeldColumns,
+    ) -> Result<StoredRows, AllocError>
+        requires { IsHeld (rows_in head keys.now columns) head keys.now columns }
+        ensures { IfOk result (λ stored. stored ≡ rows_in head keys.now columns) }
     {
         let batches = batches_of(alloc, keys)?;
         let body = body_of(alloc, keys, columns)?;
@@ -118,11 +140,14 @@ impl StoredRows {
         self.body.key(&self.batches, i)
     }
 
-    /// The columns.
-    pub fn columns(&self) -> &[ValueColumn]
-        ensures { result.now ≡ map (values_of self.now) (names_of self.now) }
+    /// The value of a row in a column.
+    pub fn value(&self, i: usize, c: usize) -> Value<'_>
+        requires row { i < length self.now }
+        requires column { c < length (names_of self.now) }
+        ensures { slice_get (values_of self.now (slice_index_or (names_of self.now) c [])) i
+            ≡ Some (value_text result) }
     {
-        self.body.columns.as_slice()
+        self.body.columns.value(c, i)
     }
 
     /// Appends the one spelling of the rows.

@@ -9,8 +9,8 @@ ghost use Rattle.block_body.specs.Held.{AreEven, AreFilters, IsStored, columns_i
 
 use crate::body::{Batches, Body, put_batches};
 use crate::head::{ColumnHead, Head};
-use block_column::ValueColumn;
-use block_format::{put_column, put_labels};
+use crate::held_columns::HeldColumns;
+use block_format::put_labels;
 use byte_format::{put_i64s, put_u32s};
 use std::alloc::AllocError;
 
@@ -30,7 +30,7 @@ impl Body {
         out.extend_from_slice(&(self.times.len() as u16).to_le_bytes())?;
         out.extend_from_slice(&(self.columns.len() as u16).to_le_bytes())?;
         put_keys(out, self, batches)?;
-        put_columns(out, head.column_heads(), self.columns.as_slice())?;
+        put_columns(out, head.column_heads(), &self.columns)?;
         Ok(())
     }
 }
@@ -49,15 +49,14 @@ fn put_keys(out: &mut Vec<u8>, body: &Body, batches: &Batches) -> Result<(), All
 fn put_columns(
     out: &mut Vec<u8>,
     heads: &[ColumnHead],
-    columns: &[ValueColumn],
+    columns: &HeldColumns,
 ) -> Result<(), AllocError>
     requires count { length heads.now ≡ length columns.now }
     requires filters { AreFilters heads.now columns.now }
     ensures { OnOk result (out.new.items ≡ out.old.items ++ flat_map column_bytes (columns_in heads.now columns.now)) }
 {
     for i in 0..columns.len() {
-        let head = &heads[i];
-        put_column(out, head.name(), head.bloom(), &columns[i])?;
+        columns.put(out, i, &heads[i])?;
     }
     Ok(())
 }

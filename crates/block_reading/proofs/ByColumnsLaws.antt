@@ -4,6 +4,7 @@ use Rattle.std.proofs.Common.{leb, List, [], ◌∷◌, ◌++◌, length, filter
 use Rattle.std.proofs.Common.{◌∙◌, arith}
 use Rattle.std.specs.Prelude.{◌&&◌, ◌||◌, bytes_eq, int_lt, not, unsigned_abs}
 use Rattle.std.specs.List.{All, AllByRecursion, list_all, list_any}
+use Rattle.std.specs.List.Sorted.{IsStrictlySortedBy}
 use Rattle.std.specs.Str.{is_utf8}
 use Rattle.std.proofs.lemmas.Bool.{le-ltb, ltb-true}
 use Rattle.std.proofs.lemmas.Int.{ints}
@@ -26,9 +27,10 @@ use Rattle.block_model.specs.declared.keys.Key.{Key}
 use Rattle.block_model.proofs.Distinct.{right_true}
 use Rattle.block_model.proofs.FieldLaws.{IsRising}
 use Rattle.byte_format.proofs.Cases.{both_true}
-use Rattle.log_model.specs.Field.{Field, IsFieldList, is_empty, is_filled, is_reserved, set_all, weight}
+use Rattle.log_model.specs.Field.{Field, IsFieldList, bytes_cmp, is_empty, is_filled, is_reserved, set_all, weight}
 use Rattle.log_model.specs.History.{Numbered}
 use Rattle.log_model.specs.Row.{has_field}
+use Rattle.vl_row.specs.Place.{IsInOrder}
 use Rattle.word_filter.specs.Words.{filter_of}
 use Rattle.block_reading.specs.ByColumns.{AreBlockKeys, AreFew, AreGoodNames, AreLight, IsFilled, IsFitKey, bare}
 use Rattle.block_reading.specs.ByColumns.{column_names, contents, filter_for, has_label, head_by_keys, is_label, no_key}
@@ -448,3 +450,15 @@ said-by-columns found labels said same g ordered =
     ∙ ap (λ (l : List Field). rows_from l found.columns 0 found.keys) (sym same) in
     sym (rw said (ap in_order rows ∙ in-order-again (rows_from labels found.columns 0 found.keys) (ordered-bare labels
     found.columns 0 0 found.keys ∙ ordered)))
+
+-- ---- the order of the columns
+
+filter-names : (columns : List Column)
+    → map (λ (x : NamedFilter). x.0) (map filter_for columns) ≡ column_names columns
+filter-names [] = refl
+filter-names (c ∷ cs) = ap (λ (l : List (List ℕ)). c.0 ∷ l) (filter-names cs)
+
+pub heads-in-order : (columns : List Column) (heads : List NamedFilter) → IsStrictlySortedBy bytes_cmp (column_names columns)
+    → heads ≡ map filter_for columns → IsInOrder heads
+heads-in-order columns heads rising e =
+    subst IsInOrder (sym e) (subst (IsStrictlySortedBy bytes_cmp) (sym (filter-names columns)) rising)

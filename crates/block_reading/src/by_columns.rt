@@ -8,6 +8,7 @@ ghost use Rattle.block_format.specs.Columns.{HasRows};
 ghost use Rattle.block_format.specs.Reading.{rows_said};
 ghost use Rattle.block_model.specs.Columns.{rows_from};
 ghost use Rattle.log_model.specs.Field.{bytes_cmp};
+ghost use Rattle.vl_row.specs.Place.{IsInOrder};
 ghost use Rattle.block_reading.specs.ByColumns.{AreBlockKeys, AreFew, AreGoodNames, IsFilled};
 ghost use Rattle.block_reading.specs.ByColumns.{column_names, contents, filter_for, head_by_keys};
 ghost use Rattle.block_reading.specs.Seen.{AreGood, IsSeen};
@@ -16,7 +17,7 @@ use crate::keys::are_block_keys;
 use crate::labels::have_labels;
 use crate::names::are_block_names;
 use crate::sizes::weight_of;
-use block_body::{ColumnHead, Extent, Head, StoredRows, filter_of_held};
+use block_body::{ColumnHead, Extent, Head, Name, StoredRows, filter_of_held};
 use block_column::ValueColumn;
 use block_format::{MAX_CELLS, MAX_COLUMNS, MAX_ROWS, NamedColumn, Parts, stream_said};
 use block_model::Key;
@@ -124,6 +125,7 @@ fn head_of(
 ) -> Result<Head, AllocError>
     requires some { 0 < length keys.now }
     requires keys { AreBlockKeys keys.now }
+    requires order { IsInOrder heads.items }
     ensures { IfOk result (λ head. head ≡ head_by_keys stream keys.now weight heads.items) }
 {
     let first = keys[0];
@@ -168,5 +170,6 @@ fn filled_column(
 {
     let values = column.values.into_column(alloc)?;
     let bloom = filter_of_held(alloc, &values)?;
-    Ok((ColumnHead::new(column.name, bloom), values))
+    let name = Name::new(alloc, column.name)?;
+    Ok((ColumnHead::new(name, bloom), values))
 }

@@ -7,7 +7,7 @@ ghost use Rattle.block_format.specs.Columns.{HasRows};
 ghost use Rattle.block_format.specs.Reading.{block_writing, rows_said};
 
 use crate::by_columns::{block_of, seen_of};
-use block_body::StoredRows;
+use block_body::{ColumnNames, StoredRows};
 use block_format::{Parts, is_block, rows_said, take_parts};
 use block_model::lend;
 use byte_format::{Spelled, Stop};
@@ -92,7 +92,8 @@ fn block_by_rows(alloc: Global, parts: &Parts) -> Result<Option<StoredRows>, All
     if !is_block(alloc, lent.as_slice())? {
         return Ok(None);
     }
-    let made = StoredRows::of_lent(alloc, lent.as_slice())?;
+    let mut names = ColumnNames::new(alloc);
+    let made = StoredRows::of_lent(alloc, lent.as_slice(), &mut names)?;
     made.rules();
     Ok(Some(made))
 }

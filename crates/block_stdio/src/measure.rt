@@ -3,7 +3,7 @@ ghost use Rattle.std.specs.Prelude.{◌<◌};
 ghost use Rattle.block_format.specs.Rows.{IsBlock};
 
 use block_model::NumberedRef;
-use column_block::{Block, is_block};
+use column_block::{Block, ColumnNames, is_block};
 use ingest_row::{Options, batch_of_body};
 use std::alloc::{AllocError, Global};
 use std::cmp::Ordering;
@@ -131,7 +131,8 @@ fn make<C: Clock>(
     requires { IsBlock rows.now }
 {
     let start = Instant::now(clock)?;
-    let block = Block::of_lent(alloc, rows)?;
+    let mut names = ColumnNames::new(alloc);
+    let block = Block::of_lent(alloc, rows, &mut names)?;
     tally.made = tally.made.saturating_add(since(clock, start)?);
     Ok(block)
 }

@@ -4,7 +4,6 @@ use Rattle.std.proofs.Common.{filter, take, get_or, Option, Some, None, IfSome, 
 use Rattle.std.proofs.Common.{slice_get, unwrap_or}
 use Rattle.std.specs.Prelude.{bytes_eq}
 use Rattle.std.specs.List.{AllByRecursion, list_any}
-use Rattle.std.specs.List.Sorted.{IsStrictlySortedBy}
 use Rattle.std.specs.Map.{lookup}
 use Rattle.std.proofs.lemmas.Bool.{false≢true}
 use Rattle.std.proofs.lemmas.List.{length-map, map_more}
@@ -13,7 +12,7 @@ use Rattle.std.proofs.lemmas.Option.{slice_get-get_or}
 use Rattle.std.proofs.lemmas.Slice.Eq.{bytes_eq-Decides}
 use Rattle.byte_format.proofs.Cases.{some_is}
 use Rattle.lent_row.specs.Cells.{cell_at, has_value}
-use Rattle.log_model.specs.Field.{Field, bytes_cmp, field_value, set_all, set_field}
+use Rattle.log_model.specs.Field.{Field, field_value, set_all, set_field}
 use Rattle.log_model.specs.History.{Numbered}
 use Rattle.block_model.specs.Columns.{names_of, row_of, values_of}
 use Rattle.block_model.specs.Keys.{IsNumbered, key_of, keys_of}
@@ -26,9 +25,9 @@ use Rattle.block_format.specs.Rows.{labels_of}
 use Rattle.block_body.specs.Outlines.{filter_named, outline_of}
 use Rattle.block_format.specs.Rows.{key_in}
 use Rattle.block_body.proofs.HeldLaws.{get-map}
+use Rattle.block_body.proofs.OutlineLaws.{all-names}
 use Rattle.column_block.specs.InColumns.{cells_in, no_row, row_at}
 use Rattle.vl_row.specs.Names.{is_among}
-use Rattle.vl_row.specs.Place.{IsInOrder}
 
 -- ---- elements
 
@@ -77,18 +76,6 @@ key-at rows i k lt f =
 
 -- ---- values
 
-pub values-at : (rows : List Numbered) (columns : List (List (List ℕ))) (c : ℕ) (v : List (List ℕ))
-    → columns ≡ map (values_of rows) (names_of rows) → c < length (names_of rows) → v ≡ get_or columns c v
-    → v ≡ values_of rows (get_or (names_of rows) c [])
-values-at rows columns c v h lt e =
-    e ∙ ap (λ (l : List (List (List ℕ))). get_or l c v) h
-    ∙ get-map (values_of rows) (names_of rows) c [] v lt
-
-names-again : (rows : List Numbered) (names : List (List ℕ))
-    → map (λ (column : NamedFilter). column.0) (map (filter_named rows) names) ≡ names
-names-again rows [] = refl
-names-again rows (name ∷ names) = ap (λ (l : List (List ℕ)). name ∷ l) (names-again rows names)
-
 pub column-count : (rows : List Numbered) (head : Outline) → head ≡ outline_of rows
     → length head.columns ≡ length (names_of rows)
 column-count rows head h = ap (λ (o : Outline). length o.columns) h ∙ length-map (names_of rows) (filter_named rows)
@@ -123,15 +110,6 @@ pub value-missing : (rows : List Numbered) (i : ℕ) (name : List ℕ) (n : Numb
 value-missing rows i name n e none =
     unlisted n.row.fields (names_of rows) name
     (all-at (λ (m : Numbered). AreListed m.row.fields (names_of rows)) rows i n (are-named rows) e) none
-
--- the names of the columns
-pub all-names : (rows : List Numbered) (head : Outline) → head ≡ outline_of rows
-    → map (λ (column : NamedFilter). column.0) head.columns ≡ names_of rows
-all-names rows head h =
-    ap (λ (o : Outline). map (λ (column : NamedFilter). column.0) o.columns) h ∙ names-again rows (names_of rows)
-
-pub in-order : (rows : List Numbered) (head : Outline) → head ≡ outline_of rows → IsInOrder head.columns
-in-order rows head h = subst (IsStrictlySortedBy bytes_cmp) (sym (all-names rows head h)) (names-rising rows)
 
 pub name-at : (rows : List Numbered) (head : Outline) (c : ℕ) (name : List ℕ) → head ≡ outline_of rows
     → c < length (names_of rows) → slice_get (map (λ (column : NamedFilter). column.0) head.columns) c ≡ Some name

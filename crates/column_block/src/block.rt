@@ -15,7 +15,7 @@ ghost use Rattle.column_block.specs.Answers.{AnswersAs, IsPlaceOf};
 use crate::fault::{BlockFault, fault_of};
 use crate::open::Open;
 use crate::steps::Steps;
-use block_body::{Head, StoredRows};
+use block_body::{ColumnNames, Head, StoredRows};
 use block_model::{NumberedRef, lend};
 use block_reading::Items;
 use byte_format::read_exactly;
@@ -48,17 +48,22 @@ impl Block {
         ensures rules { IfOk result (λ block. AllByRecursion IsNumbered rows.now) }
     {
         let lent = lend(alloc, rows)?;
-        let block = Block::of_lent(alloc, lent.as_slice())?;
+        let mut names = ColumnNames::new(alloc);
+        let block = Block::of_lent(alloc, lent.as_slice(), &mut names)?;
         Ok(block)
     }
 
-    /// A block of these rows, which are lent.
-    pub fn of_lent(alloc: Global, rows: &[NumberedRef<'_>]) -> Result<Block, AllocError>
+    /// A block of these rows, which are lent. The names of the columns are shared with the last block if they can be.
+    pub fn of_lent(
+        alloc: Global,
+        rows: &[NumberedRef<'_>],
+        names: &mut ColumnNames,
+    ) -> Result<Block, AllocError>
         requires { IsBlock rows.now }
         ensures rows { IfOk result (λ block. block ≡ rows.now) }
         ensures rules { IfOk result (λ block. AllByRecursion IsNumbered rows.now) }
     {
-        let stored = StoredRows::of_lent(alloc, rows)?;
+        let stored = StoredRows::of_lent(alloc, rows, names)?;
         Ok(Block { stored })
     }
 

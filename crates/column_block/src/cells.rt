@@ -18,8 +18,7 @@ pub(crate) fn value_in(stored: &StoredRows, i: usize, c: usize) -> Value<'_>
     ensures { slice_get (values_of stored.now (slice_index_or (names_of stored.now) c [])) i
         ≡ Some (value_text result) }
 {
-    let columns = stored.columns();
-    columns[c].value(i)
+    stored.value(i, c)
 }
 
 /// The value of a row in the column of this name, and empty if there is none.

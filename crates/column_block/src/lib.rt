@@ -9,7 +9,7 @@ mod open_row;
 mod steps;
 
 pub use block::Block;
-pub use block_body::Head;
+pub use block_body::{ColumnNames, Head};
 pub use block_format::is_block;
 pub use fault::BlockFault;
 pub use lent_row::Value;

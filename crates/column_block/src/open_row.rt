@@ -19,6 +19,8 @@ pub struct OpenRow<'a> {
     place: usize,
 }
 
+const _: () = prove!(std::mem::size_of::<OpenRow<'_>>() == 16);
+
 impl<'a> Model for OpenRow<'a> {
     ghost use Rattle.std.specs.Prelude.{◌<◌, length};
     ghost use Rattle.column_block.specs.InColumns.{InColumns, row_at};
@@ -37,6 +39,16 @@ impl<'a> OpenRow<'a> {
         ensures columns { result.names ≡ names_of stored.now }
     {
         OpenRow { stored, place }
+    }
+
+    /// The same row, lent once more.
+    pub fn copied(&self) -> OpenRow<'a>
+        ensures { result ≡ self.now }
+    {
+        OpenRow {
+            stored: self.stored,
+            place: self.place,
+        }
     }
 }
 

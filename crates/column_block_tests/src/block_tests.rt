@@ -7,7 +7,7 @@ ghost use Rattle.block_model.specs.Columns.{names_of};
 use crate::hex_tests::{bytes_of, push_digits};
 use crate::plain_tests::plain_text;
 use block_model::lend;
-use column_block::{Block, BlockFault, Head, Open, Steps, Value, is_block};
+use column_block::{Block, BlockFault, ColumnNames, Head, Open, Steps, Value, is_block};
 use lent_row::LentRow;
 use std::alloc::{AllocError, Global};
 use std::fmt::Write;
@@ -107,7 +107,8 @@ fn block_of(alloc: Global, rows: &[Numbered]) -> Result<Option<Block>, AllocErro
     if !is_block(alloc, lent.as_slice())? {
         return Ok(None);
     }
-    let block = Block::of_lent(alloc, lent.as_slice())?;
+    let mut names = ColumnNames::new(alloc);
+    let block = Block::of_lent(alloc, lent.as_slice(), &mut names)?;
     Ok(Some(block))
 }
 

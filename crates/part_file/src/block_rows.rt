@@ -8,7 +8,7 @@ ghost use Rattle.block_format.specs.Reading.{block_writing, has_spelling, rows_s
 use block_format::{Parts, is_block, rows_said, take_parts};
 use block_model::{column_names, lend, row_keys};
 use byte_format::{Spelled, Stop};
-use column_block::Block;
+use column_block::{Block, ColumnNames};
 use std::alloc::{AllocError, Global};
 use vl_row::Numbered;
 
@@ -101,7 +101,8 @@ fn put_rows(out: &mut Vec<u8>, rows: &[Numbered]) -> Result<(), AllocError>
     if !is_block(alloc, lent.as_slice())? {
         return Ok(());
     }
-    let block = Block::of_lent(alloc, lent.as_slice())?;
+    let mut names = ColumnNames::new(alloc);
+    let block = Block::of_lent(alloc, lent.as_slice(), &mut names)?;
     block.put(out)?;
     Ok(())
 }

@@ -7,7 +7,7 @@ ghost use Rattle.part_model.specs.Filling.{AreFilled, rows_in_blocks};
 ghost use Rattle.part_model.specs.Part.{IsPart, rows_weight};
 
 use block_model::NumberedRef;
-use column_block::Block;
+use column_block::{Block, ColumnNames};
 use part_model::block_end;
 use std::alloc::{AllocError, Global};
 use vl_row::{Batch, Row};
@@ -37,17 +37,18 @@ fn lent_rows(alloc: Global, rows: &[Row]) -> Result<Vec<NumberedRef<'_>>, AllocE
     Ok(lent)
 }
 
-/// The rows in blocks.
+/// The rows in blocks. Blocks next to each other share the names of their columns if these are the same.
 pub(crate) fn filled(alloc: Global, rows: &[NumberedRef<'_>]) -> Result<Vec<Block>, AllocError>
     requires { IsPart rows.now }
     ensures { IfOk result (λ blocks. AreFilled blocks.items rows.now) }
 {
     let mut blocks = Vec::new(alloc);
+    let mut names = ColumnNames::new(alloc);
     let mut start = 0;
     while start < rows.len() {
         let rest = &rows[start..];
         let end = block_end(alloc, rest)?;
-        let block = Block::of_lent(alloc, &rest[..end])?;
+        let block = Block::of_lent(alloc, &rest[..end], &mut names)?;
         blocks.push(block)?;
         start += end;
     }

@@ -1,4 +1,4 @@
-use Rattle.std.proofs.Common.{◌≡◌, ℤ, FitsSigned, ap, get_or, pos, rules, w64}
+use Rattle.std.proofs.Common.{ℤ, FitsSigned, ap, get_or, pos, rules, w64}
 use Rattle.std.proofs.lemmas.Int.{to_z-of_z}
 use Rattle.block_model.specs.declared.keys.Key.{Key}
 use Rattle.block_body.proofs.body.key_at.Goals as goal

@@ -1,7 +1,11 @@
 use Rattle.std.proofs.Common.{◌∙◌, ℕ, ap, length}
 use Rattle.block_reading.specs.ByColumns.{bytes_from, head_by_keys}
-use Rattle.block_reading.proofs.ByColumnsLaws.{all-lengths, held-by-columns}
+use Rattle.block_reading.proofs.ByColumnsLaws.{all-lengths, heads-in-order, held-by-columns}
 use Rattle.block_reading.proofs.by_columns.made_of.Goals as goal
+
+pub head_of-requires-clause-order : goal.head_of-requires-clause-order
+head_of-requires-clause-order c =
+    heads-in-order c.args.columns.items c.in_ok-heads.heads.items c.requires.good.rising c.in_ok-heads.ensures.heads
 
 pub held-requires : goal.held-requires
 held-requires c =

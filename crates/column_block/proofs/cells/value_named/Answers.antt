@@ -4,11 +4,9 @@ use Rattle.log_model.specs.Field.{field_value}
 use Rattle.log_model.specs.History.{Numbered}
 use Rattle.vl_row.specs.Names.{is_among}
 use Rattle.block_model.specs.Columns.{names_of}
-use Rattle.column_block.proofs.OpenLaws.{all-names, if-some, in-order, inside, name-at, value-missing, value-named}
+use Rattle.block_body.proofs.OutlineLaws.{all-names}
+use Rattle.column_block.proofs.OpenLaws.{if-some, inside, name-at, value-missing, value-named}
 use Rattle.column_block.proofs.cells.value_named.Goals as goal
-
-pub column_named-requires : goal.column_named-requires
-column_named-requires c = in-order c.args.stored.now c.head-head.result.now c.head-head.ensures.outline
 
 pub value_in-requires-clause-column : goal.value_in-requires-clause-column
 value_in-requires-clause-column c =

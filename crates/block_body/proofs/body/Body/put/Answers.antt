@@ -1,4 +1,4 @@
-use Rattle.std.proofs.Common.{◌≡◌, ◌++◌, ◌∙◌, List, ℕ, ap, arith, length, sym}
+use Rattle.std.proofs.Common.{◌≡◌, ◌++◌, ◌∙◌, List, ℕ, ap, arith, length}
 use Rattle.std.specs.Int.{w16, to_le_bytes}
 use Rattle.std.specs.List.{flat_map}
 use Rattle.std.proofs.lemmas.List.{length-map}
@@ -46,37 +46,33 @@ overflow_cast-len c =
 pub put_columns-requires-clause-filters : goal.put_columns-requires-clause-filters
 put_columns-requires-clause-filters c =
     let rows : List Numbered = rows_held c.args.head.now c.args.self.now c.args.batches.now in
-    filters-held rows c.column_heads.result.now c.as_slice.result.now (are-rows rows c.requires.held.each)
-    (c.column_heads.ensures ∙ ap (λ (o : Outline). o.columns) c.requires.held.head_is) (c.as_slice.ensures.value
-    ∙ c.requires.held.columns_are)
+    filters-held rows c.column_heads.result.now c.args.self.now.columns (are-rows rows c.requires.held.each)
+    (c.column_heads.ensures ∙ ap (λ (o : Outline). o.columns) c.requires.held.head_is) c.requires.held.columns_are
 
 pub returns : goal.returns
 returns c =
     let rows : List Numbered = rows_held c.args.head.now c.args.self.now c.args.batches.now in
     let keys : List Key = keys_in c.args.self.now c.args.batches.now in
     let out : List ℕ = c.args.out.now.items in
-    let columns : List (List (List ℕ)) = c.args.self.now.columns.items in
+    let columns : List (List (List ℕ)) = c.args.self.now.columns in
     let keys_len = keys-length c.args.self.now c.args.batches.now c.requires.even in
     let count : c.len.result ≡ length (keys_in c.args.self.now c.args.batches.now) = omega (
       arith,
       c.len.ensures,
       keys_len,
     ) in
-    let width : c.len-2.result ≡ length c.args.self.now.columns.items = omega (arith, c.len-2.ensures) in
+    let width : c.len-2.result ≡ length c.args.self.now.columns = omega (arith, c.len-2.ensures) in
     put-five c.args.out.now.items c.put_labels.new.out.items c.extend_from_slice.new.self.items
     c.extend_from_slice-2.new.self.items c.put_keys.new.out.items c.put_columns.new.out.items
     (labels_bytes c.stream.result.now) c.to_le_bytes.result c.to_le_bytes-2.result (keys_bytes keys)
-    (flat_map column_bytes (columns_in c.column_heads.result.now c.as_slice.result.now))
+    (flat_map column_bytes (columns_in c.column_heads.result.now c.args.self.now.columns))
     c.in_ok-put_labels.ensures c.in_ok-extend_from_slice.ensures.items c.in_ok-extend_from_slice-2.ensures.items
     c.in_ok-put_keys.ensures c.in_ok-put_columns.ensures
     ∙ ap (λ (b : List ℕ). out ++ (labels_bytes c.stream.result.now ++ (b ++ (c.to_le_bytes-2.result
-    ++ (keys_bytes keys ++ flat_map column_bytes (columns_in c.column_heads.result.now c.as_slice.result.now))))))
+    ++ (keys_bytes keys ++ flat_map column_bytes (columns_in c.column_heads.result.now c.args.self.now.columns))))))
     (c.to_le_bytes.ensures ∙ ap (to_le_bytes w16) count)
     ∙ ap (λ (b : List ℕ). out ++ (labels_bytes c.stream.result.now ++ (to_le_bytes w16 (length keys) ++ (b
-    ++ (keys_bytes keys ++ flat_map column_bytes (columns_in c.column_heads.result.now c.as_slice.result.now))))))
+    ++ (keys_bytes keys ++ flat_map column_bytes (columns_in c.column_heads.result.now c.args.self.now.columns))))))
     (c.to_le_bytes-2.ensures ∙ ap (to_le_bytes w16) width)
-    ∙ ap (λ (l : List (List (List ℕ))). out ++ (labels_bytes c.stream.result.now ++ (to_le_bytes w16 (length keys)
-    ++ (to_le_bytes w16 (length columns) ++ (keys_bytes keys ++ flat_map column_bytes (columns_in
-    c.column_heads.result.now l)))))) c.as_slice.ensures.value
     ∙ ap (λ (b : List ℕ). out ++ b) (spelled rows c.args.head.now keys columns c.stream.result.now
     c.column_heads.result.now c.requires.held c.stream.ensures c.column_heads.ensures)

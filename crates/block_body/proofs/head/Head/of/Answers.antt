@@ -1,9 +1,14 @@
-use Rattle.std.proofs.Common.{◌∙◌, FitsSigned, ap, length, pos, refl, rules, sym, of_z, to_z, w64}
+use Rattle.std.proofs.Common.{◌∙◌, FitsSigned, ap, length, pos, refl, rules, sym, of_z, subst, to_z, w64}
 use Rattle.std.proofs.lemmas.Int.{to_z-of_z}
 use Rattle.log_model.specs.History.{Numbered}
+use Rattle.vl_row.specs.Place.{IsInOrder}
 use Rattle.block_body.proofs.HeldLaws.{first-is, last-is}
-use Rattle.block_body.proofs.OutlineLaws.{outline-is}
+use Rattle.block_body.specs.Outlines.{outline_of}
+use Rattle.block_body.proofs.OutlineLaws.{in-order, outline-is}
 use Rattle.block_body.proofs.head.Head.of.Goals as goal
+
+pub new-requires : goal.new-requires
+new-requires c = subst IsInOrder (sym c.requires.columns) (in-order c.args.rows.now (outline_of c.args.rows.now) refl)
 
 pub returns : goal.returns
 returns c =

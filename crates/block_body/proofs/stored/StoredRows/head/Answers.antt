@@ -1,6 +1,5 @@
-use Rattle.std.proofs.Common.{◌∙◌, List, ap, subst, sym}
+use Rattle.std.proofs.Common.{◌∙◌, ap, subst, sym}
 use Rattle.block_format.specs.Rows.{IsBlock}
-use Rattle.log_model.specs.History.{Numbered}
 use Rattle.block_body.specs.Outline.{Outline}
 use Rattle.block_body.specs.Outlines.{IsSpan, outline_of}
 use Rattle.block_body.proofs.SpanLaws.{span}

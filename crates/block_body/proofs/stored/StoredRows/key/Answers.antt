@@ -1,4 +1,4 @@
-use Rattle.std.proofs.Common.{◌≡◌, ◌∙◌, List, ap, arith, length, slice_get, subst, sym}
+use Rattle.std.proofs.Common.{◌∙◌, List, ap, arith, length, slice_get, subst, sym}
 use Rattle.std.specs.Arc.{arc_value}
 use Rattle.std.proofs.lemmas.List.{length-map}
 use Rattle.block_model.specs.Keys.{key_of, keys_of}

@@ -1,4 +1,4 @@
-use Rattle.std.proofs.Common.{◌≡◌, ◌∙◌, ap, subst, sym}
+use Rattle.std.proofs.Common.{◌∙◌, ap, subst, sym}
 use Rattle.std.specs.Arc.{arc_value}
 use Rattle.block_body.specs.Held.{IsStored, rows_held}
 use Rattle.block_body.specs.Outline.{Outline}

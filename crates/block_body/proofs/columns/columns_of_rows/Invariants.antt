@@ -1,7 +1,7 @@
 use Rattle.std.proofs.Common.{◌≡◌, map, take}
 use Rattle.block_model.specs.Columns.{values_of}
 use Rattle.block_body.specs.Outlines.{filter_named}
-use Rattle.block_body.proofs.columns.columns_of.Given as goal
+use Rattle.block_body.proofs.columns.columns_of_rows.Given as goal
 
 abbrev pub invariant-loop-name : goal.invariant-loop-name
 invariant-loop-name l = record {
