@@ -3,35 +3,35 @@ ghost use Rattle.std.specs.Prelude.{◌≡◌, ◌<◌, IfErr, IfOk, List, lengt
 ghost use Rattle.std.specs.List.{All};
 ghost use Rattle.log_model.specs.History.{Numbered, rows_in};
 ghost use Rattle.lq_ast.specs.Evaluation.{row_limit, rows_that_hold};
-ghost use Rattle.lq_filter.specs.Tree.{moment_of, scanned};
+ghost use Rattle.lq_filter.specs.Tree.{condition_of};
 ghost use Rattle.matching_rows.specs.Found.{IsFound, row_there};
 ghost use Rattle.matching_rows.specs.Matches.{FailsFor, HaveMatches};
 
 use crate::fault::MatchFault;
 use crate::found::{Found, all_found, in_order};
 use column_block::{Open, OpenRow};
-use lq_filter::Scan;
+use lq_filter::Prepared;
 use std::alloc::{AllocError, Global};
 
-/// Returns the rows of opened blocks for which the filter holds, in the order of the history. No row is made: each is
-/// lent by its block.
+/// Returns the rows of opened blocks for which the filter holds at the moment `now`, in nanoseconds since 1970, in the
+/// order of the history. No row is made: each is lent by its block.
 pub fn matching_rows<'o>(
     alloc: Global,
-    scan: &mut Scan<'_>,
+    filter: &Prepared,
+    now: i64,
     opened: &[Open<'o>],
 ) -> Result<Vec<OpenRow<'o>>, MatchFault>
     ensures rows { IfOk result (λ rows. (history : List Numbered)
-        → HaveMatches (scanned scan.old) (moment_of scan.old) opened.now history
+        → HaveMatches (condition_of filter.now) now opened.now history
         → map (λ row. row.numbered.row) rows.items
-        ≡ rows_that_hold (scanned scan.old) (moment_of scan.old) (rows_in history)) }
+        ≡ rows_that_hold (condition_of filter.now) now (rows_in history)) }
     ensures few { IfOk result (λ rows. length rows.items < row_limit) }
     ensures fault { IfErr result (λ fault. (history : List Numbered)
-        → HaveMatches (scanned scan.old) (moment_of scan.old) opened.now history
-        → FailsFor (length (rows_that_hold (scanned scan.old) (moment_of scan.old) (rows_in history))) fault) }
-    ensures filter { scanned scan.new ≡ scanned scan.old }
-    ensures moment { moment_of scan.new ≡ moment_of scan.old }
+        → HaveMatches (condition_of filter.now) now opened.now history
+        → FailsFor (length (rows_that_hold (condition_of filter.now) now (rows_in history))) fault) }
 {
-    let found = in_order(all_found(alloc, scan, opened)?);
+    let mut scan = filter.scan(alloc, now);
+    let found = in_order(all_found(alloc, &mut scan, opened)?);
     let rows = rows_found(alloc, opened, found.as_slice())?;
     Ok(rows)
 }

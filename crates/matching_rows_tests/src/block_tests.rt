@@ -1,6 +1,6 @@
 //! Blocks of a line.
 use block_model::lend;
-use column_block::{Block, is_block};
+use column_block::{Block, ColumnNames, is_block};
 use std::alloc::{AllocError, Global};
 use vl_row::{FieldList, Numbered, Row, Text};
 
@@ -17,7 +17,8 @@ pub(crate) fn block_of(alloc: Global, text: &str) -> Result<Option<Block>, Alloc
     if !is_block(alloc, lent.as_slice())? {
         return Ok(None);
     }
-    let block = Block::of_lent(alloc, lent.as_slice())?;
+    let mut names = ColumnNames::new(alloc);
+    let block = Block::of_lent(alloc, lent.as_slice(), &mut names)?;
     Ok(Some(block))
 }
 

@@ -3,7 +3,7 @@ use crate::block_tests::block_of;
 use column_block::{Block, OpenRow, Steps};
 use lent_row::{LentRow, Value};
 use lq_ast::Query;
-use lq_filter::{Scan, prepare};
+use lq_filter::{Prepared, prepare};
 use lq_parse::parse;
 use matching_rows::matching_rows;
 use std::alloc::{AllocError, Global};
@@ -20,7 +20,7 @@ pub(crate) fn answer(alloc: Global, line: &str) -> Result<String, AllocError> {
     };
     let query = read(alloc, query)?;
     match prepare(alloc, &query) {
-        Ok(prepared) => matched_text(alloc, &mut prepared.scan(alloc, 0), blocks.as_slice()),
+        Ok(prepared) => matched_text(alloc, &prepared, blocks.as_slice()),
         Err(fault) => format!(in alloc; "{fault:?}"),
     }
 }
@@ -45,17 +45,13 @@ fn blocks_of(alloc: Global, text: &str) -> Result<Option<Vec<Block>>, AllocError
 }
 
 /// Returns what is said of the rows that match.
-fn matched_text(
-    alloc: Global,
-    scan: &mut Scan<'_>,
-    blocks: &[Block],
-) -> Result<String, AllocError> {
+fn matched_text(alloc: Global, filter: &Prepared, blocks: &[Block]) -> Result<String, AllocError> {
     let mut steps = Steps::<Tests>::new();
     let mut opened = Vec::with_capacity(alloc, blocks.len())?;
     for block in blocks {
         opened.push(block.open(&mut steps))?;
     }
-    match matching_rows(alloc, scan, opened.as_slice()) {
+    match matching_rows(alloc, filter, 0, opened.as_slice()) {
         Ok(rows) => rows_text(alloc, rows.as_slice()),
         Err(fault) => format!(in alloc; "{fault:?}"),
     }

@@ -1,9 +1,10 @@
 -- The rows of a look that match, and what the pipes make of them.
-use Rattle.std.proofs.Common.{◌≡◌, ℕ, ℤ, suc, ◌<◌, ◌≤◌, List, [], ◌∷◌, ◌++◌, map, flat_map, length, arith, refl, sym, ap, ◌∙◌}
+use Rattle.std.proofs.Common.{◌≡◌, ℕ, ℤ, suc, ◌<◌, List, [], ◌∷◌, ◌++◌, map, flat_map, length, arith, refl, sym, ap, ◌∙◌}
 use Rattle.std.specs.Prelude.{Result, Ok, Err, IfOk, IfErr, IsErrAnd}
 use denote.Ref.{Bor}
 use Rattle.std.proofs.lemmas.Bool.{le-ltb, lt-ltb}
 use Rattle.std.proofs.lemmas.List.{length-map, map-append}
+use Rattle.std.specs.List.{AllByRecursion}
 use Rattle.log_model.specs.Core.{Contents, Stands, parts_of}
 use Rattle.log_model.specs.History.{History, Numbered, entry_rows, numbered, numbered_after, numbered_in, rows_in, rows_of}
 use Rattle.log_model.specs.Row.{Row, record_of}
@@ -11,13 +12,14 @@ use Rattle.log_model.proofs.Joining.{numbered_rising, parts_joined}
 use Rattle.log_model.proofs.Numbering.{rows_in_numbered}
 use Rattle.lq_ast.specs.Condition.{Condition}
 use Rattle.lq_ast.specs.Evaluation.{evaluate, piped_outcome, records, row_limit, rows_that_hold}
+use Rattle.lq_ast.specs.Patterns.{CanBeRead, all_patterns}
 use Rattle.lq_ast.specs.Pipes.{all_piped}
 use Rattle.lq_ast.specs.Question.{Question}
 use Rattle.lq_ast.specs.Records.{Record}
 use Rattle.matching_rows.specs.Matches.{FailsFor as FailsToMatch, HaveMatches, matches_in, rows_of_all}
 use Rattle.matching_rows.specs.declared.fault.MatchFault.{MatchFault}
 use Rattle.matching_rows.specs.declared.fault.MatchFault.TheVariants as matching
-use Rattle.query_run.specs.Answer.{FailsFor, FailsOver, FailsPiped, FailsQuery, IsAnswerOver, PrintsPiped}
+use Rattle.query_run.specs.Answer.{FailsMatching, FailsOver, FailsPiped, FailsRun, IsAnswerOver, PrintsPiped}
 use Rattle.query_run.specs.Answer.{gathering_fault, searching_fault}
 use Rattle.query_run.specs.declared.fault.SearchFault.{SearchFault}
 use Rattle.query_run.specs.declared.fault.SearchFault.TheVariants.{ManyRows, Overflow, Memory}
@@ -52,7 +54,7 @@ have_matches condition now opened held history same stands = record {
 -- why they are not gathered
 pub fails_gathered : (condition : Condition) (now : ℤ) (history : History) (fault : MatchFault)
     → FailsToMatch (length (rows_that_hold condition now (rows_in (numbered history)))) fault
-    → FailsFor (rows_that_hold condition now (rows_of history)) (gathering_fault fault)
+    → FailsMatching (rows_that_hold condition now (rows_of history)) (gathering_fault fault)
 fails_gathered condition now history matching.ManyRows many =
     let same = ap (λ rows. length (rows_that_hold condition now rows)) (rows_numbered history) in
     omega (arith, many, same)
@@ -94,7 +96,7 @@ lent_records row_of lent rows held are same =
 
 module _ (query : Question) (now : ℤ) (seen : List Row) where
   -- there are too many rows, or memory ran out
-  pub fails-gathering : (fault : SearchFault) → FailsFor (rows_that_hold query.condition now seen) fault
+  pub fails-gathering : (fault : SearchFault) → FailsMatching (rows_that_hold query.condition now seen) fault
       → FailsOver query now seen fault
   fails-gathering ManyRows h =
       rw (le-ltb (length (rows_that_hold query.condition now seen)) row_limit h) refl
@@ -124,8 +126,8 @@ module _ (query : Question) (now : ℤ) (seen : List Row) where
     fails Memory h = tt
 
   -- what stops a search stops its query
-  pub fails_query : (fault : SearchFault) → FailsOver query now seen fault
-      → FailsQuery query now seen (searching_fault fault)
-  fails_query ManyRows h = h
-  fails_query (Overflow name) h = h
-  fails_query Memory h = tt
+  pub fails_query : AllByRecursion CanBeRead (all_patterns query) → (fault : SearchFault)
+      → FailsOver query now seen fault → FailsRun query now seen (searching_fault fault)
+  fails_query readable ManyRows h = (readable, h)
+  fails_query readable (Overflow name) h = (readable, h)
+  fails_query readable Memory h = tt

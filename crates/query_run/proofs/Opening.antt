@@ -1,29 +1,66 @@
 -- Blocks that are opened one after another, and the steps that they count.
 use Rattle.std.proofs.Common.{◌≡◌, ℕ, zero, suc, ◌+◌, ◌-◌, ◌^◌, ◌<◌, ◌≤◌, List, [], ◌∷◌, ◌++◌, Some, flat_map, get_or}
-use Rattle.std.proofs.Common.{length, min, take, ap, sym, ◌∙◌, add-one, arith}
+use Rattle.std.proofs.Common.{drop, length, min, take, ap, sym, ◌∙◌, add-one, arith}
 use Rattle.std.proofs.lemmas.Grind.{flat_map-append}
-use Rattle.std.proofs.lemmas.List.{append-nil, append_assoc, length-append, take_more}
+use Rattle.std.proofs.lemmas.List.{append-nil, append_assoc, length-append, take-append-drop, take_more}
 use Rattle.std.proofs.lemmas.Option.{none-some}
 use Rattle.std.specs.List.{slice_get}
 use Rattle.log_model.specs.History.{Numbered}
 use Rattle.matching_rows.specs.Matches.{rows_of_all}
-use Rattle.query_run.specs.Opened.{Counts}
+use Rattle.lq_filter.specs.declared.fault.PrepareFault.{PrepareFault}
+use Rattle.lq_filter.specs.declared.fault.PrepareFault.TheVariants as preparing
+use Rattle.query_run.specs.Answer.{preparing_fault, searching_fault}
+use Rattle.query_run.specs.Opened.{Counts, CountsAtMost, CountsUntil, CountsUntilFault}
+use Rattle.query_run.specs.declared.fault.SearchFault.{SearchFault}
+use Rattle.query_run.specs.declared.fault.SearchFault.TheVariants.{ManyRows, Overflow, Memory}
 
 -- ---- steps
 
-pub counts_none : (old : ℕ) → Counts old 0 old
+pub counts_none : (old : ℕ) → old ≤ 2 ^ 64 - 1 → Counts old 0 old
 counts_none old fits = omega (arith, fits)
 
 pub counts_more : (old steps now new : ℕ) → Counts old steps now → new ≡ min (now + 1) (2 ^ 64 - 1)
     → Counts old (steps + 1) new
-counts_more old steps now new before is fits = let counted = before fits in omega (arith, counted, is, fits)
+counts_more old steps now new before is = omega (arith, before, is)
 
 pub counts_both : (old steps now more new : ℕ) → Counts old steps now → Counts now more new
     → Counts old (steps + more) new
-counts_both old steps now more new before after fits =
-    let counted = before fits in
-    let then = after (omega (arith, counted)) in
-    omega (arith, counted, then, fits)
+counts_both old steps now more new before after = omega (arith, before, after)
+
+-- some of the steps
+pub counts_some : (old steps all new : ℕ) → old ≤ 2 ^ 64 - 1 → Counts old steps new → steps ≤ all
+    → CountsAtMost old all new
+counts_some old steps all new fits counted few =
+    record { forward = omega (arith, fits, counted); within = omega (arith, counted, few) }
+
+pub counts_some_more : (old steps now more all new : ℕ) → old ≤ 2 ^ 64 - 1 → Counts old steps now
+    → CountsAtMost now more new → steps + more ≤ all → CountsAtMost old all new
+counts_some_more old steps now more all new fits before after few =
+    let forward = after.forward in let within = after.within in
+    record {
+      forward = omega (arith, fits, before, forward);
+      within = omega (arith, before, within, few);
+    }
+
+-- what a search that fails counted
+pub counts_until : (fault : SearchFault) (old blocks new : ℕ) → old ≤ 2 ^ 64 - 1 → Counts old blocks new
+    → CountsUntil fault old blocks new
+counts_until ManyRows old blocks new fits counted = counted
+counts_until (Overflow name) old blocks new fits counted = counted
+counts_until Memory old blocks new fits counted = counts_some old blocks blocks new fits counted (omega arith)
+
+pub counts_query : (fault : SearchFault) (old blocks new : ℕ) → CountsUntil fault old blocks new
+    → CountsUntilFault (searching_fault fault) old blocks new
+counts_query ManyRows old blocks new counted = counted
+counts_query (Overflow name) old blocks new counted = counted
+counts_query Memory old blocks new counted = counted
+
+-- nothing was opened
+pub counts_unprepared : (fault : PrepareFault) (old blocks new : ℕ) → old ≤ 2 ^ 64 - 1 → new ≡ old
+    → CountsUntilFault (preparing_fault fault) old blocks new
+counts_unprepared (preparing.RegexRefused nth) old blocks new fits same = same
+counts_unprepared preparing.Memory old blocks new fits same =
+    record { forward = omega (arith, same); within = omega (arith, same, fits) }
 
 -- ---- rows
 
@@ -61,3 +98,17 @@ pub length_more : {X A : Type 0} (f : X → List A) (parts : List X) (i : ℕ) (
     → length (flat_map f (take i parts)) + length (f part) ≡ length (flat_map f (take (i + 1) parts))
 length_more f parts i part is =
     sym (ap length (part_more f parts i part is) ∙ length-append (flat_map f (take i parts)) (f part))
+
+-- the first parts, and one more, have no more than all
+pub length_within : {X A : Type 0} (f : X → List A) (parts : List X) (i : ℕ) (part : X)
+    → slice_get parts i ≡ Some part
+    → length (flat_map f (take i parts)) + length (f part) ≤ length (flat_map f parts)
+length_within f parts i part is =
+    let rest = flat_map f (drop (i + 1) parts) in
+    omega (
+      arith,
+      length_more f parts i part is,
+      ap (λ l. length (flat_map f l)) (sym (take-append-drop (i + 1) parts)),
+      ap length (flat_map-append f (take (i + 1) parts) (drop (i + 1) parts)),
+      length-append (flat_map f (take (i + 1) parts)) rest,
+    )

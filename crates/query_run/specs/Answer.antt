@@ -1,9 +1,10 @@
 -- The answer to a query over rows, and why there is none.
-use Rattle.std.specs.Prelude.{◌≡◌, ℕ, ◌≤◌, ℤ, List, length, flat_map, Ok, Err}
+use Rattle.std.specs.Prelude.{◌≡◌, ℕ, ◌≤◌, ℤ, List, length, Ok, Err}
+use Rattle.std.specs.List.{AllByRecursion}
 use Rattle.log_model.specs.Print.{lines_text}
 use Rattle.log_model.specs.Row.{Row}
 use Rattle.lq_ast.specs.Evaluation.{evaluate, many_rows, overflow, records, row_limit}
-use Rattle.lq_ast.specs.Patterns.{all_patterns}
+use Rattle.lq_ast.specs.Patterns.{CanBeRead, all_patterns}
 use Rattle.lq_ast.specs.Pipes.{all_piped}
 use Rattle.lq_ast.specs.Question.{Question}
 use Rattle.lq_ast.specs.Records.{Record}
@@ -31,10 +32,10 @@ FailsOver query now rows (Overflow name) = evaluate query now rows ≡ overflow 
 FailsOver query now rows Memory = Unit {0}
 
 -- Why the rows that hold are not gathered.
-abbrev pub FailsFor : List Row → SearchFault → Type 0
-FailsFor rows ManyRows = row_limit ≤ length rows
-FailsFor rows (Overflow name) = ⊥
-FailsFor rows Memory = Unit {0}
+abbrev pub FailsMatching : List Row → SearchFault → Type 0
+FailsMatching rows ManyRows = row_limit ≤ length rows
+FailsMatching rows (Overflow name) = ⊥
+FailsMatching rows Memory = Unit {0}
 
 -- what a fault of gathering is to the caller of a query
 abbrev pub gathering_fault : MatchFault → SearchFault
@@ -62,9 +63,12 @@ FailsPiped stages rs ManyRows = ⊥
 FailsPiped stages rs (Overflow name) = all_piped stages rs ≡ Err name
 FailsPiped stages rs Memory = Unit {0}
 
--- Why a query gives no records over these rows. The expression with this number is the first that cannot be read.
-abbrev pub FailsQuery : Question → ℤ → List Row → RunFault → Type 0
-FailsQuery query now rows (running.RegexRefused nth) = IsFirstUnreadable (all_patterns query) nth
-FailsQuery query now rows running.ManyRows = FailsOver query now rows ManyRows
-FailsQuery query now rows (running.Overflow name) = FailsOver query now rows (Overflow name)
-FailsQuery query now rows running.Memory = Unit {0}
+-- Why a query gives no records over these rows. The expression with this number is the first that cannot be read. All
+-- can be read where the evaluation gives another cause.
+abbrev pub FailsRun : Question → ℤ → List Row → RunFault → Type 0
+FailsRun query now rows (running.RegexRefused nth) = IsFirstUnreadable (all_patterns query) nth
+FailsRun query now rows running.ManyRows =
+    AllByRecursion CanBeRead (all_patterns query) × FailsOver query now rows ManyRows
+FailsRun query now rows (running.Overflow name) =
+    AllByRecursion CanBeRead (all_patterns query) × FailsOver query now rows (Overflow name)
+FailsRun query now rows running.Memory = Unit {0}

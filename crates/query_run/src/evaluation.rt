@@ -6,12 +6,12 @@ ghost use Rattle.log_model.specs.History.{History, rows_of};
 ghost use Rattle.log_model.specs.Print.{lines_text};
 ghost use Rattle.log_model.specs.Row.{record_of};
 ghost use Rattle.lq_ast.specs.Evaluation.{evaluate, records, row_limit};
-ghost use Rattle.lq_ast.specs.Patterns.{CanBeRead, patterns_of_stage};
+ghost use Rattle.lq_ast.specs.Patterns.{CanBeRead, all_patterns, patterns_of_stage};
 ghost use Rattle.lq_ast.specs.PipeView.{stage};
 ghost use Rattle.lq_ast.specs.Pipes.{all_piped};
 ghost use Rattle.lq_ast.specs.Question.{question};
-ghost use Rattle.query_run.specs.Answer.{FailsOver, FailsPiped, FailsQuery, IsAnswerOver, PrintsPiped};
-ghost use Rattle.query_run.specs.Opened.{Counts, block_count};
+ghost use Rattle.query_run.specs.Answer.{FailsOver, FailsPiped, FailsRun, IsAnswerOver, PrintsPiped};
+ghost use Rattle.query_run.specs.Opened.{Counts, CountsUntilFault, block_count};
 
 use crate::fault::{RunFault, SearchFault};
 use crate::matched::rows_matched;
@@ -23,7 +23,7 @@ use lq_filter::prepare;
 use lq_pipes::{PipeFault, Printer, apply_rows, lines};
 use lq_tuple::HashSeed;
 use part_file::Part;
-use std::alloc::{AllocError, AllocGlobal, Global};
+use std::alloc::{AllocError, Global};
 use std::random::RandomSource;
 use vl_row::{Recs, Text};
 
@@ -33,8 +33,9 @@ struct Answered;
 
 /// Returns the records that a query finds at the moment `now`, in nanoseconds since 1970, over what a look has. All
 /// blocks are opened, each as one step of the counter. Hashes with a random seed.
-pub fn run_query<R: AllocGlobal + RandomSource, L>(
+pub fn run_query<R: RandomSource, L>(
     rt: &R,
+    alloc: Global,
     snapshot: &Snapshot<Part>,
     query: &Query,
     now: i64,
@@ -43,10 +44,13 @@ pub fn run_query<R: AllocGlobal + RandomSource, L>(
     ensures found { IfOk result (λ found. (history : History) → Stands (λ rows. rows) snapshot.now history
         → evaluate (question query.now) now (rows_of history) ≡ records found) }
     ensures fault { IfErr result (λ fault. (history : History) → Stands (λ rows. rows) snapshot.now history
-        → FailsQuery (question query.now) now (rows_of history) fault) }
+        → FailsRun (question query.now) now (rows_of history) fault) }
+    ensures readable { IfOk result (λ found. AllByRecursion CanBeRead (all_patterns (question query.now))) }
     ensures steps { OnOk result (Counts steps.old (block_count (parts_of snapshot.now)) steps.new) }
+    ensures fault_steps { IfErr result (λ fault.
+        CountsUntilFault fault steps.old (block_count (parts_of snapshot.now)) steps.new) }
 {
-    let alloc = rt.alloc();
+    let _ = steps.count();
     let filter = prepare(alloc, query)?;
     let rows = rows_matched(alloc, &filter, now, snapshot, steps)?;
     let lent = lent_rows(alloc, rows.as_slice())?;

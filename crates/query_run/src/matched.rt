@@ -4,8 +4,8 @@ ghost use Rattle.log_model.specs.Core.{Stands, parts_of};
 ghost use Rattle.log_model.specs.History.{History, rows_of};
 ghost use Rattle.lq_ast.specs.Evaluation.{row_limit, rows_that_hold};
 ghost use Rattle.lq_filter.specs.Tree.{condition_of};
-ghost use Rattle.query_run.specs.Answer.{FailsFor};
-ghost use Rattle.query_run.specs.Opened.{Counts, block_count};
+ghost use Rattle.query_run.specs.Answer.{FailsMatching};
+ghost use Rattle.query_run.specs.Opened.{Counts, CountsUntil, block_count};
 
 use crate::fault::SearchFault;
 use crate::opened::open_blocks;
@@ -29,10 +29,11 @@ pub(crate) fn rows_matched<'s, L>(
         → map (λ row. row.numbered.row) rows.items ≡ rows_that_hold (condition_of filter.now) now (rows_of history)) }
     ensures few { IfOk result (λ rows. length rows.items < row_limit) }
     ensures fault { IfErr result (λ fault. (history : History) → Stands (λ rows. rows) snapshot.now history
-        → FailsFor (rows_that_hold (condition_of filter.now) now (rows_of history)) fault) }
+        → FailsMatching (rows_that_hold (condition_of filter.now) now (rows_of history)) fault) }
     ensures steps { OnOk result (Counts steps.old (block_count (parts_of snapshot.now)) steps.new) }
+    ensures fault_steps { IfErr result (λ fault.
+        CountsUntil fault steps.old (block_count (parts_of snapshot.now)) steps.new) }
 {
     let opened = open_blocks(alloc, snapshot, steps)?;
-    let mut scan = filter.scan(alloc, now);
-    Ok(matching_rows(alloc, &mut scan, opened.as_slice())?)
+    Ok(matching_rows(alloc, filter, now, opened.as_slice())?)
 }

@@ -3,7 +3,7 @@ ghost use Rattle.std.specs.Prelude.{◌≡◌, ◌++◌, IfOk, OnOk, flat_map, l
 ghost use Rattle.log_model.specs.Core.{parts_of};
 ghost use Rattle.matching_rows.specs.Matches.{rows_of_all};
 ghost use Rattle.part_model.specs.Filling.{blocks_of};
-ghost use Rattle.query_run.specs.Opened.{Counts, block_count};
+ghost use Rattle.query_run.specs.Opened.{Counts, CountsAtMost, block_count};
 
 use column_block::{Open, Steps};
 use log_core::Snapshot;
@@ -19,7 +19,9 @@ pub(crate) fn open_blocks<'s, L>(
     ensures rows { IfOk result (λ opened. rows_of_all opened.items
         ≡ flat_map (λ rows. rows) (parts_of snapshot.now)) }
     ensures steps { OnOk result (Counts steps.old (block_count (parts_of snapshot.now)) steps.new) }
+    ensures few_steps { CountsAtMost steps.old (block_count (parts_of snapshot.now)) steps.new }
 {
+    let _ = steps.count();
     let mut opened = Vec::new(alloc);
     for part in 0..snapshot.len() {
         open_part(snapshot.part(part), steps, &mut opened)?;
@@ -35,7 +37,9 @@ fn open_part<'s, L>(
 ) -> Result<(), AllocError>
     ensures rows { OnOk result (rows_of_all opened.new.items ≡ rows_of_all opened.old.items ++ part.now) }
     ensures steps { OnOk result (Counts steps.old (length (blocks_of part.now)) steps.new) }
+    ensures few_steps { CountsAtMost steps.old (length (blocks_of part.now)) steps.new }
 {
+    let _ = steps.count();
     let blocks = part.blocks();
     opened.reserve(blocks.len())?;
     for block in blocks {

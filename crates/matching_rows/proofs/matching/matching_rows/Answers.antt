@@ -1,8 +1,9 @@
-use Rattle.std.proofs.Common.{◌∙◌, ap, arith, length, map, subst, sym}
+use Rattle.std.proofs.Common.{◌∙◌, FitsSigned, ap, arith, length, map, subst, sym, w64}
+use Rattle.std.proofs.lemmas.Int.{to_z-of_z}
 use Rattle.std.proofs.lemmas.List.{length-map}
 use Rattle.std.proofs.lemmas.List.Sorted.{All-permutation, length_permutation}
 use Rattle.std.specs.List.{All}
-use Rattle.lq_filter.specs.Tree.{moment_of, scanned}
+use Rattle.lq_filter.specs.Tree.{condition_of}
 use Rattle.matching_rows.specs.Found.{IsFound, row_there}
 use Rattle.matching_rows.specs.Matches.{FailsFor}
 use Rattle.matching_rows.proofs.Finding.{if_err, rows_of}
@@ -18,11 +19,14 @@ rows_found-requires c =
 pub returns-clause-rows : goal.returns-clause-rows
 returns-clause-rows c = λ history of.
     let opened = c.args.opened.now in
+    let fits : FitsSigned w64 c.args.now = c.ranges.now in
+    let found = simp to_z-of_z at (rw c.scan-scan.ensures.moment at
+    (rw c.scan-scan.ensures.filter at c.in_ok-all_found.ensures.rows)) in
     rows_of c.in_ok-rows.rows.items
     ∙ ap (map (λ row. row.row))
     (c.in_ok-rows.ensures ∙ ap (map (row_there opened)) c.as_slice.ensures.value)
-    ∙ answered (scanned c.args.scan.now) (moment_of c.args.scan.now) opened history of
-    _ c.in_order-found.result.items c.in_ok-all_found.ensures.rows
+    ∙ answered (condition_of c.args.filter.now) c.args.now opened history of
+    _ c.in_order-found.result.items found
     c.in_order-found.ensures.same
     (All-permutation (IsFound opened) _ _ c.in_order-found.ensures.same c.in_ok-all_found.ensures.each)
     c.in_order-found.ensures.sorted
@@ -41,8 +45,10 @@ returns-clause-few c =
 
 pub returns-in_err-all_found-clause-fault : goal.returns-in_err-all_found-clause-fault
 returns-in_err-all_found-clause-fault c =
-    let condition = scanned c.args.scan.now in
-    let now = moment_of c.args.scan.now in
+    let fits : FitsSigned w64 c.args.now = c.ranges.now in
+    let failed = simp to_z-of_z at (rw c.scan-scan.ensures.moment at
+    (rw c.scan-scan.ensures.filter at c.in_err-all_found.ensures.fault)) in
     if_err c.from_residual.result _ _ c.from_residual.ensures.1
     (λ fault is history of. subst (FailsFor _) (sym is)
-    (fails condition now c.args.opened.now history of c.in_err-all_found.field-0.0 c.in_err-all_found.ensures.fault))
+    (fails (condition_of c.args.filter.now) c.args.now c.args.opened.now history of c.in_err-all_found.field-0.0
+    failed))

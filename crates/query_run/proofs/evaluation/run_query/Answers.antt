@@ -1,4 +1,4 @@
-use Rattle.std.proofs.Common.{◌≡◌, ◌∙◌, ◌<◌, FitsSigned, ap, arith, flat_map, length, map, subst, sym, w64}
+use Rattle.std.proofs.Common.{◌≡◌, ◌∙◌, ◌<◌, FitsSigned, ap, arith, flat_map, length, map, refl, subst, sym, w64}
 use Rattle.std.proofs.lemmas.Int.{to_z-of_z}
 use Rattle.std.specs.List.{AllByRecursion}
 use Rattle.std.proofs.lemmas.List.{length-map}
@@ -9,8 +9,11 @@ use Rattle.lq_ast.specs.Evaluation.{row_limit}
 use Rattle.lq_ast.specs.Patterns.{CanBeRead, patterns_of_stage}
 use Rattle.lq_ast.specs.PipeView.{stage}
 use Rattle.lq_ast.specs.Question.{question}
-use Rattle.query_run.specs.Answer.{FailsQuery}
-use Rattle.query_run.proofs.AnswerLemmas.{fails, fails_query, finds, if_err, lent_records}
+use Rattle.log_model.specs.Core.{parts_of}
+use Rattle.query_run.specs.Answer.{FailsRun}
+use Rattle.query_run.specs.Opened.{CountsUntilFault, block_count}
+use Rattle.query_run.proofs.Opening.{counts_query, counts_some, counts_unprepared, counts_until}
+use Rattle.query_run.proofs.AnswerLemmas.{fails, fails-gathering, fails_query, finds, if_err, lent_records}
 use Rattle.query_run.proofs.QueryLemmas.{readable_pipes}
 use Rattle.query_run.proofs.evaluation.run_query.Goals as goal
 
@@ -58,8 +61,50 @@ returns-in_err-made_of-clause-fault g c =
       length-map lent (λ row. record_of row.now.numbered.row),
     ) in
     if_err c.from_residual-in_err-made_of.result _ _ c.from_residual-in_err-made_of.ensures.1
-    (λ fault is history stands. subst (FailsQuery query c.args.now (rows_of history)) (sym is)
-    (fails_query query c.args.now (rows_of history) c.in_err-made_of.field-0.0
+    (λ fault is history stands. subst (FailsRun query c.args.now (rows_of history)) (sym is)
+    (fails_query query c.args.now (rows_of history) c.in_ok-filter.ensures.readable c.in_err-made_of.field-0.0
     (fails query c.args.now (rows_of history) _
     (lent_records (λ (row : OpenRow). row.numbered.row) lent c.in_ok-rows.rows.items _ same (rows history stands))
     few c.in_err-made_of.field-0.0 (rw stages at c.in_err-made_of.ensures.fault))))
+
+pub returns-in_err-rows-clause-fault : goal.returns-in_err-rows-clause-fault
+returns-in_err-rows-clause-fault g c =
+    let query = question c.args.query.now in
+    let fits : FitsSigned w64 c.args.now = c.ranges.now in
+    let failed = rw c.in_ok-filter.ensures.same at (simp to_z-of_z at c.in_err-rows.ensures.fault) in
+    if_err c.from_residual-in_err-rows.result _ _ c.from_residual-in_err-rows.ensures.1
+    (λ fault is history stands. subst (FailsRun query c.args.now (rows_of history)) (sym is)
+    (fails_query query c.args.now (rows_of history) c.in_ok-filter.ensures.readable c.in_err-rows.field-0.0
+    (fails-gathering query c.args.now (rows_of history) c.in_err-rows.field-0.0 (failed history stands))))
+
+pub returns-in_err-filter-clause-fault_steps : goal.returns-in_err-filter-clause-fault_steps
+returns-in_err-filter-clause-fault_steps g c =
+    let blocks = block_count (parts_of c.args.snapshot.now) in
+    if_err c.from_residual.result _ _ c.from_residual.ensures.1
+    (λ fault is. subst (λ f. CountsUntilFault f c.args.steps.now blocks c.args.steps.now) (sym is)
+    (counts_unprepared c.in_err-filter.field-0.0 c.args.steps.now blocks c.args.steps.now (omega arith) refl))
+
+pub returns-in_err-rows-clause-fault_steps : goal.returns-in_err-rows-clause-fault_steps
+returns-in_err-rows-clause-fault_steps g c =
+    let blocks = block_count (parts_of c.args.snapshot.now) in
+    if_err c.from_residual-in_err-rows.result _ _ c.from_residual-in_err-rows.ensures.1
+    (λ fault is. subst (λ f. CountsUntilFault f c.args.steps.now blocks c.rows_matched.new.steps) (sym is)
+    (counts_query c.in_err-rows.field-0.0 c.args.steps.now blocks c.rows_matched.new.steps
+    c.in_err-rows.ensures.fault_steps))
+
+pub returns-in_err-lent-clause-fault_steps : goal.returns-in_err-lent-clause-fault_steps
+returns-in_err-lent-clause-fault_steps g c =
+    let blocks = block_count (parts_of c.args.snapshot.now) in
+    if_err c.from_residual-in_err-lent.result _ _ c.from_residual-in_err-lent.ensures.1
+    (λ fault is. subst (λ f. CountsUntilFault f c.args.steps.now blocks c.rows_matched.new.steps) (sym is)
+    (counts_some c.args.steps.now blocks blocks c.rows_matched.new.steps (omega arith) c.in_ok-rows.ensures.steps
+    (omega arith)))
+
+pub returns-in_err-made_of-clause-fault_steps : goal.returns-in_err-made_of-clause-fault_steps
+returns-in_err-made_of-clause-fault_steps g c =
+    let blocks = block_count (parts_of c.args.snapshot.now) in
+    let fault = c.in_err-made_of.field-0.0 in
+    if_err c.from_residual-in_err-made_of.result _ _ c.from_residual-in_err-made_of.ensures.1
+    (λ f is. subst (λ f. CountsUntilFault f c.args.steps.now blocks c.rows_matched.new.steps) (sym is)
+    (counts_query fault c.args.steps.now blocks c.rows_matched.new.steps
+    (counts_until fault c.args.steps.now blocks c.rows_matched.new.steps (omega arith) c.in_ok-rows.ensures.steps)))

@@ -1,16 +1,16 @@
-use Rattle.std.proofs.Common.{◌≡◌, ◌∙◌, ◌∷◌, [], ◌++◌, ◌≤◌, ap, length, rules, subst, sym, take, arith}
+use Rattle.std.proofs.Common.{◌≡◌, ◌∙◌, ◌∷◌, [], ◌+◌, ◌++◌, ◌≤◌, ap, length, rules, subst, sym, take, arith}
 use Rattle.std.proofs.lemmas.List.{append-nil, take_all}
 use Rattle.matching_rows.specs.Matches.{rows_of_all}
 use Rattle.part_model.specs.Filling.{blocks_of}
 use Rattle.part_model.proofs.FillLaws.{filled-blocks}
 use Rattle.query_run.specs.Opened.{Counts}
-use Rattle.query_run.proofs.Opening.{block_more, counts_more, counts_none}
+use Rattle.query_run.proofs.Opening.{block_more, counts_more, counts_none, counts_some}
 use Rattle.query_run.proofs.opened.open_part.Goals as goal
 
 pub loop-block-init : goal.loop-block-init
 loop-block-init g c = record {
   rows = sym (append-nil (rows_of_all c.reserve.new.self.items));
-  steps = counts_none c.args.steps.now;
+  steps = counts_none c.args.steps.now (omega arith);
 }
 
 pub loop-block-preserved : goal.loop-block-preserved
@@ -38,3 +38,21 @@ returns-clause-steps g c =
     subst (λ n. Counts c.args.steps.now n c.loop-block.steps)
     (last ∙ ap length (filled-blocks blocks c.args.part.now c.blocks-blocks.ensures.filled))
     c.loop-block.invariant.steps
+
+pub returns-in_err-push-clause-few_steps : goal.returns-in_err-push-clause-few_steps
+returns-in_err-push-clause-few_steps g c =
+    let blocks = c.blocks-blocks.result.now in
+    let all = ap length (filled-blocks blocks c.args.part.now c.blocks-blocks.ensures.filled) in
+    counts_some c.args.steps.now (c.loop-block.block-index + 1) (length (blocks_of c.args.part.now)) c.open.new.steps
+    (omega arith)
+    (counts_more c.args.steps.now c.loop-block.block-index c.loop-block.steps c.open.new.steps
+    c.loop-block.invariant.steps c.open.ensures.steps)
+    (omega (arith, all, c.loop-block-test.true))
+
+pub returns-clause-few_steps : goal.returns-clause-few_steps
+returns-clause-few_steps g c =
+    let blocks = c.blocks-blocks.result.now in
+    let all = ap length (filled-blocks blocks c.args.part.now c.blocks-blocks.ensures.filled) in
+    let last : c.loop-block.block-index ≡ length blocks = search rules in
+    counts_some c.args.steps.now c.loop-block.block-index (length (blocks_of c.args.part.now)) c.loop-block.steps
+    (omega arith) c.loop-block.invariant.steps (omega (arith, all, last))
