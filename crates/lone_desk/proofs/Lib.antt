@@ -1,4 +1,5 @@
 pub mod AnswerLaws
 pub mod Laws
 pub mod InsertLaws
+pub mod ReadLaws
 pub use Rattle.vl_session.proofs.QueryLemmas

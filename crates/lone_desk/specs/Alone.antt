@@ -1,11 +1,14 @@
 -- A caller that is the only one of its desk.
-use Rattle.std.specs.Prelude.{◌≡◌, ℕ, List, [], ◌∷◌}
+use Rattle.std.specs.Prelude.{◌≡◌, ℕ, pos, List, [], ◌∷◌, Result, Ok, Err}
 use Rattle.log_model.specs.Row.{Batch}
 use Rattle.ingest_row.specs.Ingest.{Options}
+use Rattle.ingest_row.specs.Intake.{Outcome}
 use Rattle.log_desk.specs.Seen.{Caller, Follows, Gains, Seen}
+use Rattle.vl_session.specs.Incoming.{IsIncoming, IsNoBatch}
 use Rattle.vl_session.specs.Insertion.{IsInsertion, RefusesLines}
 pub use Rattle.log_desk.specs.Faults.{last_number}
 pub use Rattle.vl_session.specs.Seen.{Has, IsFull, batches_of_rows}
+pub use Rattle.vl_session.specs.declared.insert.Incoming.{Incoming}
 pub use Rattle.vl_session.specs.declared.insert.Insertion.{Insertion}
 use Rattle.vl_session.specs.declared.insert.InsertionFault.{InsertionFault}
 
@@ -32,3 +35,9 @@ InsertsAlone options now body old new insertion =
 abbrev pub RefusesAlone : Options → ℕ → List ℕ → Seen → Seen → InsertionFault → Type 0
 RefusesAlone options now body old new fault =
     (caller : Caller) × IsAlone caller × RefusesLines caller options now body old new fault
+
+-- what reading the lines of a body gives, before they are inserted
+abbrev pub IsReading : Options → ℕ → List ℕ → Result Incoming InsertionFault → Type 0
+IsReading options now body (Ok incoming) =
+    (outcomes : List Outcome) × IsIncoming options (pos now) body outcomes incoming
+IsReading options now body (Err fault) = IsNoBatch options (pos now) body fault

@@ -4,6 +4,7 @@ pub use Rattle.vl_session.specs.Answer
 pub use Rattle.vl_session.specs.Asked
 pub use Rattle.vl_session.specs.Evaluation
 pub use Rattle.vl_session.specs.Faults
+pub use Rattle.vl_session.specs.Incoming
 pub use Rattle.vl_session.specs.Insert
 pub use Rattle.vl_session.specs.Insertion
 pub use Rattle.vl_session.specs.Patterns

@@ -1,5 +1,6 @@
 //! The desk and its calls.
-ghost use Rattle.std.specs.Prelude.{◌≡◌, ◌≤ℤ◌, [], IfErr, IfOk, List, OnErr, OnOk, Some, length, pos, unsigned_abs};
+ghost use Rattle.std.specs.Prelude.{◌≡◌, ℕ, ◌≤ℤ◌, [], IfErr, IfOk, List, OnErr, OnOk, Some, length, pos, unsigned_abs};
+ghost use Rattle.ingest_row.specs.Ingest.{Options as Asked};
 ghost use Rattle.ingest_row.specs.Intake.{Outcome};
 ghost use Rattle.log_model.specs.History.{rows_of};
 ghost use Rattle.vl_session.specs.Asked.{IsReadableQuery};
@@ -9,7 +10,7 @@ ghost use Rattle.vl_session.specs.Answer.{IsSearchAnswer};
 ghost use Rattle.vl_session.specs.Insert.{CanBeBatch};
 ghost use Rattle.vl_session.specs.Seen.{HasRoom};
 ghost use Rattle.log_desk.specs.Faults.{Refuses};
-ghost use Rattle.lone_desk.specs.Alone.{FollowsAlone, GainsAlone, InsertsAlone, RefusesAlone};
+ghost use Rattle.lone_desk.specs.Alone.{FollowsAlone, GainsAlone, InsertsAlone, IsReading, RefusesAlone};
 
 use ingest_row::Options;
 use log_desk::{Desk, InsertFault, Pass};
@@ -19,8 +20,8 @@ use std::random::RandomSource;
 use std::sync::Wait;
 use vl_row::Batch;
 use vl_session::{
-    Access, Answer, AnswerFault, Insertion, InsertionFault, Search, SearchFault, answer_query,
-    insert_lines,
+    Access, Answer, AnswerFault, Incoming, Insertion, InsertionFault, Search, SearchFault,
+    answer_query, insert_lines,
 };
 
 /// A desk that is made for one pass, with that pass, so that no one else inserts.
@@ -101,6 +102,44 @@ impl<'d, R: Wait> LoneDesk<'d, R> {
             body,
         )
     }
+
+    /// Inserts what was read of a body before, as [`insert_lines`](LoneDesk::insert_lines) does with that body. Where
+    /// the body could not be read, that fault comes back.
+    pub fn insert_read(
+        &mut self,
+        read: Result<Incoming, InsertionFault>,
+    ) -> Result<Insertion, InsertionFault>
+        ensures inserted { (options : Asked) (now : ℕ) (body : List ℕ) → IsReading options now body read
+            → IfOk result (InsertsAlone options now body self.old self.new) }
+        ensures refused { (options : Asked) (now : ℕ) (body : List ℕ) → IsReading options now body read
+            → IfErr result (RefusesAlone options now body self.old self.new) }
+    {
+        match read {
+            Ok(incoming) => {
+                let access = Access {
+                    rt: self.rt,
+                    alloc: self.alloc,
+                    desk: &self.desk,
+                };
+                incoming.commit(&access, &mut self.pass)
+            }
+            Err(fault) => Err(fault),
+        }
+    }
+}
+
+/// Reads the lines of a body that came at the moment `now`, in nanoseconds since the start of 1970, for
+/// [`insert_read`](LoneDesk::insert_read). It needs no desk, so threads can read bodies side by side.
+pub fn read_lines(
+    alloc: Global,
+    options: &Options,
+    now: i64,
+    body: &[u8],
+) -> Result<Incoming, InsertionFault>
+    requires { pos 0 ≤ℤ now }
+    ensures { IsReading options.now (unsigned_abs now) body.now result }
+{
+    Incoming::read(alloc, options, now, body)
 }
 
 impl<R: Wait + RandomSource> LoneDesk<'_, R> {

@@ -3,7 +3,8 @@
 
 mod desk;
 
-pub use desk::LoneDesk;
+pub use desk::{LoneDesk, read_lines};
 pub use vl_session::{
-    Answer, AnswerFault, Insertion, InsertionFault, QueryRefusal, Search, SearchFault, read_query,
+    Answer, AnswerFault, Incoming, Insertion, InsertionFault, QueryRefusal, Search, SearchFault,
+    read_query,
 };

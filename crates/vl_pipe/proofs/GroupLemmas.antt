@@ -7,6 +7,7 @@ use Rattle.ingest_row.specs.Intake.{Outcome, passed_over, read, refused, rows_re
 use Rattle.lone_desk.specs.Alone.{batches_of_rows}
 use Rattle.vl_pipe.specs.Groups.{Arrival, AreGroups, EndsLine, HasOutcome, HaveOutcomes, batches_of, outcomes_in}
 use Rattle.vl_pipe.specs.Groups.{refusals_from, refusals_of, refusal_text}
+use Rattle.vl_pipe.specs.Load.{AreWhole}
 use Rattle.log_model.specs.Line.{lines_of}
 use Rattle.vl_pipe.proofs.LineLemmas.{lines_of-after}
 
@@ -65,9 +66,6 @@ pub refusals-more : (groups : List (List Outcome)) (group : List Outcome) (befor
 refusals-more groups group before same =
     ap (refusals_from 1) (outcomes-more groups group) ∙ refusals_from-append 1 (outcomes_in groups) group
     ∙ ap (λ n. refusals_from 1 (outcomes_in groups) ++ refusals_from n group) (omega (arith, same))
-
-abbrev pub AreWhole : List (List Outcome) → Type 0
-AreWhole groups = AllByRecursion (λ group. length group ≡ 1000) groups
 
 pub AreGroups-whole : (groups : List (List Outcome)) (over : Type 0) → AreWhole groups → AreGroups groups over
 AreGroups-whole [] over whole = tt

@@ -8,3 +8,4 @@ pub mod PipeLemmas
 pub mod RefusalLemmas
 pub mod RefusedLemmas
 pub mod WeightLemmas
+pub mod WindowLemmas

@@ -1,26 +1,25 @@
--- The loop that takes an input in, group by group.
+-- The loop that takes an input in, window by window.
 use Rattle.std.proofs.Common.{◌≡◌, ◌⊎◌, inl, inr, ℕ, ◌+◌, ◌-◌, ◌<◌, ◌≤◌, Bool, true, false, List, [], ◌∷◌, ◌++◌, length}
-use Rattle.std.proofs.Common.{take, max, Option, Ok, Err, refl, sym, ap, subst, ◌∙◌, arith, append_assoc, length-append}
+use Rattle.std.proofs.Common.{take, Option, Ok, Err, refl, sym, ap, subst, ◌∙◌, arith, append_assoc, length-append}
 use Rattle.std.proofs.Math.Seq.{take-append_seam}
 use Rattle.std.specs.List.{AllZip}
 use Rattle.std.specs.Prelude.{IfErr, IsErrAnd, Result, count_by}
 use Rattle.vl_io.specs.Bytes.{Appends, Consumes, IsAtEnd}
-use Rattle.vl_io.specs.Change.{Change, Gave, IsCut, IsSpent, Took}
-use Rattle.vl_io.specs.Faults.{Rose}
-use Rattle.vl_io.specs.Lines.{Advances, AreFewer, AreLines, FallsShort, IsGroup, IsOver, IsTooLong, Reading, bytes_read}
-use Rattle.vl_io.specs.Lines.{is_feed, piece_len}
+use Rattle.vl_io.specs.Change.{Change, IsCut, IsSpent}
+use Rattle.vl_io.specs.Lines.{Reading, is_feed, piece_len}
 use Rattle.vl_io.proofs.Laws.{Appends-nil, Appends-trans, Consumes-nil, Consumes-trans, Rose-earlier}
 use Rattle.log_model.specs.Line.{lines_of}
 use Rattle.log_model.specs.Row.{Batch, batch_limit, batch_weight}
 use Rattle.log_model.proofs.Lines.{lines_le, lines_of-none}
 use Rattle.ingest_row.specs.Intake.{Outcome, rows_read}
 use Rattle.lone_desk.specs.Seen.{Seen}
-use Rattle.vl_pipe.specs.Groups.{Arrival, AreGroups, BeginsWith, EndsLine, FitBatches, HasOutcome}
-use Rattle.vl_pipe.specs.Groups.{HaveOutcomes, batches_of, outcomes_in, refusals_from, refusals_of}
+use Rattle.vl_pipe.specs.Groups.{Arrival, AreGroups, BeginsWith, EndsLine, FitBatches, HasOutcome, HaveOutcomes}
+use Rattle.vl_pipe.specs.Groups.{batches_of, input_limit, outcomes_in, refusals_from, refusals_of}
 use Rattle.vl_pipe.specs.Program as model
 use Rattle.vl_pipe.specs.Program.{AreFew, HaveNoGroup, IsBeyond}
-use Rattle.vl_pipe.specs.Groups.{input_limit}
-use Rattle.vl_pipe.specs.Load.{IsHeld, IsLoaded, IsTooMuch, StopsGroup, StopsLoad, StopsUntold, TakesGroup}
+use Rattle.vl_pipe.specs.Load.{AreOpen, IsHeld, IsLoaded, IsTooMuch, IsUnderWay, Run, StopsGroup, StopsLoad}
+use Rattle.vl_pipe.specs.Load.{StopsUntold, TakesGroup, errors_of}
+use Rattle.vl_pipe.specs.Window.{AreTooMany, EndsWindow, GoesOn, IsBody, IsWindow, joined}
 use Rattle.vl_pipe.specs.Interrupt.{limit_of, interrupt_at}
 use Rattle.vl_io.specs.declared.transfer.ReadFault.{ReadFault}
 use Rattle.vl_io.specs.declared.transfer.ReadFault.TheVariants as faults
@@ -28,67 +27,75 @@ use Rattle.vl_pipe.specs.declared.interrupt.Limit.{Limit}
 use Rattle.vl_pipe.specs.declared.interrupt.Limit.TheVariants.{Long, Large, Full}
 use Rattle.vl_pipe.specs.declared.interrupt.Interrupt.{Interrupt}
 use Rattle.vl_pipe.specs.declared.interrupt.Interrupt.TheVariants.{Unreadable, Unwritable, Beyond, NoAnswer, NoMemory}
-use Rattle.vl_pipe.proofs.GroupLemmas.{append_nil, AllByRecursion-more, AllZip-length, AreGroups-more, AreGroups-weaken}
-use Rattle.vl_pipe.proofs.GroupLemmas.{AreGroups-whole, AreWhole, batches-more, intake-more, outcomes-more}
-use Rattle.vl_pipe.proofs.GroupLemmas.{refusals-more}
+use Rattle.vl_pipe.proofs.GroupLemmas.{AllByRecursion-more, AllZip-length, AreGroups-more, AreGroups-weaken}
+use Rattle.vl_pipe.proofs.GroupLemmas.{AreGroups-whole, batches-more, intake-more, outcomes-more, refusals-more}
 use Rattle.vl_pipe.proofs.HeldLemmas.{held_all}
 use Rattle.vl_pipe.proofs.LineLemmas.{length-lines_of, lines_few, lines_some}
+use Rattle.vl_pipe.proofs.WindowLemmas.{behind_bodies, few_enough, some_body}
 
 abbrev pub change : Option (List ℕ) → Option (List ℕ) → ℕ → ℕ → Change
 change before after faults_before faults_after =
     record { bytes_before = before; bytes_after = after; faults_before = faults_before; faults_after = faults_after }
 
+abbrev pub run_of : Arrival → List Batch → Change → Option (List ℕ) → ℕ → ℕ → List ℕ → Bool → Run
+run_of arrival opened source written faults place tail ended = record {
+  arrival = arrival;
+  opened = opened;
+  source = source;
+  written = written;
+  faults = faults;
+  place = place;
+  tail = tail;
+  ended = ended;
+}
+
 -- what is so at the start of each turn
-pub record Loading (arrival : Arrival) (opened : List Batch) (source errors : Change) (reader : Reading) (shelf : Seen)
+pub record Loading (arrival : Arrival) (opened : List Batch) (source errors : Change) (reader : Reading) (seen : Seen)
     (lines : ℕ) : Type 0 where
-  pub taken : List ℕ
-  pub groups : List (List Outcome)
-  pub gave : Gave source (taken ++ reader.ahead)
-  pub passed : reader.passed + length reader.group ≡ length taken
+  pub so : IsUnderWay
+      (run_of arrival opened source errors.bytes_before errors.faults_before (reader.passed + length reader.group)
+      reader.ahead reader.ended) [] errors.bytes_after errors.faults_after seen lines
   pub group_lines : reader.lines ≡ 1000
   pub limit : reader.limit ≡ input_limit
-  pub within : bytes_read reader ≤ input_limit
-  pub ahead : length reader.ahead ≤ piece_len
-  pub given : HaveOutcomes arrival taken (outcomes_in groups)
-  pub grouped : AreGroups groups (reader.ended ≡ true)
-  pub open_ends : reader.ended ≡ false → EndsLine taken
-  pub open_whole : reader.ended ≡ false → AreWhole groups
-  pub open_lines : reader.ended ≡ false → lines ≡ length (outcomes_in groups)
-  pub over : reader.ended ≡ true → IsSpent source × (reader.ahead ≡ [])
-  pub few : lines ≤ length taken + 1000
-  pub light : FitBatches groups
-  pub held : IsHeld opened shelf (batches_of groups)
-  pub named : Took errors (refusals_of groups)
-  pub source_stays : source.faults_before ≤ source.faults_after
-  pub errors_stay : errors.faults_before ≤ errors.faults_after
+  pub short : length reader.ahead ≤ piece_len
+  pub closed : reader.ended ≡ true → reader.ahead ≡ []
+  pub stays : source.faults_before ≤ source.faults_after
+
+never : false ≡ true → ⊥
+never e = cc
 
 pub loading_starts : (arrival : Arrival) (opened : List Batch) (left : Option (List ℕ)) (s : ℕ) (err : Option (List ℕ))
-    (f : ℕ) (reader : Reading) (shelf : Seen)
+    (f : ℕ) (reader : Reading) (seen : Seen)
     → reader ≡ record { lines = 1000; limit = input_limit; passed = 0; group = []; ahead = []; ended = false }
-    → IsHeld opened shelf []
-    → Loading arrival opened (change left left s s) (change err err f f) reader shelf 0
-loading_starts arrival opened left s err f reader shelf fresh held =
-    subst (λ r. Loading arrival opened (change left left s s) (change err err f f) r shelf 0) (sym fresh) (record {
-      taken = [];
-      groups = [];
-      gave = Consumes-nil left;
-      passed = refl;
+    → IsHeld opened seen []
+    → Loading arrival opened (change left left s s) (change err err f f) reader seen 0
+loading_starts arrival opened left s err f reader seen fresh held =
+    subst (λ r. Loading arrival opened (change left left s s) (change err err f f) r seen 0) (sym fresh) (record {
+      so = record {
+        taken = [];
+        groups = [];
+        behind = 0;
+        gave = Consumes-nil left;
+        placed = refl;
+        within = omega arith;
+        are = tt;
+        few = omega arith;
+        tail_few = inl (omega arith);
+        given = subst (λ ls. AllZip (HasOutcome arrival) ls []) (sym lines_of-none) tt;
+        grouped = tt;
+        stage = inl (record { ends = inl refl; whole = tt; counted = refl });
+        spent = λ e. absurd (never e);
+        few_lines = omega arith;
+        light = tt;
+        held = held;
+        named = Appends-nil err;
+        stays = omega arith;
+      };
       group_lines = refl;
       limit = refl;
-      within = omega arith;
-      ahead = omega arith;
-      given = subst (λ ls. AllZip (HasOutcome arrival) ls []) (sym lines_of-none) tt;
-      grouped = tt;
-      open_ends = λ _. inl refl;
-      open_whole = λ _. tt;
-      open_lines = λ _. refl;
-      over = λ e. cc;
-      few = omega arith;
-      light = tt;
-      held = held;
-      named = Appends-nil err;
-      source_stays = omega arith;
-      errors_stay = omega arith;
+      short = omega arith;
+      closed = λ e. absurd (never e);
+      stays = omega arith;
     })
 
 -- what holds of an error holds of what it became
@@ -97,452 +104,405 @@ pub if_err : {T E : Type 0} (result : Result T E) (Q P : E → Type 0) → IsErr
 if_err (Ok x) Q P is f = tt
 if_err (Err e) Q P is f = f e is
 
-abbrev pub Advanced : Option (List ℕ) → Option (List ℕ) → Reading → Reading → Type 0
-Advanced old new reader next = (piece : List ℕ) × Consumes old new piece × Advances reader next piece
-
-not_true : (b : Bool) → (b ≡ true → ⊥) → b ≡ false
-not_true true f = absurd (f refl)
-not_true false f = refl
-
--- a reader that gave a group, or failed, had not ended
-pub still_open : {E : Type 0} (ended : Bool) (X : Type 0) (result : Result Bool E) → (result ≡ Ok false → ⊥) →
-    (ended ≡ true → X × (result ≡ Ok false)) → ended ≡ false
-still_open ended X result other idle = not_true ended (λ e. other (idle e).1)
+-- ---- a group
 
 -- the sizes of a group
-record Sizes (next : Reading) (group : List Outcome) : Type 0 where
+record Sizes (body rest : List ℕ) (ended : Bool) (group : List Outcome) : Type 0 where
   some : 0 < length group
   few : length group ≤ 1000
-  full : (length group ≡ 1000) ⊎ (next.ended ≡ true)
-  feeds : count_by is_feed next.group ≤ 1000
-  open_full : next.ended ≡ false → length group ≡ 1000
-  open_ends : next.ended ≡ false → (text : List ℕ) × (next.group ≡ text ++ 10 ∷ [])
+  full : (length group ≡ 1000) ⊎ ((rest ≡ []) × (ended ≡ true))
 
-sizes : (arrival : Arrival) (next : Reading) (group : List Outcome) → next.lines ≡ 1000 → IsGroup next
-    → HaveOutcomes arrival next.group group → Sizes next group
-sizes arrival next group lines (inl whole) given =
+sizes : (arrival : Arrival) (body rest : List ℕ) (ended : Bool) (group : List Outcome) → IsBody ended body rest
+    → HaveOutcomes arrival body group → Sizes body rest ended group
+sizes arrival body rest ended group (inl whole) given =
     let full : length group ≡ 1000 = omega (
       arith,
-      AllZip-length (HasOutcome arrival) (lines_of next.group) group given,
-      length-lines_of next.lines next.group whole,
-      lines,
+      AllZip-length (HasOutcome arrival) (lines_of body) group given,
+      length-lines_of 1000 body whole,
     ) in
+    record { some = omega (arith, full); few = omega (arith, full); full = inl full }
+sizes arrival body rest ended group (inr short) given =
+    let same = AllZip-length (HasOutcome arrival) (lines_of body) group given in
     record {
-      some = omega (arith, full);
-      few = omega (arith, full);
-      full = inl full;
-      feeds = omega (arith, whole.feeds, lines);
-      open_full = λ _. full;
-      open_ends = λ _. (whole.front, whole.ends);
+      some = omega (arith, same, lines_some body short.0);
+      few = omega (arith, same, lines_few body, short.1);
+      full = inr (short.2, short.3);
     }
-sizes arrival next group lines (inr short) given =
-    let same = AllZip-length (HasOutcome arrival) (lines_of next.group) group given in
-    record {
-      some = omega (arith, same, lines_some next.group short.0);
-      few = omega (arith, same, lines_few next.group, short.1, lines);
-      full = inr short.3;
-      feeds = omega (arith, short.1, lines);
-      open_full = λ e. let ended = short.3 in cc;
-      open_ends = λ e. let ended = short.3 in cc;
-    }
-
-ends_more : (taken body : List ℕ) → (text : List ℕ) × (body ≡ text ++ 10 ∷ []) → EndsLine (taken ++ body)
-ends_more taken body ends = inr
-    (taken ++ ends.0, ap (λ l. taken ++ l) ends.1 ∙ sym (append_assoc taken ends.0 (10 ∷ [])))
-
--- A group has some bytes, so less is left.
-pub less_left : (reader next : Reading) (piece : List ℕ) → reader.lines ≡ 1000 → Advances reader next piece
-    → IsGroup next → next.limit - (next.passed + length next.group) < reader.limit -
-    (reader.passed + length reader.group)
-less_left reader next piece lines advances (inl whole) =
-    omega (
-      arith,
-      advances.passed,
-      advances.limit,
-      advances.within,
-      ap length whole.ends,
-      length-append whole.front (10 ∷ []),
-    )
-less_left reader next piece lines advances (inr short) = omega
-    (arith, advances.passed, advances.limit, advances.within, short.0)
 
 -- a group has no more lines than it may
-pub lines_at_most : (next : Reading) → next.lines ≡ 1000 → IsGroup next → length (lines_of next.group) ≤ 1000
-lines_at_most next lines (inl whole) = omega (arith, length-lines_of next.lines next.group whole, lines)
-lines_at_most next lines (inr short) = omega (arith, lines_few next.group, short.1, lines)
+pub lines_at_most : (ended : Bool) (body rest : List ℕ) → IsBody ended body rest → length (lines_of body) ≤ 1000
+lines_at_most ended body rest (inl whole) = omega (arith, length-lines_of 1000 body whole)
+lines_at_most ended body rest (inr short) = omega (arith, lines_few body, short.1)
 
 light_more : (groups : List (List Outcome)) (group : List Outcome) → FitBatches groups
     → batch_weight (rows_read group) ≤ batch_limit → FitBatches (groups ++ group ∷ [])
 light_more groups group all light =
     AllByRecursion-more (λ g. batch_weight (rows_read g) ≤ batch_limit) groups group all light
 
--- whole groups, and whatever comes after them
-begins_whole : (arrival : Arrival) (source : Change) (taken rest : List ℕ) (groups : List (List Outcome)) → Gave source
-    (taken ++ rest) → length taken ≤ input_limit → EndsLine taken → AreWhole groups
-    → HaveOutcomes arrival taken (outcomes_in groups) → BeginsWith arrival source groups
-begins_whole arrival source taken rest groups gave within ends whole given = record {
-  taken = taken;
-  rest = rest;
-  gave = gave;
-  within = within;
-  whole = inl ends;
-  given = given;
-  grouped = AreGroups-whole groups ((rest ≡ []) × IsSpent source) whole;
-}
+-- the bytes of a body come before those of the others
+regroup : (taken body others tail : List ℕ) → taken ++ ((body ++ others) ++ tail) ≡ (taken ++ body) ++ (others ++ tail)
+regroup taken body others tail =
+    ap (λ b. taken ++ b) (append_assoc body others tail) ∙ sym (append_assoc taken body (others ++ tail))
 
--- what was read after the groups, where the next one is of these bytes
-behind : (taken group ahead before piece : List ℕ) → group ++ ahead ≡ before ++ piece → (taken ++ before) ++ piece
-    ≡ taken ++ (group ++ ahead)
-behind taken group ahead before piece e = append_assoc taken before piece ∙ ap (λ l. taken ++ l) (sym e)
+module _ (run : Run) (bodies : List (List ℕ)) (written : Option (List ℕ)) (faults : ℕ) (seen : Seen) (lines : ℕ)
+    (u : IsUnderWay run bodies written faults seen lines) where
+  begins_at : BeginsWith run.arrival run.source u.groups
+  begins_at = record {
+    taken = u.taken;
+    rest = joined bodies ++ run.tail;
+    gave = u.gave;
+    within = omega (arith, u.placed, u.within);
+    whole = whole u.stage;
+    given = u.given;
+    grouped = u.grouped;
+  }
+    where
+      whole : AreOpen u.taken u.groups lines ⊎ ((joined bodies ++ run.tail ≡ []) × (run.ended ≡ true))
+          → EndsLine u.taken ⊎ ((joined bodies ++ run.tail ≡ []) × IsSpent run.source)
+      whole (inl opened) = inl opened.ends
+      whole (inr over) = inr (over.0, u.spent over.1)
 
-module _ (arrival : Arrival) (opened : List Batch) (left0 left1 left2 : Option (List ℕ)) (s0 s1 s2 : ℕ)
-    (err0 err1 err2 : Option (List ℕ)) (f0 f1 f2 : ℕ) (reader next : Reading)
-    (old new : Seen) (lines : ℕ) where
-  abbrev Before : Type 0
-  Before = Loading arrival opened (change left0 left1 s0 s1) (change err0 err1 f0 f1) reader old lines
+  few_at : AreFew 8 (joined bodies ++ run.tail)
+  few_at = few_enough (length bodies + u.behind) 8 (joined bodies ++ run.tail) u.few (omega arith)
+      (behind_bodies run.ended bodies run.tail u.behind (length bodies + u.behind) refl u.are u.tail_few)
 
-  gave_more : (l : Before) → (advanced : Advanced left1 left2 reader next) → Consumes left0 left2
-      (l.taken ++ (next.group ++ next.ahead))
-  gave_more l advanced =
-      subst (Consumes left0 left2) (behind l.taken next.group next.ahead reader.ahead advanced.0 advanced.2.joined)
-      (Consumes-trans left0 left1 left2 _ _ l.gave advanced.1)
+  -- memory ran out, or a limit was met
+  stops_at : (stop : model.Stop) → model.IsCause run.arrival run.source u.groups begins_at stop
+      → (err : Option (List ℕ)) (now : ℕ) → err ≡ written
+      → StopsUntold run.arrival run.source (errors_of run err now) stop
+  unfolding begins_at
+  stops_at stop cause err now same = record {
+    groups = u.groups;
+    behind = record { begins = begins_at; light = u.light; few = few_at; cause = cause };
+    unsettled = u.held.few;
+    named = subst (λ e. Appends run.written e (refusals_of u.groups)) (sym same) u.named;
+  }
 
-  gave_group : (l : Before) → (advanced : Advanced left1 left2 reader next) → Consumes left0 left2
-      ((l.taken ++ next.group) ++ next.ahead)
-  gave_group l advanced = subst (Consumes left0 left2) (sym (append_assoc l.taken next.group next.ahead))
-      (gave_more l advanced)
+module _ (run : Run) (body : List ℕ) (bodies : List (List ℕ)) (err0 err1 : Option (List ℕ)) (f0 f1 : ℕ)
+    (old new : Seen) (lines : ℕ) (u : IsUnderWay run (body ∷ bodies) err0 f0 old lines) where
+  abbrev Rest : List ℕ
+  Rest = joined bodies ++ run.tail
 
-  held_group : (groups : List (List Outcome)) (group : List Outcome) → IsHeld opened old (batches_of groups)
-      → TakesGroup arrival next.group group old new → IsHeld opened new (batches_of (groups ++ group ∷ []))
-  held_group groups group held takes = subst (IsHeld opened new) (sym (batches-more groups group))
-      (takes.adds.1 opened (batches_of groups) held)
+  opened_at : AreOpen u.taken u.groups lines
+  opened_at = still_open u.stage
+    where
+      still_open : AreOpen u.taken u.groups lines ⊎ ((joined (body ∷ bodies) ++ run.tail ≡ []) × (run.ended ≡ true))
+          → AreOpen u.taken u.groups lines
+      still_open (inl opened) = opened
+      still_open (inr over) = absurd (omega (
+        arith,
+        some_body run.ended body Rest u.are.0,
+        ap length over.0,
+        length-append (joined (body ∷ bodies)) run.tail,
+        length-append body (joined bodies),
+      ))
 
-  ahead_more : (l : Before) → length next.ahead ≤ max (length reader.ahead) piece_len → length next.ahead ≤ piece_len
-  ahead_more l few = omega (arith, l.ahead)
+  held_group : (group : List Outcome) → TakesGroup run.arrival body group old new
+      → IsHeld run.opened new (batches_of (u.groups ++ group ∷ []))
+  held_group group takes = subst (IsHeld run.opened new) (sym (batches-more u.groups group))
+      (takes.adds.1 run.opened (batches_of u.groups) u.held)
+
+  gave_group : Consumes run.source.bytes_before run.source.bytes_after ((u.taken ++ body) ++ Rest)
+  gave_group = subst (Consumes run.source.bytes_before run.source.bytes_after)
+      (regroup u.taken body (joined bodies) run.tail) u.gave
+
+  closes : EndsLine (u.taken ++ body) ⊎ ((Rest ≡ []) × (run.ended ≡ true))
+  closes = ends u.are.0
+    where
+      ends : IsBody run.ended body Rest → EndsLine (u.taken ++ body) ⊎ ((Rest ≡ []) × (run.ended ≡ true))
+      ends (inl whole) = inl (inr (
+        u.taken ++ whole.front,
+        ap (λ b. u.taken ++ b) whole.ends ∙ sym (append_assoc u.taken whole.front (10 ∷ [])),
+      ))
+      ends (inr short) = inr (short.2, short.3)
+
+  over : (Rest ≡ []) × (run.ended ≡ true) → (Rest ≡ []) × IsSpent run.source
+  over is = (is.0, u.spent is.1)
+
+  grouped_with : (group : List Outcome) → HaveOutcomes run.arrival body group
+      → AreGroups (u.groups ++ group ∷ []) ((Rest ≡ []) × IsSpent run.source)
+  grouped_with group given =
+      let size = sizes run.arrival body Rest run.ended group u.are.0 given in
+      AreGroups-more u.groups group ((Rest ≡ []) × IsSpent run.source) opened_at.whole size.some size.few
+      (last size.full)
+    where
+      last : (length group ≡ 1000) ⊎ ((Rest ≡ []) × (run.ended ≡ true))
+          → (length group ≡ 1000) ⊎ ((Rest ≡ []) × IsSpent run.source)
+      last (inl full) = inl full
+      last (inr is) = inr (over is)
+
+  placed_with : length (u.taken ++ body) + length (joined bodies) ≡ run.place
+  placed_with = omega (arith, u.placed, length-append u.taken body, length-append body (joined bodies))
 
   -- one group more
-  pub loading_more : (l : Before) → reader.ended ≡ false → Advanced left1 left2 reader next → length next.ahead ≤ max
-      (length reader.ahead) piece_len
-      → IsGroup next → (next.ended ≡ true → IsAtEnd left2 × (next.ahead ≡ [])) → s1 ≤ s2 → f1 ≤ f2
-      → (group : List Outcome) × TakesGroup arrival next.group group old new × Appends err1 err2
+  pub loading_more : f0 ≤ f1 → (group : List Outcome) × TakesGroup run.arrival body group old new × Appends err0 err1
       (refusals_from (lines + 1) group)
-      → Loading arrival opened (change left0 left2 s0 s2) (change err0 err2 f0 f2) next new (lines + 1000)
-  loading_more l goes_on advanced few is_group at_end source_stays errors_stay (group, takes, named) =
-      let advances = advanced.2 in
-      let same_lines : next.lines ≡ 1000 = advances.lines ∙ l.group_lines in
-      let size = sizes arrival next group same_lines is_group takes.intake in
-      let taken_lines = AllZip-length (HasOutcome arrival) (lines_of l.taken) (outcomes_in l.groups) l.given in
-      let before : lines ≡ length (outcomes_in l.groups) = l.open_lines goes_on in
-      let held = held_group l.groups group l.held takes in
+      → IsUnderWay run bodies err1 f1 new (lines + 1000)
+  loading_more stays (group, takes, named) =
+      let opened = opened_at in
+      let taken_lines = AllZip-length (HasOutcome run.arrival) (lines_of u.taken) (outcomes_in u.groups) u.given in
       record {
-        taken = l.taken ++ next.group;
-        groups = l.groups ++ group ∷ [];
-        gave = gave_group l advanced;
-        passed = omega (arith, advances.passed, l.passed, length-append l.taken next.group);
-        group_lines = same_lines;
-        limit = advances.limit ∙ l.limit;
-        within = omega (arith, advances.within, advances.limit, l.limit);
-        ahead = ahead_more l few;
-        given = intake-more arrival l.taken next.group l.groups group (l.open_ends goes_on) l.given takes.intake;
-        grouped = AreGroups-more l.groups group (next.ended ≡ true) (l.open_whole goes_on) size.some size.few size.full;
-        open_ends = λ e. ends_more l.taken next.group (size.open_ends e);
-        open_whole = λ e. AllByRecursion-more (λ g. length g ≡ 1000) l.groups group (l.open_whole goes_on)
-            (size.open_full e);
-        open_lines = λ e. omega (
+        taken = u.taken ++ body;
+        groups = u.groups ++ group ∷ [];
+        behind = u.behind;
+        gave = gave_group;
+        placed = placed_with;
+        within = u.within;
+        are = u.are.1;
+        few = omega (arith, u.few);
+        tail_few = u.tail_few;
+        given = intake-more run.arrival u.taken body u.groups group opened.ends u.given takes.intake;
+        grouped = grouped_with group takes.intake;
+        stage = stage_with group takes.intake (sizes run.arrival body Rest run.ended group u.are.0 takes.intake).full
+            closes;
+        spent = u.spent;
+        few_lines = omega (
           arith,
-          before,
-          size.open_full e,
-          ap length (outcomes-more l.groups group),
-          length-append (outcomes_in l.groups) group,
+          opened.counted,
+          taken_lines,
+          lines_le u.taken,
+          length-append u.taken body,
         );
-        over = at_end;
-        few = omega (arith, before, taken_lines, lines_le l.taken, length-append l.taken next.group);
-        light = light_more l.groups group l.light takes.adds.0;
-        held = held;
-        named = subst (Appends err0 err2) (sym (refusals-more l.groups group lines before))
-            (Appends-trans err0 err1 err2 _ _ l.named named);
-        source_stays = omega (arith, l.source_stays);
-        errors_stay = omega (arith, l.errors_stay);
-      }
-
-  -- the input up to the groups before
-  begins_before : (l : Before) → reader.ended ≡ false → Advanced left1 left2 reader next → BeginsWith arrival
-      (change left0 left2 s0 s2) l.groups
-  begins_before l goes_on advanced =
-      begins_whole arrival (change left0 left2 s0 s2) l.taken (next.group ++ next.ahead) l.groups (gave_more l advanced)
-      (omega (arith, l.passed, l.within)) (l.open_ends goes_on) (l.open_whole goes_on) l.given
-
-  -- the input with the next group
-  begins_with : (l : Before) → reader.ended ≡ false → Advanced left1 left2 reader next → IsGroup next
-      → (next.ended ≡ true → IsAtEnd left2 × (next.ahead ≡ [])) → (group : List Outcome)
-      → HaveOutcomes arrival next.group group
-      → BeginsWith arrival (change left0 left2 s0 s2) (l.groups ++ group ∷ [])
-  begins_with l goes_on advanced is_group at_end group given =
-      let size = sizes arrival next group (advanced.2.lines ∙ l.group_lines) is_group given in
-      record {
-        taken = l.taken ++ next.group;
-        rest = next.ahead;
-        gave = gave_group l advanced;
-        within = omega (
-          arith,
-          advanced.2.within,
-          advanced.2.limit,
-          l.limit,
-          advanced.2.passed,
-          l.passed,
-          length-append l.taken next.group,
-        );
-        whole = ends next.ended size.open_ends at_end;
-        given = intake-more arrival l.taken next.group l.groups group (l.open_ends goes_on) l.given given;
-        grouped = AreGroups-more l.groups group ((next.ahead ≡ []) × IsAtEnd left2)
-            (l.open_whole goes_on) size.some size.few (last size.full);
+        light = light_more u.groups group u.light takes.adds.0;
+        held = held_group group takes;
+        named = subst (Appends run.written err1) (sym (refusals-more u.groups group lines opened.counted))
+            (Appends-trans run.written err0 err1 _ _ u.named named);
+        stays = omega (arith, u.stays, stays);
       }
     where
-      ends : (ended : Bool) → (ended ≡ false → (text : List ℕ) × (next.group ≡ text ++ 10 ∷ [])) →
-          (ended ≡ true → IsAtEnd left2 × (next.ahead ≡ []))
-          → EndsLine (l.taken ++ next.group) ⊎ ((next.ahead ≡ []) × IsAtEnd left2)
-      ends false closes over = inl (ends_more l.taken next.group (closes refl))
-      ends true closes over = inr ((over refl).1, (over refl).0)
+      stage_with : (group : List Outcome) → HaveOutcomes run.arrival body group
+          → (length group ≡ 1000) ⊎ ((Rest ≡ []) × (run.ended ≡ true))
+          → EndsLine (u.taken ++ body) ⊎ ((Rest ≡ []) × (run.ended ≡ true))
+          → AreOpen (u.taken ++ body) (u.groups ++ group ∷ []) (lines + 1000) ⊎ ((Rest ≡ []) × (run.ended ≡ true))
+      stage_with group given (inr is) ends = inr is
+      stage_with group given (inl full) (inr is) = inr is
+      stage_with group given (inl full) (inl ends) = inl (record {
+        ends = ends;
+        whole = AllByRecursion-more (λ g. length g ≡ 1000) u.groups group opened_at.whole full;
+        counted = omega (
+          arith,
+          opened_at.counted,
+          full,
+          ap length (outcomes-more u.groups group),
+          length-append (outcomes_in u.groups) group,
+        );
+      })
 
-      last : (length group ≡ 1000) ⊎ (next.ended ≡ true) → (length group ≡ 1000) ⊎ ((next.ahead ≡ []) × IsAtEnd left2)
-      last (inl full) = inl full
-      last (inr e) = inr ((at_end e).1, (at_end e).0)
-
-  few_behind : (l : Before) → Advanced left1 left2 reader next → length next.ahead ≤ piece_len → IsGroup next
-      → AreFew 1 (next.group ++ next.ahead)
-  few_behind l advanced short is_group = record {
-    grouped = next.group;
-    ahead = next.ahead;
-    parts = refl;
-    lines = feeds is_group;
-    short = short;
+  -- the input with the group
+  begins_with : (group : List Outcome) → HaveOutcomes run.arrival body group
+      → BeginsWith run.arrival run.source (u.groups ++ group ∷ [])
+  begins_with group given = record {
+    taken = u.taken ++ body;
+    rest = Rest;
+    gave = gave_group;
+    within = omega (arith, placed_with, u.within);
+    whole = whole closes;
+    given = intake-more run.arrival u.taken body u.groups group opened_at.ends u.given given;
+    grouped = grouped_with group given;
   }
     where
-      feeds : IsGroup next → HaveNoGroup next.group ⊎ AreLines 1000 next.group
-      feeds (inl whole) = inr (subst (λ n. AreLines n next.group) (advanced.2.lines ∙ l.group_lines) whole)
-      feeds (inr few) =
-          let fewer : HaveNoGroup next.group = omega (arith, few.1, advanced.2.lines, l.group_lines) in inl fewer
+      whole : EndsLine (u.taken ++ body) ⊎ ((Rest ≡ []) × (run.ended ≡ true))
+          → EndsLine (u.taken ++ body) ⊎ ((Rest ≡ []) × IsSpent run.source)
+      whole (inl ends) = inl ends
+      whole (inr is) = inr (over is)
 
-  -- the run stops at the next group
-  pub stops_at_group : (l : Before) → reader.ended ≡ false → Advanced left1 left2 reader next
-      → length next.ahead ≤ max (length reader.ahead) piece_len
-      → IsGroup next → (next.ended ≡ true → IsAtEnd left2 × (next.ahead ≡ [])) → (interrupt : Interrupt)
-      → StopsGroup arrival next.group lines old new (change err1 err2 f1 f2) interrupt
-      → StopsLoad arrival (change left0 left2 s0 s2) (change err0 err2 f0 f2) interrupt
-  unfolding begins_with begins_before begins_whole
-  stops_at_group l goes_on advanced few is_group at_end Unreadable h = absurd h
-  stops_at_group l goes_on advanced few is_group at_end (NoAnswer overflow) h = absurd h
-  stops_at_group l goes_on advanced few is_group at_end Unwritable (group, takes, cut) =
-      let before : lines ≡ length (outcomes_in l.groups) = l.open_lines goes_on in
-      let held = held_group l.groups group l.held takes in (
-        record {
-          groups = l.groups;
-          group = group;
-          begins = begins_with l goes_on advanced is_group at_end group takes.intake;
-          light = light_more l.groups group l.light takes.adds.0;
-          short = ahead_more l few;
-          named = subst (λ n. IsCut (change err0 err2 f0 f2) (refusals_of l.groups)
-              (refusals_from (n + 1) group)) before (record {
-                len = cut.len;
-                proper = cut.proper;
-                took = Appends-trans err0 err1 err2 _ _ l.named cut.took;
-                failed = Rose-earlier f0 f1 f2 l.errors_stay cut.failed;
-              });
-        },
-        held.few,
-      )
-  stops_at_group l goes_on advanced few is_group at_end (Beyond limit) (same, (group, given, much)) = record {
-    groups = l.groups;
-    behind = record {
-      begins = begins_before l goes_on advanced;
-      light = l.light;
-      few = few_behind l advanced (ahead_more l few) is_group;
-      cause = beyond limit much (begins_with l goes_on advanced is_group at_end group given);
-    };
-    unsettled = l.held.few;
-    named = subst (λ e. Appends err0 e (refusals_of l.groups)) (sym same) l.named;
-  }
+  few_behind : AreFew 7 Rest
+  few_behind = few_enough (length bodies + u.behind) 7 Rest (omega (arith, u.few)) (omega arith)
+      (behind_bodies run.ended bodies run.tail u.behind (length bodies + u.behind) refl u.are.1 u.tail_few)
+
+  -- the run stops at the group
+  pub stops_at_group : (interrupt : Interrupt) → StopsGroup run.arrival body lines old new (change err0 err1 f0 f1) interrupt
+      → StopsLoad run.arrival run.source (errors_of run err1 f1) interrupt
+  unfolding begins_with begins_at
+  stops_at_group Unreadable h = absurd h
+  stops_at_group (NoAnswer overflow) h = absurd h
+  stops_at_group Unwritable (group, takes, cut) = (
+    record {
+      groups = u.groups;
+      group = group;
+      begins = begins_with group takes.intake;
+      light = light_more u.groups group u.light takes.adds.0;
+      few = few_behind;
+      named = subst (λ n. IsCut (errors_of run err1 f1) (refusals_of u.groups) (refusals_from (n + 1) group))
+          opened_at.counted (record {
+            len = cut.len;
+            proper = cut.proper;
+            took = Appends-trans run.written err0 err1 _ _ u.named cut.took;
+            failed = Rose-earlier run.faults f0 f1 u.stays cut.failed;
+          });
+    },
+    (held_group group takes).few,
+  )
+  stops_at_group (Beyond limit) (same, (group, given, much)) =
+      stops_at run (body ∷ bodies) err0 f0 old lines u (model.beyond (limit_of limit))
+      (beyond limit much (begins_with group given)) err1 f1 same
     where
-      beyond : (limit : Limit) → IsTooMuch old (rows_read group) limit → BeginsWith arrival (change left0 left2 s0 s2)
-          (l.groups ++ group ∷ [])
-          → IsBeyond arrival (change left0 left2 s0 s2) l.groups (begins_before l goes_on advanced) (limit_of limit)
+      beyond : (limit : Limit) → IsTooMuch old (rows_read group) limit
+          → BeginsWith run.arrival run.source (u.groups ++ group ∷ [])
+          → IsBeyond run.arrival run.source u.groups (begins_at run (body ∷ bodies) err0 f0 old lines u) (limit_of limit)
       beyond Long h begins = absurd h
       beyond (Large weight) h begins = (group, begins, h.0, h.1)
-      beyond Full h begins = (group, begins, held_all opened old (batches_of l.groups) l.held h.0, h.1, h.2)
-  stops_at_group l goes_on advanced few is_group at_end NoMemory same = record {
-    groups = l.groups;
-    behind = record {
-      begins = begins_before l goes_on advanced;
-      light = l.light;
-      few = few_behind l advanced (ahead_more l few) is_group;
-      cause = tt;
-    };
-    unsettled = l.held.few;
-    named = subst (λ e. Appends err0 e (refusals_of l.groups)) (sym same) l.named;
-  }
+      beyond Full h begins = (group, begins, held_all run.opened old (batches_of u.groups) u.held h.0, h.1, h.2)
+  stops_at_group NoMemory same =
+      stops_at run (body ∷ bodies) err0 f0 old lines u model.no_memory tt err1 f1 same
+
+-- ---- a window
 
 module _ (arrival : Arrival) (opened : List Batch) (left0 left1 left2 : Option (List ℕ)) (s0 s1 s2 : ℕ)
-    (err0 err1 : Option (List ℕ)) (f0 f1 : ℕ) (reader : Reading) (shelf : Seen) (lines : ℕ) where
-  abbrev Until : Type 0
-  Until = Loading arrival opened (change left0 left1 s0 s1) (change err0 err1 f0 f1) reader shelf lines
+    (err0 err1 : Option (List ℕ)) (f0 f1 : ℕ) (reader next : Reading) (old : Seen) (lines : ℕ)
+    (bodies : List (List ℕ)) (more : Result Bool ReadFault)
+    (l : Loading arrival opened (change left0 left1 s0 s1) (change err0 err1 f0 f1) reader old lines)
+    (w : IsWindow reader next left1 left2 s1 s2 bodies more) where
+  abbrev Place : ℕ
+  Place = reader.passed + length reader.group + length (joined bodies)
 
-  abbrev Source : Change
-  Source = change left0 left2 s0 s2
+  -- the run, once the window is read
+  abbrev pub run_on : Run
+  run_on = run_of arrival opened (change left0 left2 s0 s2) err0 f0 Place w.tail w.ended
 
-  begins_until : (l : Until) → reader.ended ≡ false → (piece : List ℕ) → Consumes left1 left2 piece
-      → BeginsWith arrival Source l.groups
-  begins_until l goes_on piece consumed =
-      begins_whole arrival Source l.taken (reader.ahead ++ piece) l.groups
-      (subst (Consumes left0 left2) (append_assoc l.taken reader.ahead piece)
-      (Consumes-trans left0 left1 left2 _ _ l.gave consumed))
-      (omega (arith, l.passed, l.within)) (l.open_ends goes_on) (l.open_whole goes_on) l.given
+  spent_on : w.ended ≡ true → IsAtEnd left2
+  spent_on ended = at_its_end reader.ended l.so.spent (λ e. (w.idle e).1) (λ e. w.at_end e ended)
+    where
+      at_its_end : (before : Bool) → (before ≡ true → IsAtEnd left1) → (before ≡ true → left2 ≡ left1)
+          → (before ≡ false → IsAtEnd left2) → IsAtEnd left2
+      at_its_end true first same now = subst IsAtEnd (sym (same refl)) (first refl)
+      at_its_end false first same now = now refl
 
-  no_group : (l : Until) → (piece : List ℕ) → AreFewer reader.lines (reader.ahead ++ piece) → HaveNoGroup
-      (reader.ahead ++ piece)
-  no_group l piece fewer = omega (arith, fewer, l.group_lines)
+  none_on : reader.ended ≡ true → joined bodies ++ w.tail ≡ []
+  none_on ended =
+      let idle = w.idle ended in ap (λ bs. joined bs ++ w.tail) idle.0 ∙ w.closed idle.2
 
-  few_short : (l : Until) → (piece : List ℕ) → AreFewer reader.lines (reader.ahead ++ piece)
-      → AreFew 1 (reader.ahead ++ piece)
-  few_short l piece fewer = record {
-    grouped = reader.ahead ++ piece;
-    ahead = [];
-    parts = sym (append_nil (reader.ahead ++ piece));
-    lines = inl (no_group l piece fewer);
-    short = omega arith;
+  -- what is so before the groups of the window are loaded
+  pub reads_on : IsUnderWay run_on bodies err1 f1 old lines
+  reads_on = record {
+    taken = l.so.taken;
+    groups = l.so.groups;
+    behind = w.behind;
+    gave = subst (Consumes left0 left2)
+        (append_assoc l.so.taken reader.ahead w.piece ∙ ap (λ b. l.so.taken ++ b) (sym w.parts))
+        (Consumes-trans left0 left1 left2 _ _ l.so.gave w.consumed);
+    placed = omega (arith, l.so.placed);
+    within = omega (arith, w.within, l.limit);
+    are = w.are;
+    few = w.few;
+    tail_few = w.tail_few;
+    given = l.so.given;
+    grouped = grouped l.so.stage;
+    stage = stage l.so.stage;
+    spent = spent_on;
+    few_lines = l.so.few_lines;
+    light = l.so.light;
+    held = l.so.held;
+    named = l.so.named;
+    stays = l.so.stays;
   }
+    where
+      stage : AreOpen l.so.taken l.so.groups lines ⊎ ((joined [] ++ reader.ahead ≡ []) × (reader.ended ≡ true))
+          → AreOpen l.so.taken l.so.groups lines ⊎ ((joined bodies ++ w.tail ≡ []) × (w.ended ≡ true))
+      stage (inl opened) = inl opened
+      stage (inr over) = inr (none_on over.1, (w.idle over.1).2)
 
-  few_long : (l : Until) → (piece more : List ℕ) → length more ≡ 1 → AreFewer reader.lines (reader.ahead ++ piece)
-      → AreFew 1 (reader.ahead ++ (piece ++ more))
-  few_long l piece more one fewer = record {
-    grouped = reader.ahead ++ piece;
-    ahead = more;
-    parts = sym (append_assoc reader.ahead piece more);
-    lines = inl (no_group l piece fewer);
-    short = omega arith;
-  }
+      grouped : AreOpen l.so.taken l.so.groups lines ⊎ ((joined [] ++ reader.ahead ≡ []) × (reader.ended ≡ true))
+          → AreGroups l.so.groups ((joined bodies ++ w.tail ≡ []) × IsAtEnd left2)
+      grouped (inl opened) = AreGroups-whole l.so.groups _ opened.whole
+      grouped (inr over) = AreGroups-weaken l.so.groups ((joined [] ++ reader.ahead ≡ []) × IsAtEnd left1) _
+          (λ _. (none_on over.1, spent_on (w.idle over.1).2)) l.so.grouped
 
-  -- what lies within the limit is all that was read but for the last byte
-  within : (l : Until) → (piece more : List ℕ) → bytes_read reader + length piece ≡ reader.limit → take
-      (input_limit - length l.taken) (reader.ahead ++ (piece ++ more)) ≡ reader.ahead ++ piece
-  within l piece more all =
-      let len : input_limit - length l.taken ≡ length (reader.ahead ++ piece) = omega
-      (arith, all, l.limit, l.passed, length-append reader.ahead piece) in
-      ap (λ n. take n (reader.ahead ++ (piece ++ more))) len
-      ∙ ap (take (length (reader.ahead ++ piece))) (sym (append_assoc reader.ahead piece more))
-      ∙ take-append_seam (reader.ahead ++ piece) more
+  module _ (err2 : Option (List ℕ)) (f2 : ℕ) (new : Seen) (lines2 : ℕ)
+      (u : IsUnderWay run_on [] err2 f2 new lines2) (source_stays : s1 ≤ s2) where
+    -- another turn begins
+    pub turns_on : more ≡ Ok true → Loading arrival opened (change left0 left2 s0 s2) (change err0 err2 f0 f2) next new lines2
+    turns_on is =
+        let goes : GoesOn reader next Place w.tail w.ended =
+        subst (EndsWindow reader next s1 s2 Place w.tail w.ended) is w.stops in
+        record {
+          so =
+              subst (λ p. IsUnderWay (run_of arrival opened (change left0 left2 s0 s2) err0 f0 p next.ahead next.ended)
+              [] err2 f2 new lines2) (sym goes.passed)
+              (subst (λ t. IsUnderWay (run_of arrival opened (change left0 left2 s0 s2) err0 f0 Place t next.ended)
+              [] err2 f2 new lines2) (sym goes.ahead)
+              (subst (λ e. IsUnderWay (run_of arrival opened (change left0 left2 s0 s2) err0 f0 Place w.tail e)
+              [] err2 f2 new lines2) (sym goes.closes) u));
+          group_lines = goes.lines ∙ l.group_lines;
+          limit = goes.limit ∙ l.limit;
+          short = goes.short;
+          closed = λ e. goes.ahead ∙ w.closed (sym goes.closes ∙ e);
+          stays = omega (arith, l.stays, source_stays);
+        }
 
-  -- the run stops where the next group is read
-  pub stops_reading : (l : Until) → reader.ended ≡ false → (fault : ReadFault) →
-      (fault ≡ faults.Long → IsTooLong reader left1 left2)
-      → ((fault ≡ faults.Long → ⊥) → FallsShort reader left1 left2) → (fault ≡ faults.Failed → Rose s1 s2)
-      → StopsLoad arrival Source (change err0 err1 f0 f1) (interrupt_at fault)
-  unfolding begins_until begins_whole
-  stops_reading l goes_on faults.Long long short failed =
-      let too = long refl in
-      record {
-        groups = l.groups;
-        behind = record {
-          begins = begins_until l goes_on (too.piece ++ too.more) too.consumed;
-          light = l.light;
-          few = few_long l too.piece too.more too.one too.fewer;
-          cause = (
-            omega (
-              arith,
-              too.all,
-              too.one,
-              l.limit,
-              l.passed,
-              length-append l.taken (reader.ahead ++ (too.piece ++ too.more)),
-              length-append reader.ahead (too.piece ++ too.more),
-              length-append too.piece too.more,
-            ),
-            subst HaveNoGroup (sym (within l too.piece too.more too.all)) (no_group l too.piece too.fewer),
-          );
-        };
-        unsettled = l.held.few;
-        named = l.named;
-      }
-  stops_reading l goes_on faults.Failed long short failed =
-      let few = short (λ e. cc) in
-      record {
-        groups = l.groups;
-        behind = record {
-          begins = begins_until l goes_on few.piece few.consumed;
-          light = l.light;
-          few = few_short l few.piece few.fewer;
-          cause = (Rose-earlier s0 s1 s2 l.source_stays (failed refl), no_group l few.piece few.fewer);
-        };
-        unsettled = l.held.few;
-        named = l.named;
-      }
-  stops_reading l goes_on faults.Memory long short failed =
-      let few = short (λ e. cc) in
-      record {
-        groups = l.groups;
-        behind = record {
-          begins = begins_until l goes_on few.piece few.consumed;
-          light = l.light;
-          few = few_short l few.piece few.fewer;
-          cause = tt;
-        };
-        unsettled = l.held.few;
-        named = l.named;
-      }
+    -- the input is read whole
+    pub loaded : more ≡ Ok false → IsLoaded arrival opened (change left0 left2 s0 s2) (change err0 err2 f0 f2) new
+    loaded is =
+        let over : (w.tail ≡ []) × (w.ended ≡ true) =
+        subst (EndsWindow reader next s1 s2 Place w.tail w.ended) is w.stops in
+        let spent : IsAtEnd left2 = u.spent over.1 in
+        record {
+          groups = u.groups;
+          begins = record {
+            taken = u.taken;
+            rest = [];
+            gave = subst (λ t. Consumes left0 left2 (u.taken ++ t)) over.0 u.gave;
+            within = omega (arith, u.placed, u.within);
+            whole = whole u.stage spent;
+            given = u.given;
+            grouped = AreGroups-weaken u.groups ((joined [] ++ w.tail ≡ []) × IsAtEnd left2) _ (λ p. (refl, p.1))
+                u.grouped;
+          };
+          all = refl;
+          spent = spent;
+          light = u.light;
+          holding = u.held;
+          named = u.named;
+        }
+      where
+        none : List ℕ
+        none = []
 
-  at_end : (ended : Bool) → (ended ≡ true → IsAtEnd left1) → (ended ≡ false → IsAtEnd left2) →
-      (ended ≡ true → left2 ≡ left1) → IsAtEnd left2
-  at_end true before now same = subst IsAtEnd (sym (same refl)) (before refl)
-  at_end false before now same = now refl
+        whole : AreOpen u.taken u.groups lines2 ⊎ ((joined [] ++ w.tail ≡ []) × (w.ended ≡ true)) → IsAtEnd left2
+            → EndsLine u.taken ⊎ ((none ≡ []) × IsAtEnd left2)
+        whole (inl opened) spent = inl opened.ends
+        whole (inr p) spent = inr (refl, spent)
 
-  ends_all : (ended : Bool) (bytes rest : List ℕ) → (ended ≡ false → EndsLine bytes) → rest ≡ [] → IsAtEnd left2
-      → EndsLine bytes ⊎ ((rest ≡ []) × IsAtEnd left2)
-  ends_all true bytes rest closes none end = inr (none, end)
-  ends_all false bytes rest closes none end = inl (closes refl)
+    -- Reading failed.
+    pub stops_reading : (fault : ReadFault) → more ≡ Err fault
+        → StopsLoad arrival (change left0 left2 s0 s2) (change err0 err2 f0 f2) (interrupt_at fault)
+    unfolding begins_at
+    stops_reading faults.Failed is =
+        let stops = subst (EndsWindow reader next s1 s2 Place w.tail w.ended) is w.stops in
+        stops_at run_on [] err2 f2 new lines2 u model.unreadable
+        (Rose-earlier s0 s1 s2 l.stays stops.0, stops.1) err2 f2 refl
+    stops_reading faults.Memory is =
+        stops_at run_on [] err2 f2 new lines2 u model.no_memory tt err2 f2 refl
+    stops_reading faults.Long is =
+        let many : AreTooMany Place reader.limit w.tail =
+        subst (EndsWindow reader next s1 s2 Place w.tail w.ended) is w.stops in
+        let len : input_limit - length u.taken ≡ length many.front =
+        omega (arith, many.all, l.limit, u.placed, ap length many.are) in
+        let within : take (input_limit - length u.taken) w.tail ≡ many.front =
+        ap (λ n. take n w.tail) len ∙ ap (take (length many.front)) many.are
+        ∙ take-append_seam many.front many.last in
+        stops_at run_on [] err2 f2 new lines2 u (model.beyond model.long) (
+          omega (
+            arith,
+            many.all,
+            many.one,
+            l.limit,
+            u.placed,
+            ap length many.are,
+            length-append many.front many.last,
+            length-append u.taken w.tail,
+          ),
+          subst HaveNoGroup (sym within) many.fewer,
+        ) err2 f2 refl
 
-  both_none : (xs ys : List ℕ) → [] ≡ xs ++ ys → (xs ≡ []) × (ys ≡ [])
-  both_none [] ys e = (refl, sym e)
-  both_none (x ∷ xs) ys e = cc
-
-  -- the input is read whole
-  pub loaded : (l : Until) → (next : Reading) → Advanced left1 left2 reader next → IsOver next
-      → (reader.ended ≡ false → next.ended ≡ true → IsAtEnd left2 × (next.ahead ≡ [])) →
-      (reader.ended ≡ true → left2 ≡ left1)
-      → IsLoaded arrival opened Source (change err0 err1 f0 f1) shelf
-  loaded l next advanced over ended idle =
-      let advances = advanced.2 in
-      let left_over : [] ≡ reader.ahead ++ advanced.0 = sym (ap (λ g. g ++ next.ahead) over.group ∙ over.ahead)
-      ∙ advances.joined in
-      let none = both_none reader.ahead advanced.0 left_over in
-      let end : IsAtEnd left2 = at_end reader.ended (λ e. (l.over e).0) (λ e. (ended e over.ended).0) idle in
-      let all : (l.taken ++ reader.ahead) ++ advanced.0 ≡ l.taken ++ [] =
-      ap (λ p. (l.taken ++ reader.ahead) ++ p) none.1 ∙ append_nil (l.taken ++ reader.ahead) ∙ ap
-      (λ a. l.taken ++ a) none.0 in
-      record {
-        groups = l.groups;
-        begins = record {
-          taken = l.taken;
-          rest = [];
-          within = omega (arith, l.passed, l.within);
-          gave = subst (Consumes left0 left2) all (Consumes-trans left0 left1 left2 _ _ l.gave advanced.1);
-          whole = ends_all reader.ended l.taken [] l.open_ends refl end;
-          given = l.given;
-          grouped = AreGroups-weaken l.groups (reader.ended ≡ true) _ (λ _. (refl, end)) l.grouped;
-        };
-        all = refl;
-        spent = end;
-        light = l.light;
-        holding = l.held;
-        named = l.named;
-      }
-
--- no bytes are at most one group
-pub nothing_few : AreFew 1 []
+-- no bytes are few
+pub nothing_few : AreFew 8 []
 nothing_few =
     record {
       grouped = [];
       ahead = [];
       parts = refl;
-      lines = inl (let none : count_by is_feed [] < 1000 = omega arith in none);
+      lines = inl (let none : count_by is_feed [] < 8000 = omega arith in none);
       short = omega arith;
     }
 

@@ -117,7 +117,7 @@ module _ (query : Question) (arrival : Arrival) (now : ℤ) (at : now ≡ pos ar
     behind = record {
       begins = l.begins;
       light = l.light;
-      few = subst (AreFew 1) (sym l.all) nothing_few;
+      few = subst (AreFew 8) (sym l.all) nothing_few;
       cause = tt;
     };
     unsettled = l.holding.few;

@@ -1,12 +1,11 @@
 -- How a query over an input ends, by what the objects of the outside gave and took.
-use Rattle.std.specs.Prelude.{ℕ, ◌+◌, ◌≤◌, List, [], ◌∷◌, ◌++◌, length}
+use Rattle.std.specs.Prelude.{ℕ, ◌+◌, List, [], ◌∷◌, ◌++◌, length}
 use Rattle.vl_io.specs.Change.{Change, Gave, IsCut, IsSpent, IsTold, IsUntold, Took}
-use Rattle.vl_io.specs.Lines.{piece_len}
 use Rattle.lone_desk.specs.Question.{Question}
 use Rattle.ingest_row.specs.Intake.{Outcome}
 use Rattle.vl_pipe.specs.Groups.{Arrival, BeginsWith, FitBatches, FitUnsettled, outcomes_in, refusals_from}
 use Rattle.vl_pipe.specs.Groups.{refusals_of}
-use Rattle.vl_pipe.specs.Program.{IsAnswer, Overflow, Overflows, Stop, StopsBehind}
+use Rattle.vl_pipe.specs.Program.{AreFew, IsAnswer, Overflow, Overflows, Stop, StopsBehind}
 use Rattle.vl_pipe.specs.Program.{overflow_text, said_of_query, stop_text}
 
 -- The source gave an input to its end. The answer to it was written to the output, and its refused lines are named on
@@ -43,13 +42,14 @@ pub record IsUnanswered (query : Question) (arrival : Arrival) (source errors : 
   pub overflows : Overflows query arrival input refusals cause
   pub said : IsTold errors refusals (said_of_query (overflow_text cause))
 
--- The error stream failed while the refused lines of a group were named, right after it was loaded.
+-- The error stream failed while the refused lines of a group were named, right after it was loaded. No more was read
+-- after it than seven groups and what one read gives.
 pub record IsNamingFault (arrival : Arrival) (source errors : Change) : Type 0 where
   pub groups : List (List Outcome)
   pub group : List Outcome
   pub begins : BeginsWith arrival source (groups ++ group ∷ [])
   pub light : FitBatches (groups ++ group ∷ [])
-  pub short : length begins.rest ≤ piece_len
+  pub few : AreFew 7 begins.rest
   pub named : IsCut errors (refusals_of groups) (refusals_from (length (outcomes_in groups) + 1) group)
 
 -- The error stream failed so, the batches are no more than may be unsettled, and nothing was written to the output.

@@ -5,6 +5,7 @@ pub mod Load
 pub mod Pipe
 pub mod Program
 pub mod Refused
+pub mod Window
 pub use Rattle.lone_desk.specs.Asked
 pub use Rattle.lone_desk.specs.Query
 pub use Rattle.lone_desk.specs.QueryRefusal

@@ -1,17 +1,20 @@
 -- What becomes of an input on its way to the desk.
-use Rattle.std.specs.Prelude.{◌≡◌, ℕ, ◌+◌, ◌<◌, ◌≤◌, List, [], ◌∷◌, ◌++◌, length}
-use Rattle.vl_io.specs.Change.{Change, IsCut, IsSpent, IsUntold, Took}
+use Rattle.std.specs.Prelude.{◌≡◌, ◌⊎◌, ℕ, ◌+◌, ◌<◌, ◌≤◌, Bool, true, List, [], ◌∷◌, ◌++◌, length, Option}
+use Rattle.std.specs.List.{AllByRecursion}
+use Rattle.vl_io.specs.Bytes.{Appends}
+use Rattle.vl_io.specs.Change.{Change, Gave, IsCut, IsSpent, IsUntold, Took}
 use Rattle.log_model.specs.Core.{held_limit}
 use Rattle.log_model.specs.History.{batches_in}
 use Rattle.log_model.specs.Row.{Batch, Row, batch_limit, batch_weight}
 use Rattle.ingest_row.specs.Intake.{Outcome, rows_read}
 use Rattle.lone_desk.specs.Seen.{Seen}
 use Rattle.lone_desk.specs.Alone.{batches_of_rows}
-use Rattle.vl_pipe.specs.Groups.{Arrival, BeginsWith, FitBatches, FitUnsettled, HaveOutcomes, batches_of}
-use Rattle.vl_pipe.specs.Groups.{refusals_from, refusals_of}
+use Rattle.vl_pipe.specs.Groups.{Arrival, AreGroups, BeginsWith, EndsLine, FitBatches, FitUnsettled, HaveOutcomes}
+use Rattle.vl_pipe.specs.Groups.{batches_of, input_limit, outcomes_in, refusals_from, refusals_of}
 use Rattle.vl_pipe.specs.Program as model
 use Rattle.vl_pipe.specs.Program.{StopsBehind}
 use Rattle.vl_pipe.specs.Ended.{IsNamingFault}
+use Rattle.vl_pipe.specs.Window.{AreBehind, AreBodies, joined}
 use Rattle.vl_pipe.specs.Interrupt.{limit_of}
 use Rattle.vl_pipe.specs.declared.interrupt.Limit.{Limit}
 use Rattle.vl_pipe.specs.declared.interrupt.Limit.TheVariants.{Long, Large, Full}
@@ -91,3 +94,62 @@ StopsLoad arrival source errors Unwritable =
 StopsLoad arrival source errors (Beyond limit) = StopsUntold arrival source errors (model.beyond (limit_of limit))
 StopsLoad arrival source errors (NoAnswer overflow) = ⊥
 StopsLoad arrival source errors NoMemory = StopsUntold arrival source errors model.no_memory
+
+-- ---- groups that are read ahead
+
+abbrev pub AreWhole : List (List Outcome) → Type 0
+AreWhole groups = AllByRecursion (λ group. length group ≡ 1000) groups
+
+-- A run over an input, after it read groups, and before it loads them.
+pub record Run : Type 0 where
+  pub arrival : Arrival
+  -- the batches before the run
+  pub opened : List Batch
+  pub source : Change
+  -- the error stream before the run
+  pub written : Option (List ℕ)
+  pub faults : ℕ
+  -- where the groups end
+  pub place : ℕ
+  -- what was read after them
+  pub tail : List ℕ
+  -- whether the source ended
+  pub ended : Bool
+
+-- All groups so far are whole, so another one may come. They have this many lines.
+pub record AreOpen (taken : List ℕ) (groups : List (List Outcome)) (lines : ℕ) : Type 0 where
+  pub ends : EndsLine taken
+  pub whole : AreWhole groups
+  pub counted : lines ≡ length (outcomes_in groups)
+
+-- Groups were loaded, and their refused lines named. The groups of these bodies come next.
+pub record IsUnderWay (run : Run) (bodies : List (List ℕ)) (written : Option (List ℕ)) (faults : ℕ) (seen : Seen)
+    (lines : ℕ) : Type 0 where
+  pub taken : List ℕ
+  pub groups : List (List Outcome)
+  -- in how many further groups the tail lies
+  pub behind : ℕ
+  pub gave : Gave run.source (taken ++ (joined bodies ++ run.tail))
+  pub placed : length taken + length (joined bodies) ≡ run.place
+  pub within : run.place ≤ input_limit
+  pub are : AreBodies run.ended bodies run.tail
+  pub few : length bodies + behind ≤ 8
+  pub tail_few : AreBehind behind run.tail
+  pub given : HaveOutcomes run.arrival taken (outcomes_in groups)
+  pub grouped : AreGroups groups ((joined bodies ++ run.tail ≡ []) × IsSpent run.source)
+  pub stage : AreOpen taken groups lines ⊎ ((joined bodies ++ run.tail ≡ []) × (run.ended ≡ true))
+  pub spent : run.ended ≡ true → IsSpent run.source
+  pub few_lines : lines ≤ length taken + 1000
+  pub light : FitBatches groups
+  pub held : IsHeld run.opened seen (batches_of groups)
+  pub named : Appends run.written written (refusals_of groups)
+  pub stays : run.faults ≤ faults
+
+-- the error stream since the run began
+abbrev pub errors_of : Run → Option (List ℕ) → ℕ → Change
+errors_of run written faults = record {
+  bytes_before = run.written;
+  bytes_after = written;
+  faults_before = run.faults;
+  faults_after = faults;
+}

@@ -104,12 +104,12 @@ IsCause arrival source groups begins unreadable = HasFailed source × HaveNoGrou
 IsCause arrival source groups begins (beyond limit) = IsBeyond arrival source groups begins limit
 IsCause arrival source groups begins no_memory = Unit {0}
 
--- The first groups of the input were loaded. Then the run stopped. No more was read after them than one group and what
--- one read gives.
+-- The first groups of the input were loaded. Then the run stopped. No more was read after them than eight groups and
+-- what one read gives.
 pub record StopsBehind (arrival : Arrival) (source : Change) (groups : List (List Outcome)) (stop : Stop) : Type 0 where
   pub begins : BeginsWith arrival source groups
   pub light : FitBatches groups
-  pub few : AreFew 1 begins.rest
+  pub few : AreFew 8 begins.rest
   pub cause : IsCause arrival source groups begins stop
 
 abbrev pub limit_text : Limit → List ℕ

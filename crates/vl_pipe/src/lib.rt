@@ -8,6 +8,7 @@ mod names;
 mod pipe;
 mod refusal;
 mod report;
+mod window;
 
 pub use arrival::Arrival;
 pub use pipe::{Pipe, run_pipe};

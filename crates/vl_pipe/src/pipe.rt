@@ -14,6 +14,7 @@ use lone_desk::{LoneDesk, Search, read_query};
 use std::alloc::AllocGlobal;
 use std::random::RandomSource;
 use std::sync::Wait;
+use std::thread::Threads;
 use vl_io::{Failed, Sink, Source, put_all};
 use vl_row::Text;
 use vl_status::Status;
@@ -28,7 +29,7 @@ pub struct Pipe {
 }
 
 /// Reads the query, loads the input and writes the answer, or says why not. A query that is refused reads no input.
-pub fn run_pipe<R: AllocGlobal + Wait + RandomSource, S: Source, O: Sink, E: Sink>(
+pub fn run_pipe<R: AllocGlobal + Threads + Wait + RandomSource + Sync, S: Source, O: Sink, E: Sink>(
     rt: &R,
     asked: &Pipe,
     src: &mut S,
@@ -64,7 +65,7 @@ struct PreparedPipe<'p> {
 }
 
 /// Loads the input and writes the answer, or says why not.
-fn answer_input<R: AllocGlobal + Wait + RandomSource, S: Source, O: Sink, E: Sink>(
+fn answer_input<R: AllocGlobal + Threads + Wait + RandomSource + Sync, S: Source, O: Sink, E: Sink>(
     rt: &R,
     prepared: &PreparedPipe<'_>,
     src: &mut S,

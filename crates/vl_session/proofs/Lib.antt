@@ -8,7 +8,7 @@ pub mod Going
 pub mod StatusLemmas
 mod InsertLemmas
 mod PreparedLemmas
-mod InsertionLemmas
+pub mod InsertionLemmas
 mod InsertLaws
 mod AnswerLemmas
 pub mod QueryLemmas

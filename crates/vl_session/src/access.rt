@@ -6,7 +6,7 @@ ghost use Rattle.log_model.specs.Core.{Stands};
 ghost use Rattle.vl_session.specs.Seen.{IsRefused, Looks, Takes};
 
 use log_core::Snapshot;
-use log_desk::{Desk, InsertFault, Pass};
+use log_desk::{Desk, InsertFault, Pass, PreparedBatch};
 use part_file::Part;
 use std::alloc::{AllocError, Global};
 use std::sync::Wait;
@@ -54,6 +54,25 @@ impl<R: Wait> Access<'_, R> {
         ensures caller { caller_of pass.new ≡ caller_of pass.old }
     {
         match self.desk.insert(self.rt, self.alloc, pass, batch) {
+            Ok(number) => Ok(number),
+            Err((fault, _)) => Err(fault),
+        }
+    }
+
+    /// Does what [`insert`](Access::insert) does, for a batch whose part was made before.
+    pub(crate) fn insert_prepared(
+        &self,
+        pass: &mut Pass,
+        batch: PreparedBatch,
+    ) -> Result<u64, InsertFault>
+        requires { IsPassOf self.now.desk.now pass.old }
+        ensures takes { OnOk result (Takes (caller_of pass.old) (seen_of pass.old) (seen_of pass.new) batch) }
+        ensures number { IfOk result (λ number. number ≡ length (seen_of pass.new).history) }
+        ensures refused { IfErr result (IsRefused (caller_of pass.old) (seen_of pass.old) (seen_of pass.new)) }
+        ensures pass { IsPassOf self.now.desk.now pass.new }
+        ensures caller { caller_of pass.new ≡ caller_of pass.old }
+    {
+        match self.desk.insert_prepared(self.rt, self.alloc, pass, batch) {
             Ok(number) => Ok(number),
             Err((fault, _)) => Err(fault),
         }

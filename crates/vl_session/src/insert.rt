@@ -10,7 +10,7 @@ ghost use Rattle.vl_session.specs.Seen.{HasRoom};
 
 use crate::access::Access;
 use ingest_row::{LineFault, Options, Weighed, intake_law, weigh_body};
-use log_desk::{Desk, InsertFault, Pass};
+use log_desk::{Desk, InsertFault, Pass, PreparedBatch};
 use std::alloc::{AllocError, Global};
 use std::sync::Wait;
 use vl_row::{Batch, BatchFault, Items};
@@ -100,17 +100,19 @@ pub fn insert_lines<R: Wait>(
     incoming.commit(&access, pass)
 }
 
-/// What a body gives, before it is committed.
+/// What a body of lines gives, before it is committed. The rows are read, and are in blocks already, so that little is
+/// left to be done at the desk.
 #[derive(Drop)]
-pub(crate) struct Incoming {
+pub struct Incoming {
     pub(crate) accepted: u64,
-    pub(crate) batch: Option<Batch>,
+    pub(crate) batch: Option<PreparedBatch>,
     pub(crate) refused: Items<LineFault>,
 }
 
 impl Incoming {
-    /// Reads the lines of a body. Fails only if the rows exceed the batch limit or memory runs out.
-    pub(crate) fn read(
+    /// Reads the lines of a body that came at the moment `now`, and makes the part of their rows. It needs no desk, so
+    /// threads can read bodies side by side. Fails only if the rows exceed the batch limit or memory runs out.
+    pub fn read(
         alloc: Global,
         options: &Options,
         now: i64,
@@ -129,11 +131,14 @@ impl Incoming {
         let rows = intake.rows.into_vec();
         let accepted = rows.len() as u64;
         match Batch::try_of(rows) {
-            Ok(batch) => Ok(Incoming {
-                accepted,
-                batch: Some(batch),
-                refused,
-            }),
+            Ok(batch) => match PreparedBatch::of(alloc, batch) {
+                Ok(batch) => Ok(Incoming {
+                    accepted,
+                    batch: Some(batch),
+                    refused,
+                }),
+                Err(_) => Err(InsertionFault::Memory),
+            },
             Err((BatchFault::NoRows, _)) => Ok(Incoming {
                 accepted,
                 batch: None,
@@ -144,7 +149,7 @@ impl Incoming {
     }
 
     /// Inserts the rows as one batch, if there are any.
-    pub(crate) fn commit<R: Wait>(
+    pub fn commit<R: Wait>(
         self,
         access: &Access<'_, R>,
         pass: &mut Pass,
@@ -167,7 +172,7 @@ impl Incoming {
                 refused,
             });
         };
-        match access.insert(pass, batch) {
+        match access.insert_prepared(pass, batch) {
             Ok(number) => Ok(Insertion {
                 accepted,
                 batch: Some(number),

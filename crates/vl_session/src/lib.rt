@@ -24,7 +24,7 @@ mod turn;
 
 pub use access::Access;
 pub use answer::{Answer, AnswerFault, answer_query};
-pub use insert::{Insertion, InsertionFault, insert_lines};
+pub use insert::{Incoming, Insertion, InsertionFault, insert_lines};
 pub use law::{alone_law, insert_law, select_law, session_law, syslog_law};
 pub use query_run::{QueryFault, QueryRefusal, Search, SearchFault, read_query};
 pub use report::{Done, End, Report};

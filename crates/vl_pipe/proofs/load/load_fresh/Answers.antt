@@ -1,4 +1,4 @@
-use Rattle.std.proofs.Common.{◌≡◌, ◌∙◌, ap, append-nil, arith, length, subst, sym}
+use Rattle.std.proofs.Common.{◌∙◌, ap, append-nil, arith, length, subst, sym}
 use Rattle.log_model.specs.History.{batches_in}
 use Rattle.vl_io.specs.Change.{change_of}
 use Rattle.vl_pipe.specs.Load.{IsLoaded, StopsLoad}
@@ -13,7 +13,7 @@ returns-in_err-desk-clause-stopped g c =
     (g.E.Sink.written c.args.err.now) _ _))
 
 pub load-requires-clause-opened : goal.load-requires-clause-opened
-load-requires-clause-opened g c = record {
+load-requires-clause-opened g c lives within = record {
   entered = sym (append-nil (batches_in c.in_ok-desk.desk.history));
   settled = c.in_ok-desk.ensures.unsettled
       ∙ sym (ap (λ history. length (batches_in history)) c.in_ok-desk.ensures.nothing);

@@ -1,7 +1,6 @@
 use Rattle.std.proofs.Common.{◌≡◌, sym, subst, FitsSigned, w64, to_z, of_z}
 use Rattle.std.proofs.lemmas.Int.{to_z-of_z}
 use Rattle.log_model.specs.History.{rows_of}
-use Rattle.vl_io.specs.Change.{change_of}
 use Rattle.lone_desk.specs.Answer.{FailsOver, IsAnswerOver}
 use Rattle.lone_desk.specs.Question.{question}
 use Rattle.vl_pipe.specs.Pipe.{StopsAnswer}

@@ -8,7 +8,7 @@ returns-in-Ok-clause-committed g c = record {
   accepted = refl;
   refused = refl;
   inserts = subst (λ batch. InsertsBatch (caller_of c.args.pass.now) batch (seen_of c.args.pass.now)
-      (seen_of c.insert.new.pass) (Some c.in-Ok.number)) (sym c.in-Some.is)
+      (seen_of c.insert_prepared.new.pass) (Some c.in-Ok.number)) (sym c.in-Some.is)
       (c.in-Ok.ensures.takes, ap Some c.in-Ok.ensures.number);
 }
 
