@@ -195,6 +195,36 @@ judge "4,096 batches" $status 0
 status=$?; wants "" $'full 4096\n'
 judge "4,097 batches" $status 8
 
+# the group that is one too many is read beside the one after it, which says nothing
+{ cat "$work/many"; echo x; echo '{"a":"b"}'; yes '' | head -n 998; echo y; } \
+  | "$program" pipe error > "$work/out" 2> "$work/err"
+status=$?; wants "" $'full 4096\n'
+judge "4,097 batches, and a group after them" $status 8
+
+# Groups are read in windows of one group, two, four and eight, and a window with 16 MiB takes no further group. So the
+# first four windows here are group 1, groups 2 and 3, group 4 (17 MB), and what comes after it.
+# named LINE: waits until this line is named as refused
+named() {
+  for _ in $(seq 400); do
+    grep -q "^line $1: NotObject\$" "$work/err" && return 0
+    sleep 0.05
+  done
+  echo "line $1 is not named" >> "$work/err"
+}
+rows() { yes "$1" | head -n 999; }
+mkfifo "$work/slow"
+"$program" pipe 'x | limit 0' < "$work/slow" > "$work/out" 2> "$work/err" &
+slow=$!
+exec 3> "$work/slow"
+{ echo x; rows '{"a":"b"}'; } >&3; named 1
+{ echo x; rows '{"a":"b"}'; echo x; rows '{"a":"b"}'; } >&3; named 1001; named 2001
+{ echo x; rows "{\"a\":\"$(many v 17000)\"}"; } >&3; named 3001
+{ echo x; rows '{"a":"b"}'; rows '{"a":"b"}'; echo x; echo x; } >&3
+exec 3>&-
+wait $slow; status=$?
+wants "" "$(printf 'line %s: NotObject\n' 1 1001 2001 3001 4001 6000 6001)"$'\n'
+judge "refused lines of a source that is slow" $status 0
+
 # each fifth of the cases of tests/logsql/
 if DUVONKA=$program "$top/tests/logsql.sh"; then passed=$((passed + 1)); else failed=$((failed + 1)); fi
 
