@@ -1,7 +1,7 @@
 -- A body that the contract refuses: one that names the refused lines of all groups only at the end of the input. Where
 -- the error stream fails at an early name, more lines lie after its group than seven groups and one read can have, and
 -- no status says so.
-use Rattle.std.proofs.Common.{◌⊎◌, inl, inr, ℕ, ◌+◌, ◌*◌, ◌<◌, ◌≤◌, cond, List, length}
+use Rattle.std.proofs.Common.{◌⊎◌, inl, inr, ℕ, ◌+◌, ◌*◌, ◌<◌, ◌≤◌, cond, List}
 use Rattle.std.proofs.Common.{ap, arith}
 use Rattle.std.proofs.lemmas.List.Sums.{count_by-le-length, sum_by-append}
 use Rattle.std.specs.Prelude.{count_by}

@@ -86,5 +86,5 @@ pub record IsWindow (old new : Reading) (left_old left_new : Option (List ℕ)) 
   pub closed : ended ≡ true → tail ≡ []
   pub at_end : old.ended ≡ false → ended ≡ true → IsAtEnd left_new
   pub idle : old.ended ≡ true → (bodies ≡ []) × (left_new ≡ left_old) × (ended ≡ true)
-  pub stops : EndsWindow old new faults_old faults_new (old.passed + length old.group + length (joined bodies)) tail ended
-      more
+  pub stops :
+      EndsWindow old new faults_old faults_new (old.passed + length old.group + length (joined bodies)) tail ended more

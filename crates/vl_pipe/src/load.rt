@@ -4,12 +4,11 @@ ghost use Rattle.vl_io.specs.Change.{Took, change_of};
 ghost use Rattle.log_model.specs.Core.{held_limit};
 ghost use Rattle.log_model.specs.History.{batches_in};
 ghost use Rattle.log_model.specs.Line.{lines_of};
-ghost use Rattle.log_model.specs.Row.{Batch};
 ghost use Rattle.ingest_row.specs.Intake.{Outcome, refused_from};
 ghost use Rattle.lone_desk.specs.Alone.{last_number};
 ghost use Rattle.vl_pipe.specs.Groups.{Arrival as Came, refusals_from};
-ghost use Rattle.vl_pipe.specs.Load.{IsHeld, IsLoaded, IsUnderWay, RefusesGroup, Run, StopsGroup, StopsLoad, TakesGroup};
-ghost use Rattle.vl_pipe.specs.Load.{errors_of};
+ghost use Rattle.vl_pipe.specs.Load.{IsHeld, IsLoaded, IsUnderWay, RefusesGroup, Run, StopsGroup, StopsLoad};
+ghost use Rattle.vl_pipe.specs.Load.{TakesGroup, errors_of};
 ghost use Rattle.vl_pipe.specs.Window.{AreReadGroups, IsReadGroup, bodies_of};
 
 use crate::arrival::Arrival;
