@@ -119,8 +119,9 @@ pub fn column_values<'a>(
     Ok(values)
 }
 
-/// The value of the field of this name. It is mostly at the place at which the last row had it.
-fn value_near<'a>(numbered: &NumberedRef<'a>, name: &str, place: &mut usize) -> &'a str
+/// Returns the value of the field of this name, empty where there is none. It is sought at this place first, which then
+/// becomes the one of the field.
+pub fn value_near<'a>(numbered: &NumberedRef<'a>, name: &str, place: &mut usize) -> &'a str
     ensures value { result.now ≡ field_value numbered.now.row.fields name.now }
     ensures size { length result.now ≤ 262_144 }
 {

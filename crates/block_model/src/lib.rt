@@ -8,7 +8,7 @@ mod lent;
 mod recent;
 mod rows;
 
-pub use columns::{column_names, column_values};
+pub use columns::{column_names, column_values, value_near};
 pub use keys::{Key, row_keys};
 pub use lent::{NumberedRef, lend, lent_row};
 pub use recent::{Recent, SLOTS, slot_of};

@@ -1,12 +1,15 @@
 -- The order of labels, one after another.
 use Rattle.std.proofs.Common.{◌≡◌, ℕ, zero, suc, ◌+◌, ◌<◌, ◌≤◌, min, List, [], ◌∷◌, length, get_or, drop, refl, sym, ap}
-use Rattle.std.proofs.Common.{◌∙◌, arith}
+use Rattle.std.proofs.Common.{◌∙◌, arith, subst, true}
+use Rattle.std.specs.Prelude.{bytes_eq}
 use Rattle.std.specs.Ordering.{nat_cmp, ordering_then}
 use Rattle.std.specs.declared.cmp.Ordering.{Ordering}
 use Rattle.std.specs.declared.cmp.Ordering.TheVariants.{Equal, Greater, Less}
 use Rattle.std.proofs.lemmas.Bool.Decides.{nat_tests}
+use Rattle.std.proofs.lemmas.Cmp.{nat_list_cmp_total, tied_itself}
 use Rattle.std.proofs.lemmas.List.{drop_more}
-use Rattle.log_model.specs.Field.{Field}
+use Rattle.std.proofs.lemmas.Slice.Eq.{bytes_eq-Decides}
+use Rattle.log_model.specs.Field.{Field, bytes_cmp}
 use Rattle.part_model.specs.Order.{label_cmp, labels_cmp}
 
 step : (xs ys : List Field) (i : ℕ) (x y : Field) → i < length xs → i < length ys → x ≡ get_or xs i x → y ≡ get_or ys i y
@@ -57,3 +60,11 @@ ends (x ∷ xs) [] (suc i) le also end = absurd (omega (arith, also))
 ends (x ∷ xs) (y ∷ ys) zero le also end = absurd (omega (arith, end))
 ends (x ∷ xs) (y ∷ ys) (suc i) le also end =
     both-some (length xs) (length ys) ∙ ends xs ys i (omega (arith, le)) (omega (arith, also)) (omega (arith, end))
+
+-- ---- labels of one name
+
+pub same-name : (n m : List ℕ) (o : Ordering) → bytes_eq n m ≡ true → ordering_then (bytes_cmp n m) o ≡ o
+same-name n m o e =
+    let same : n ≡ m = (bytes_eq-Decides n m).0 e in
+    ap (λ (p : Ordering). ordering_then p o) (subst (λ (k : List ℕ). bytes_cmp n k ≡ Equal) same (tied_itself
+    nat_list_cmp_total n))

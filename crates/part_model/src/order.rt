@@ -1,7 +1,8 @@
 //! The order of the rows of a part.
 
-ghost use Rattle.std.specs.Prelude.{◌≡◌, IfOk};
+ghost use Rattle.std.specs.Prelude.{◌≡◌, IfOk, bytes_eq};
 ghost use Rattle.std.specs.List.Sorted.{IsPermutation, IsSorted};
+ghost use Rattle.log_model.specs.Field.{bytes_cmp};
 ghost use Rattle.part_model.specs.Order.{is_earlier, key_cmp, label_cmp, labels_cmp, row_cmp};
 
 use block_model::NumberedRef;
@@ -58,11 +59,24 @@ fn labels_cmp(labels: &[Field], others: &[Field]) -> Ordering
     labels.len().cmp(&others.len())
 }
 
+/// By the name, and then by the value. Names are mostly the same, which is seen faster than their order.
 fn label_cmp(label: &Field, other: &Field) -> Ordering
     ensures { result ≡ label_cmp label.now other.now }
 {
-    label
-        .name()
-        .cmp(other.name())
-        .then(label.value().cmp(other.value()))
+    if have_same_name(label, other) {
+        return value_cmp(label, other);
+    }
+    label.name().cmp(other.name()).then(value_cmp(label, other))
+}
+
+fn have_same_name(label: &Field, other: &Field) -> bool
+    ensures { result ≡ bytes_eq label.now.0 other.now.0 }
+{
+    label.name() == other.name()
+}
+
+fn value_cmp(label: &Field, other: &Field) -> Ordering
+    ensures { result ≡ bytes_cmp label.now.1 other.now.1 }
+{
+    label.value().cmp(other.value())
 }

@@ -4,7 +4,6 @@ use Rattle.std.proofs.Common.{arith}
 use Rattle.std.specs.Prelude.{replicate}
 use Rattle.std.proofs.lemmas.Bool.{le-ltb, lt-ltb}
 use Rattle.std.proofs.lemmas.List.{nil_from_length}
-use Rattle.std.proofs.lemmas.Bool.Decides.{nat_tests}
 use Rattle.token_bloom.specs.Bits.{bit_count, has_bits, places, with_bits}
 use Rattle.token_bloom.specs.Filter.{has_hash, with_hash}
 use Rattle.token_bloom.proofs.Added.{bits-len, hash_filled}

@@ -3,4 +3,5 @@ pub mod Added
 pub mod Remainders
 pub mod Numbers
 pub mod Commutes
+pub mod OneWord
 pub mod HeldLaws

@@ -1,8 +1,9 @@
 //! The six bits of a word. Each is found by a remainder of its own, which takes no division and no branch that a
 //! processor would often guess wrongly.
 
-ghost use Rattle.std.specs.Prelude.{◌≡◌, ◌<◌};
+ghost use Rattle.std.specs.Prelude.{◌≡◌, ◌<◌, ◌∷◌, []};
 ghost use Rattle.token_bloom.specs.Bits.{bit_count, has_bit, has_bits, with_bit, with_bits, places};
+ghost use Rattle.token_bloom.specs.Filter.{with_hash};
 ghost use Rattle.token_bloom.specs.Modulus.{IsModulus};
 
 use crate::hash::stride_of;
@@ -56,4 +57,20 @@ pub(crate) fn set_hash(filter: &mut [u64], modulus: Modulus, hash: u64)
         set(filter, modulus.rest(sum) as usize);
         sum = sum.wrapping_add(stride);
     }
+}
+
+/// Returns the only word of 64 bits of a filter with all six bits of the word with this hash. A remainder modulo 64
+/// needs no multiplication.
+#[tactic(auto, using(crate::proofs::OneWord::one_written))]
+pub(crate) fn word_with(word: u64, hash: u64) -> u64
+    ensures { result ∷ [] ≡ with_hash (word ∷ []) hash }
+{
+    let stride = stride_of(hash);
+    let mut filled = word;
+    let mut sum = hash;
+    for _ in 0..BITS_A_WORD {
+        filled |= 1 << (sum % 64);
+        sum = sum.wrapping_add(stride);
+    }
+    filled
 }

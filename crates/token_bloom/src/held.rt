@@ -1,10 +1,10 @@
 //! How the words of 64 bits of a filter are held.
 
-ghost use Rattle.std.specs.Prelude.{◌≡◌, ◌<◌, ◌≤◌, ◌^◌, ◌∷◌, [], IfOk, length, replicate};
+ghost use Rattle.std.specs.Prelude.{◌≡◌, ◌<◌, ◌≤◌, ◌^◌, IfOk, length, replicate};
 ghost use Rattle.token_bloom.specs.Filter.{has_hash, with_hash};
 ghost use Rattle.token_bloom.specs.Held.{IsHeld, words_in};
 
-use crate::bits::{has_hash, set_hash};
+use crate::bits::{has_hash, set_hash, word_with};
 use crate::modulus::Modulus;
 use std::alloc::{AllocError, Global};
 
@@ -83,14 +83,6 @@ pub(crate) fn put_hash(held: &mut Held, hash: u64)
         Held::One(word) => *word = word_with(*word, hash),
         Held::Many(words) => set_in(words, hash),
     }
-}
-
-fn word_with(word: u64, hash: u64) -> u64
-    ensures { result ∷ [] ≡ with_hash (word ∷ []) hash }
-{
-    let mut filter = [word];
-    set_all(&mut filter, hash);
-    filter[0]
 }
 
 fn set_in(words: &mut Vec<u64>, hash: u64)

@@ -2,7 +2,7 @@
 use Rattle.std.proofs.Common.{◌≡◌, ℕ, ◌<◌, Bool, true, false, List, [], ◌∷◌, ◌++◌, length, refl, sym, ap}
 use Rattle.std.proofs.Common.{subst, ◌∙◌, arith}
 use Rattle.std.specs.Prelude.{◌||◌, bytes_eq}
-use Rattle.std.specs.List.{AllByRecursion, flat_map, fold, list_any}
+use Rattle.std.specs.List.{All, AllByRecursion, flat_map, fold, list_any}
 use Rattle.std.proofs.lemmas.List.{length-replicate}
 use Rattle.std.proofs.lemmas.List.Concat.{flat_map-cons}
 use Rattle.std.proofs.lemmas.List.Elements.{All-from_recursion}
@@ -85,3 +85,7 @@ leaves_none_out values =
     let all = flat_map words_in values in
     All-from_recursion (HasWords (filter_of values)) values (by-value (filter_of values) values (all-there
     (flat_map words_in values) (flat_map words_in values) (are_listed (flat_map words_in values))))
+
+pub has_words : (filter : List ℕ) (values : List (List ℕ)) → filter ≡ filter_of values
+    → All (HasWords filter) values
+has_words filter values e = rw e (leaves_none_out values)

@@ -5,3 +5,4 @@ pub mod Again
 pub mod There
 pub mod Sets
 pub mod Sorted
+pub mod FewLaws

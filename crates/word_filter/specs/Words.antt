@@ -3,7 +3,7 @@ use Rattle.std.specs.Prelude.{◌≡◌, ℕ, Bool, true, ◌||◌, IfSome, IsTr
 use Rattle.std.specs.BTreeSet.{insert_key}
 use Rattle.std.specs.Int.{w32, w64, to_le_bytes}
 use Rattle.std.specs.List.{All, flat_map, fold, list_all, list_any, slice_range}
-use Rattle.block_model.specs.Distinct.{distinct, is_listed}
+use Rattle.block_model.specs.Distinct.{distinct}
 use Rattle.byte_format.specs.Format.{Format, value, followed, many, front, ◌>>=◌}
 use Rattle.byte_format.specs.Items.{number}
 use Rattle.log_model.specs.Field.{bytes_cmp, is_empty}

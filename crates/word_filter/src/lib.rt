@@ -16,6 +16,10 @@ ghost use Rattle.token_bloom.specs.Filter.{with_word};
 ghost use Rattle.word_filter.specs.Words.{HasWords, LeavesNoneOut, Remembers, column_words, counted_filter};
 ghost use Rattle.word_filter.specs.Words.{filter_item, filter_of, filter_steps, is_there, put_words, skipped, words_in};
 
+mod few;
+
+use crate::few::put_few;
+use arrayvec::ArrayVec;
 use block_model::Recent;
 use byte_format::{Stop, put_u64s, take_u32, take_u64};
 use std::alloc::{AllocError, Global};
@@ -36,15 +40,44 @@ const SHORT: usize = 64;
 const LONG: usize = 65_536;
 
 /// A filter with room for the distinct words of these values, and with all of them.
+#[tactic(auto, using(crate::proofs::Kept::has_words))]
 pub fn filter_of(alloc: Global, values: &[&str]) -> Result<Bloom, AllocError>
     requires { sum_by (λ t. length t.now) values.now < 2 ^ 32 }
     ensures filter { IfOk result (λ bloom. bloom ≡ filter_of (map (λ t. t.now) values.now)) }
     ensures words { IfOk result (λ bloom. All (HasWords bloom) (map (λ t. t.now) values.now)) }
     ensures small { IfOk result (λ bloom. length bloom < 2 ^ 32) }
 {
+    let mut words = ArrayVec::new();
+    if put_few(&mut words, values) {
+        let few = filter_with(alloc, words.as_slice())?;
+        return Ok(few);
+    }
+    let bloom = filter_of_many(alloc, values)?;
+    Ok(bloom)
+}
+
+/// The same, whatever the number of words is.
+fn filter_of_many(alloc: Global, values: &[&str]) -> Result<Bloom, AllocError>
+    requires { sum_by (λ t. length t.now) values.now < 2 ^ 32 }
+    ensures filter { IfOk result (λ bloom. bloom ≡ filter_of (map (λ t. t.now) values.now)) }
+    ensures small { IfOk result (λ bloom. length bloom < 2 ^ 32) }
+{
     let words = distinct_words(alloc, values)?;
+    let bloom = filter_with(alloc, words.as_slice())?;
+    Ok(bloom)
+}
+
+/// The filter of the values that have these words, of which no two are the same.
+fn filter_with(alloc: Global, words: &[(u64, &str)]) -> Result<Bloom, AllocError>
+    requires few { length words.now < 2 ^ 32 }
+    requires once { IsDistinct bytes_eq (map (λ w. w.1.now) words.now) }
+    requires hashes { All (λ w. w.0 ≡ fnv w.1.now) words.now }
+    ensures filter { IfOk result (λ bloom. (values : List (List ℕ))
+        → distinct (map (λ w. w.1.now) words.now) ≡ column_words values → bloom ≡ filter_of values) }
+    ensures small { IfOk result (λ bloom. length bloom < 2 ^ 32) }
+{
     let mut bloom = Bloom::with_room(alloc, words.len())?;
-    add_words(&mut bloom, words.as_slice());
+    add_words(&mut bloom, words);
     Ok(bloom)
 }
 
