@@ -1,6 +1,6 @@
 -- Rows whose fields have the same names, one after another.
 use Rattle.std.proofs.Common.{◌≡◌, ℕ, ◌+◌, ◌<◌, Bool, true, List, [], ◌∷◌, ◌++◌, length, take, get_or, refl, sym, ap, subst}
-use Rattle.std.proofs.Common.{◌∙◌, arith, Ok, Err, IfOk, Result}
+use Rattle.std.proofs.Common.{◌∙◌, arith, Ok, Err, IfOk, Result, Bor, map}
 use Rattle.std.specs.Prelude.{◌&&◌, IsUtf8}
 use Rattle.std.specs.BTreeSet.{insert_key}
 use Rattle.std.specs.List.{AllByRecursion, flat_map, fold, list_all}
@@ -85,6 +85,15 @@ name-more fields names i field name lt also is is_name before same =
     ∙ ap (λ (l : List (List ℕ)). l ++ (get_or fields i field).0 ∷ []) before
     ∙ ap (λ (n : List ℕ). take i names ++ n ∷ []) (ap (λ (f : Field). f.0) (sym is) ∙ same ∙ is_name)
     ∙ sym (take_more names i name also)
+
+pub text-more : (names : List (List ℕ)) (texts : List (Bor (List ℕ))) (i : ℕ) (name : List ℕ) (d : Bor (List ℕ))
+    → i < length names → i < length texts → name ≡ get_or names i name → take i names ≡ map (λ t. t.now) (take i texts)
+    → name ≡ (get_or texts i d).now → take (i + 1) names ≡ map (λ t. t.now) (take (i + 1) texts)
+text-more names texts i name d lt also is before same =
+    take_more names i name lt
+    ∙ ap (λ (l : List (List ℕ)). l ++ get_or names i name ∷ []) before
+    ∙ ap (λ (n : List ℕ). map (λ t. t.now) (take i texts) ++ n ∷ []) (sym is ∙ same)
+    ∙ sym (map_more (λ (t : Bor (List ℕ)). t.now) texts i d also)
 
 -- ---- texts
 

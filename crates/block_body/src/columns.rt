@@ -2,7 +2,6 @@
 
 ghost use Rattle.std.specs.Prelude.{◌≡◌, ◌<◌, ◌≤◌, ◌^◌, ◌∷◌, [], IfOk, length, map, sum_by};
 ghost use Rattle.std.specs.List.{All};
-ghost use Rattle.log_model.specs.Field.{field_value};
 ghost use Rattle.word_filter.specs.Words.{HasWords, filter_of};
 ghost use Rattle.block_model.specs.Columns.{values_of};
 ghost use Rattle.block_body.specs.Outlines.{filter_named};
@@ -11,7 +10,7 @@ use crate::head::ColumnHead;
 use crate::held_columns::HeldColumns;
 use crate::names::Name;
 use block_column::ValueColumn;
-use block_model::{NumberedRef, column_values};
+use block_model::{NumberedRef, column_values, value_near};
 use std::alloc::{AllocError, Global};
 use token_bloom::Bloom;
 use word_filter::filter_of;
@@ -46,22 +45,16 @@ fn columns_of_row(
 {
     let mut heads = Vec::with_capacity(alloc, names.len())?;
     let mut values = Vec::with_capacity(alloc, names.len())?;
+    let mut place = 0;
     for name in names {
-        let value = value_in(numbered, name.as_str());
+        // The fields have these names, one after another.
+        let value = value_near(numbered, name.as_str(), &mut place);
         heads.push(head_of_value(alloc, name, value)?)?;
         values.push(value)?;
+        place = place.wrapping_add(1);
     }
     let columns = HeldColumns::of_row(alloc, values.as_slice())?;
     Ok((heads, columns))
-}
-
-/// The value of the field of this name.
-fn value_in<'a>(numbered: &NumberedRef<'a>, name: &str) -> &'a str
-    ensures value { result.now ≡ field_value numbered.now.row.fields name.now }
-    ensures size { length result.now ≤ 262_144 }
-{
-    let row = numbered.row;
-    row.fields().get(name)
 }
 
 /// The head of a column of one row, which has this value.

@@ -1,6 +1,7 @@
 //! Names of columns, which blocks share.
 
 ghost use Rattle.std.specs.Prelude.{◌≡◌, ◌<◌, [], IfOk, IsTrue, OnErr, OnOk, bytes_eq, length, slice_index_or, true};
+ghost use Rattle.std.specs.Prelude.{Some, map, slice_get};
 ghost use Rattle.std.specs.List.{list_all};
 ghost use Rattle.std.specs.List.Sorted.{IsSearchInRange};
 ghost use Rattle.log_model.specs.Row.{IsRow};
@@ -108,6 +109,28 @@ impl ColumnNames {
         Ok(())
     }
 
+    /// Makes them these names. They stay as they are if memory runs out.
+    pub fn set(&mut self, alloc: Global, texts: &[&str]) -> Result<(), AllocError>
+        ensures names { OnOk result (self.new ≡ map (λ t. t.now) texts.now) }
+        ensures stays { OnErr result (self.new ≡ self.old) }
+    {
+        if are_texts(self.names.as_slice(), texts) {
+            return Ok(());
+        }
+        remember(&mut self.known, self.names.as_slice())?;
+        let names = names_of_lent(alloc, texts, self.known.as_slice())?;
+        self.names = names;
+        Ok(())
+    }
+
+    /// The name at this place. It shares its memory.
+    pub fn shared(&self, c: usize) -> Result<Name, AllocError>
+        requires { c < length self.now }
+        ensures { IfOk result (λ name. slice_get self.now c ≡ Some name) }
+    {
+        self.names[c].share()
+    }
+
     pub(crate) fn as_slice(&self) -> &[Name]
         ensures { result.now ≡ self.now }
     {
@@ -157,6 +180,38 @@ fn names_of_texts(alloc: Global, texts: &[Text], known: &[Name]) -> Result<Vec<N
         names.push(name)?;
     }
     Ok(names)
+}
+
+fn names_of_lent(alloc: Global, texts: &[&str], known: &[Name]) -> Result<Vec<Name>, AllocError>
+    ensures { IfOk result (λ names. names.items ≡ map (λ t. t.now) texts.now) }
+{
+    let mut names = Vec::with_capacity(alloc, texts.len())?;
+    for text in texts {
+        let name = name_for(alloc, text, known)?;
+        names.push(name)?;
+    }
+    Ok(names)
+}
+
+/// Whether the names are these texts, one after another.
+fn are_texts(names: &[Name], texts: &[&str]) -> bool
+    ensures { IsTrue result → names.now ≡ map (λ t. t.now) texts.now }
+{
+    if names.len() != texts.len() {
+        return false;
+    }
+    for i in 0..names.len() {
+        if !is_text(&names[i], texts[i]) {
+            return false;
+        }
+    }
+    true
+}
+
+fn is_text(name: &Name, text: &str) -> bool
+    ensures { result ≡ bytes_eq name.now text.now }
+{
+    name.as_str() == text
 }
 
 /// The name of this text, which shares the memory of the one that is known, if there is one.

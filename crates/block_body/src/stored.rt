@@ -1,13 +1,14 @@
 //! Rows of a block, held by columns.
 
 ghost use Rattle.std.specs.Prelude.{◌≡◌, ◌<◌, ◌++◌, [], IfOk, OnOk, Some, length, slice_get};
-ghost use Rattle.std.specs.Prelude.{slice_index_or};
-ghost use Rattle.std.specs.List.{AllByRecursion};
+ghost use Rattle.std.specs.Prelude.{slice_index_or, true};
+ghost use Rattle.std.specs.List.{AllByRecursion, list_all};
 ghost use Rattle.byte_format.specs.Spelling.{HasSpelling};
 ghost use Rattle.lent_row.specs.Cells.{value_text};
 ghost use Rattle.log_model.specs.History.{AreOfOneBatch, with_batch};
 ghost use Rattle.block_model.specs.Columns.{names_of, values_of};
 ghost use Rattle.block_model.specs.Keys.{IsNumbered, keys_of};
+ghost use Rattle.block_model.specs.Texts.{is_text_row};
 ghost use Rattle.block_format.specs.Reading.{block_writing};
 ghost use Rattle.block_format.specs.Rows.{IsBlock};
 ghost use Rattle.block_format.specs.Spelling.{block_bytes};
@@ -163,6 +164,14 @@ impl StoredRows {
         ensures block { IsBlock self.now }
         ensures each { AllByRecursion IsNumbered self.now }
         ensures spelled { HasSpelling (block_writing self.now) }
+    {
+        // What is held is known where one of the fields is named.
+        let _ = &self.head;
+    }
+
+    /// Says that the rows are in UTF-8. This does nothing.
+    pub fn texts(&self)
+        ensures { list_all is_text_row self.now ≡ true }
     {
         // What is held is known where one of the fields is named.
         let _ = &self.head;

@@ -1,6 +1,7 @@
 //! Blocks.
 
-ghost use Rattle.std.specs.Prelude.{◌≡◌, ◌+◌, ◌-◌, ◌^◌, ◌++◌, IfErr, IfOk, List, Ok, OnOk, Some, min};
+ghost use Rattle.std.specs.Prelude.{◌≡◌, ◌+◌, ◌-◌, ◌^◌, ◌++◌, IfErr, IfOk, List, Ok, OnOk, Some};
+ghost use Rattle.std.specs.Prelude.{◌<◌, ◌≤◌, length, min};
 ghost use Rattle.std.specs.List.{AllByRecursion};
 ghost use Rattle.byte_format.specs.Spelling.{reading};
 ghost use Rattle.log_model.specs.History.{AreOfOneBatch, Numbered as NumberedRow, rows_in, with_batch};
@@ -10,12 +11,14 @@ ghost use Rattle.block_format.specs.Reading.{block, block_writing};
 ghost use Rattle.block_format.specs.Rows.{IsBlock};
 ghost use Rattle.block_format.specs.Spelling.{block_bytes};
 ghost use Rattle.block_body.specs.Outlines.{IsSpan, outline_of};
+ghost use Rattle.block_gather.specs.Picked.{picked, rows_picked};
 ghost use Rattle.column_block.specs.Answers.{AnswersAs, IsPlaceOf};
 
 use crate::fault::{BlockFault, fault_of};
 use crate::open::Open;
 use crate::steps::Steps;
 use block_body::{ColumnNames, Head, StoredRows};
+use block_gather::{Pick, gathered};
 use block_model::{NumberedRef, lend};
 use block_reading::Items;
 use byte_format::read_exactly;
@@ -65,6 +68,29 @@ impl Block {
     {
         let stored = StoredRows::of_lent(alloc, rows, names)?;
         Ok(Block { stored })
+    }
+
+    /// A block of picked rows, one pick after another. No row is made. The names of the columns are shared with the
+    /// last block if they can be.
+    pub fn of_picks(
+        alloc: Global,
+        picks: &[Pick<'_>],
+        names: &mut ColumnNames,
+    ) -> Result<Block, AllocError>
+        requires { IsBlock (rows_picked picks.now) }
+        ensures rows { IfOk result (λ block. block ≡ rows_picked picks.now) }
+    {
+        let stored = gathered(alloc, picks, names)?;
+        Ok(Block { stored })
+    }
+
+    /// Picks the rows from place `from` up to, and without, place `to`.
+    pub fn pick(&self, from: usize, to: usize) -> Pick<'_>
+        requires some { from < to }
+        requires within { to ≤ length self.now }
+        ensures { result ≡ picked self.now from to }
+    {
+        Pick::new(&self.stored, from, to)
     }
 
     /// An equal block, which shares its memory.
