@@ -1,6 +1,6 @@
 //! Filling rows in order into blocks.
 
-ghost use Rattle.std.specs.Prelude.{◌≡◌, ◌≤◌, IfOk};
+ghost use Rattle.std.specs.Prelude.{◌≡◌, ◌≤◌, IfOk, length};
 ghost use Rattle.log_model.specs.History.{numbered_in};
 ghost use Rattle.log_model.specs.Row.{IsBatch, batch_limit};
 ghost use Rattle.part_model.specs.Filling.{AreFilled, rows_in_blocks};
@@ -65,4 +65,29 @@ pub(crate) fn weight_of(blocks: &[Block]) -> u64
         weight += block.weight();
     }
     weight
+}
+
+/// How many rows there are. No memory holds 2^64 or more, for which out of memory is returned.
+pub(crate) fn count_of(blocks: &[Block]) -> Result<u64, AllocError>
+    ensures { IfOk result (λ count. count ≡ length (rows_in_blocks blocks.now)) }
+{
+    let mut count: u64 = 0;
+    for block in blocks {
+        match count.checked_add(block.head().rows() as u64) {
+            Some(more) => count = more,
+            None => return Err(AllocError),
+        }
+    }
+    Ok(count)
+}
+
+/// The same blocks, which share their memory.
+pub(crate) fn shared(alloc: Global, blocks: &[Block]) -> Result<Vec<Block>, AllocError>
+    ensures { IfOk result (λ copies. copies.items ≡ blocks.now) }
+{
+    let mut copies = Vec::with_capacity(alloc, blocks.len())?;
+    for block in blocks {
+        copies.push(block.share()?)?;
+    }
+    Ok(copies)
 }

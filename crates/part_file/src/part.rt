@@ -11,7 +11,7 @@ ghost use Rattle.part_file.specs.Version.{HasOtherVersion};
 ghost use Rattle.part_file.specs.Answers.{AnswersAs, IsFaultOf};
 
 use crate::fault::{PartFault, fault_of};
-use crate::filled::{batch_rows, filled, weight_of};
+use crate::filled::{batch_rows, count_of, filled, shared, weight_of};
 use crate::put::{put_blocks, put_head};
 use crate::read::PartItems;
 use crate::take::version_of;
@@ -89,6 +89,33 @@ impl Part {
             blocks,
             rows: rows.len() as u64,
             weight,
+        })
+    }
+
+    /// A part of these blocks, which are filled with its rows.
+    pub fn of_blocks(blocks: Vec<Block>) -> Result<Part, AllocError>
+        requires part { IsPart (rows_in_blocks blocks.items) }
+        requires filled { AreFilled blocks.items (rows_in_blocks blocks.items) }
+        ensures { IfOk result (λ part. part ≡ rows_in_blocks blocks.items) }
+    {
+        let rows = count_of(blocks.as_slice())?;
+        let weight = weight_of(blocks.as_slice());
+        Ok(Part {
+            blocks,
+            rows,
+            weight,
+        })
+    }
+
+    /// An equal part, which shares its memory.
+    pub fn share(&self, alloc: Global) -> Result<Part, AllocError>
+        ensures { IfOk result (λ part. part ≡ self.now) }
+    {
+        let blocks = shared(alloc, self.blocks.as_slice())?;
+        Ok(Part {
+            blocks,
+            rows: self.rows,
+            weight: self.weight,
         })
     }
 

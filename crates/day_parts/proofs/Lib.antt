@@ -1,0 +1,4 @@
+mod DayLaws
+mod RunLaws
+mod SortLaws
+mod FlatLaws

@@ -1,0 +1,6 @@
+//! Merging parts into one.
+#![tactic(auto)]
+
+mod merging;
+
+pub use merging::merge;

@@ -1,0 +1,5 @@
+pub mod RangeLaws
+pub mod NameLaws
+mod EndLaws
+mod TakeLaws
+mod FillLaws
