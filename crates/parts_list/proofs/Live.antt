@@ -1,14 +1,14 @@
 -- What the two slots say while one of them changes.
 use Rattle.std.proofs.Common.{◌≡◌, ◌≢◌, inl, inr, ℕ, zero, suc, ◌+◌, ◌-◌, ◌<◌, ◌≤◌, List, ◌∷◌, true, false, refl, sym}
 use Rattle.std.proofs.Common.{◌∙◌, ap, subst, arith}
-use Rattle.std.specs.Prelude.{◌⊎◌, ◌%◌, Bool, Option, Some, None, nat_lt, if◌then◌else◌, ⊤}
+use Rattle.std.specs.Prelude.{◌⊎◌, ◌%◌, Bool, Some, nat_lt, if◌then◌else◌, ⊤}
 use Rattle.std.proofs.lemmas.Bool.{lt-ltb, le-ltb, cases_eq, ltb-true, ltb-false}
 use Rattle.vl_vault.specs.Disk.{Past, content, MayLeave, Image, IsCrashImage}
 use Rattle.vl_vault.specs.Moments.{Always, now, ChangesFile, ChangesFiles, IsDurable}
 use Rattle.parts_list.specs.declared.list.List.{List as Listing}
 use Rattle.parts_list.specs.Listing.{is_list}
 use Rattle.parts_list.specs.Format.{body_of}
-use Rattle.parts_list.specs.Slots.{Slot, Closed, Broken, Open, is_open, slot_of, live, found_in, IsOldOrNew}
+use Rattle.parts_list.specs.Slots.{Slot, Closed, Broken, Open, slot_of, live, found_in, IsOldOrNew}
 use Rattle.parts_list.specs.Slots.{IsClosedOrOld}
 use Rattle.parts_list.specs.Writing.{IsSlotOf, AreSlotsDurable, ComesNext, HasOld, HasOldOr}
 use Rattle.vl_vault.proofs.Runs.{weaken}

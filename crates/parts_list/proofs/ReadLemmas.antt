@@ -8,7 +8,7 @@ use Rattle.parts_list.specs.declared.list.List.{List as Listing}
 use Rattle.parts_list.specs.declared.list.ListFault.{ListFault}
 use Rattle.parts_list.specs.declared.list.ListFault.TheVariants.{VaultFault, Memory}
 use Rattle.parts_list.specs.Reading.{slot_with, IsFaultIn, IsFaultOf}
-use Rattle.parts_list.specs.Slots.{Slot, Closed, Broken, Open, slot_of, live, found_in}
+use Rattle.parts_list.specs.Slots.{Slot, Broken, slot_of, live, found_in}
 
 not_broken : (list : Option Listing) → slot_with list ≢ Broken
 not_broken None = λ is. absurd cc

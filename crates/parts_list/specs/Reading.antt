@@ -1,5 +1,5 @@
 -- What reading the live list promises.
-use Rattle.std.specs.Prelude.{◌≡◌, ◌≢◌, ◌⊎◌, ℕ, ◌≤◌, List, ◌∷◌, length, take, drop, Option, Some, None, ⊤}
+use Rattle.std.specs.Prelude.{◌≡◌, ◌≢◌, ◌⊎◌, ℕ, ◌≤◌, List, ◌∷◌, length, take, drop, Option, Some, None, true, ⊤}
 use Rattle.std.specs.Int.{w16, from_le_bytes}
 use Rattle.byte_format.specs.Spelling.{IsDamagedAt}
 use Rattle.vl_vault.specs.Disk.{Image}
@@ -7,6 +7,7 @@ use Rattle.parts_list.specs.declared.list.List.{List as Listing}
 use Rattle.parts_list.specs.declared.list.ListFault.{ListFault}
 use Rattle.parts_list.specs.declared.list.ListFault.TheVariants.{VaultFault, Memory, Damaged, Version}
 use Rattle.parts_list.specs.Format.{magic, slot_format, slot_writing}
+use Rattle.parts_list.specs.Listing.{is_list}
 use Rattle.parts_list.specs.Slots.{Slot, Closed, Broken, Open, slot_of}
 
 -- The gate is open, the magic is right, and a whole version follows.
@@ -22,6 +23,11 @@ HasOtherVersion bytes version = HasVersion bytes version × (version ≢ 1)
 abbrev pub slot_with : Option Listing → Slot
 slot_with None = Closed
 slot_with (Some l) = Open l
+
+-- A list that was read keeps the rules of a list.
+abbrev pub KeepsRules : Option Listing → Type 0
+KeepsRules None = Unit {0}
+KeepsRules (Some l) = is_list l ≡ true
 
 -- The slot is open and has no list.
 abbrev pub IsBroken : ℕ → List ℕ → Type 0

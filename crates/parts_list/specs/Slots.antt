@@ -1,6 +1,6 @@
 -- What the two slots say.
-use Rattle.std.specs.Prelude.{◌≡◌, ◌≢◌, ◌⊎◌, ℕ, ◌<◌, ◌==◌, nat_lt, if◌then◌else◌, Bool, true, false, List, [], ◌∷◌}
-use Rattle.std.specs.Prelude.{drop, Option, Some, None, Result, Ok, Err}
+use Rattle.std.specs.Prelude.{◌≡◌, ◌≢◌, ◌⊎◌, ℕ, ◌==◌, nat_lt, if◌then◌else◌, Bool, false, List, [], ◌∷◌}
+use Rattle.std.specs.Prelude.{Option, Some, None, Result, Ok, Err}
 use Rattle.vl_vault.specs.Disk.{Image}
 use Rattle.parts_list.specs.declared.list.List.{List as Listing}
 use Rattle.parts_list.specs.Format.{slot_reading}

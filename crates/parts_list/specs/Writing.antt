@@ -1,5 +1,5 @@
 -- What writing a list promises.
-use Rattle.std.specs.Prelude.{◌≡◌, ◌⊎◌, ℕ, ◌+◌, ◌<◌, ◌-◌, ◌%◌, Option, Some, None, ⊤}
+use Rattle.std.specs.Prelude.{◌≡◌, ◌⊎◌, ℕ, ◌+◌, ◌<◌, ◌%◌, Option, Some, None, ⊤}
 use Rattle.vl_io.specs.Faults.{Rose}
 use Rattle.vl_vault.specs.Disk.{Past, content, Image}
 use Rattle.vl_vault.specs.Moments.{IsDurable}

@@ -13,4 +13,4 @@ mod write;
 
 pub use list::{Entry, List, ListFault};
 pub use read::read_list;
-pub use write::write_list;
+pub use write::{spell_list, write_list, write_spelled};

@@ -6,7 +6,7 @@ ghost use Rattle.vl_vault.specs.Disk.{content};
 ghost use Rattle.vl_vault.specs.Moments.{Always, IsUnchanged};
 ghost use Rattle.byte_format.specs.Spelling.{IsDamagedAt};
 ghost use Rattle.parts_list.specs.Format.{slot_format, slot_writing};
-ghost use Rattle.parts_list.specs.Reading.{HasOtherVersion, IsBroken, IsFaultIn, IsFaultOf, slot_with};
+ghost use Rattle.parts_list.specs.Reading.{HasOtherVersion, IsBroken, IsFaultIn, IsFaultOf, KeepsRules, slot_with};
 ghost use Rattle.parts_list.specs.Slots.{found_in, is_open, live, slot_of};
 
 use crate::format::{HEAD, VERSION};
@@ -20,6 +20,7 @@ use vl_vault::Vault;
 pub fn read_list<V: Vault>(alloc: Global, vault: &mut V) -> Result<Option<List>, ListFault>
     ensures moments { V.is_told → Always (IsUnchanged (V.past vault.old)) (V.past vault.old) (V.past vault.new) }
     ensures found { V.is_told → IfOk result (λ list. found_in (content (V.past vault.old)) ≡ Some list) }
+    ensures rules { IfOk result KeepsRules }
     ensures damaged { V.is_told → IfErr result (λ fault. IsFaultOf fault (content (V.past vault.old))) }
     ensures fault { result ≡ Err ListFault.VaultFault → Rose (V.faults vault.old) (V.faults vault.new) }
     ensures stays { V.faults vault.old ≤ V.faults vault.new }
@@ -34,6 +35,7 @@ fn read_slot<V: Vault>(alloc: Global, vault: &mut V, slot: u64) -> Result<Option
     ensures moments { V.is_told → Always (IsUnchanged (V.past vault.old)) (V.past vault.old) (V.past vault.new) }
     ensures found { V.is_told → IfOk result (λ list.
         slot_of slot (content (V.past vault.old) slot) ≡ slot_with list) }
+    ensures rules { IfOk result KeepsRules }
     ensures damaged { V.is_told → IfErr result (λ fault. IsFaultIn fault slot (content (V.past vault.old) slot)) }
     ensures fault { result ≡ Err ListFault.VaultFault → Rose (V.faults vault.old) (V.faults vault.new) }
     ensures stays { V.faults vault.old ≤ V.faults vault.new }
@@ -53,6 +55,7 @@ fn read_open_slot<V: Vault>(
     ensures moments { V.is_told → Always (IsUnchanged (V.past vault.old)) (V.past vault.old) (V.past vault.new) }
     ensures found { V.is_told → IfOk result (λ list.
         slot_of slot (content (V.past vault.old) slot) ≡ slot_with list) }
+    ensures rules { IfOk result KeepsRules }
     ensures damaged { V.is_told → IfErr result (λ fault. IsFaultIn fault slot (content (V.past vault.old) slot)) }
     ensures fault { result ≡ Err ListFault.VaultFault → Rose (V.faults vault.old) (V.faults vault.new) }
     ensures stays { V.faults vault.old ≤ V.faults vault.new }
@@ -80,6 +83,7 @@ fn slot_bytes<V: Vault>(alloc: Global, vault: &mut V, slot: u64) -> Result<Vec<u
 /// Returns the list that a slot of these bytes has, or `None` if its gate is closed.
 fn list_in(alloc: Global, slot: u64, bytes: &[u8]) -> Result<Option<List>, ListFault>
     ensures found { IfOk result (λ list. slot_of slot bytes.now ≡ slot_with list) }
+    ensures rules { IfOk result KeepsRules }
     ensures damaged { IfErr result (λ fault. IsFaultIn fault slot bytes.now) }
     ensures inside { IfErr result (λ fault. fault ≢ ListFault.VaultFault) }
 {
@@ -138,7 +142,8 @@ fn other_version(bytes: &[u8]) -> Option<u16>
 
 /// Returns the list of the greater generation.
 fn newer(first: Option<List>, second: Option<List>) -> Option<List>
-    ensures { live (slot_with first) (slot_with second) ≡ Some result }
+    ensures live { live (slot_with first) (slot_with second) ≡ Some result }
+    ensures rules { KeepsRules first → KeepsRules second → KeepsRules result }
 {
     let Some(one) = first else {
         return second;

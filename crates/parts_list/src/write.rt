@@ -1,5 +1,5 @@
 //! Writing a list.
-ghost use Rattle.std.specs.Prelude.{◌≡◌, ◌%◌, ◌^◌, ◌<◌, ◌≤◌, Err, IfErr, IfOk, OnOk, Some, drop, length, true};
+ghost use Rattle.std.specs.Prelude.{◌≡◌, ◌%◌, ◌≤◌, Err, IfErr, IfOk, OnOk, Some, drop, true};
 ghost use Rattle.vl_io.specs.Faults.{HasCause};
 ghost use Rattle.vl_vault.specs.Disk.{content};
 ghost use Rattle.vl_vault.specs.Moments.{Always, ChangesFile, ChangesFiles, IsDurable};
@@ -32,8 +32,35 @@ pub fn write_list<V: Vault>(alloc: Global, vault: &mut V, list: &List) -> Result
     ensures memory { result ≡ Err ListFault.Memory → vault.new ≡ vault.old }
     ensures stays { V.faults vault.old ≤ V.faults vault.new }
 {
-    let body = spelled_body(alloc, list)?;
-    stage_list(vault, list, &body)?;
+    let body = spell_list(alloc, list)?;
+    write_spelled(vault, list, &body)?;
+    Ok(())
+}
+
+/// Returns the bytes of the list for `write_spelled`: what stands after the gate of its slot.
+pub fn spell_list(alloc: Global, list: &List) -> Result<Vec<u8>, AllocError>
+    requires { is_list list.now ≡ true }
+    ensures { IfOk result (λ body. body.items ≡ body_of list.now) }
+{
+    let mut body = Vec::new(alloc);
+    put_body(&mut body, list)?;
+    Ok(body)
+}
+
+/// Does what `write_list` does, for a list whose bytes `spell_list` returned. It takes no memory.
+pub fn write_spelled<V: Vault>(vault: &mut V, list: &List, body: &[u8]) -> Result<(), Failed>
+    requires durable { V.is_told → AreSlotsDurable (V.past vault.old) }
+    requires rules { is_list list.now ≡ true }
+    requires next { V.is_told → ComesNext (found_in (content (V.past vault.old))) list.now }
+    requires spelled { body.now ≡ body_of list.now }
+    ensures moments { V.is_told → Always
+        (ChangesFiles (IsSlotOf list.now) (HasOldOr (V.past vault.old) list.now) (V.past vault.old))
+        (V.past vault.old) (V.past vault.new) }
+    ensures written { V.is_told → OnOk result (found_in (content (V.past vault.new)) ≡ Some (Some list.now)) }
+    ensures durable { V.is_told → OnOk result (AreSlotsDurable (V.past vault.new)) }
+    ensures cause { HasCause (V.faults vault.old) (V.faults vault.new) result }
+{
+    stage_list(vault, list, body)?;
     open_gate(vault, list.generation % 2)?;
     Ok(())
 }
@@ -59,14 +86,4 @@ fn stage_list<V: Vault>(vault: &mut V, list: &List, body: &[u8]) -> Result<(), F
     let slot = list.generation % 2;
     close_gate(vault, slot)?;
     write_body(vault, slot, body)
-}
-
-/// Returns what stands after the gate of a slot that has the list.
-fn spelled_body(alloc: Global, list: &List) -> Result<Vec<u8>, AllocError>
-    requires { length list.now.entries < 2 ^ 32 }
-    ensures { IfOk result (λ body. body.items ≡ body_of list.now) }
-{
-    let mut body = Vec::new(alloc);
-    put_body(&mut body, list)?;
-    Ok(body)
 }

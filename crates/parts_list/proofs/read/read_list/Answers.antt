@@ -28,4 +28,4 @@ pub returns-clause-found : goal.returns-clause-found
 returns-clause-found g c = λ told.
     both_found (g.V.Vault.past c.args.vault.now) _ c.in_ok-first.first (c.in_ok-first.ensures.found told)
     (c.read_slot.ensures.moments told)
-    c.in_ok-second.second _ (c.in_ok-second.ensures.found told) c.newer.ensures
+    c.in_ok-second.second _ (c.in_ok-second.ensures.found told) c.newer.ensures.live

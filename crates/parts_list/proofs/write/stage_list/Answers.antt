@@ -1,4 +1,4 @@
-use Rattle.std.proofs.Common.{inl, inr, ◌≡◌, ◌%◌, List, ℕ}
+use Rattle.std.proofs.Common.{inl, ◌%◌, ℕ}
 use Rattle.vl_vault.specs.Disk.{content, Past}
 use Rattle.vl_vault.specs.Moments.{Always, ChangesFile}
 use Rattle.parts_list.specs.Slots.{IsClosedOrOld, IsShut}

@@ -1,4 +1,4 @@
-use Rattle.std.proofs.Common.{◌≡◌, ◌∙◌, ◌++◌, ◌∷◌, [], List, ℕ, ap, append_assoc}
+use Rattle.std.proofs.Common.{◌∙◌, ◌++◌, ◌∷◌, [], List, ℕ, ap, append_assoc}
 use Rattle.byte_format.proofs.Cases.{both_true, some_from}
 use Rattle.std.specs.Prelude.{◌==◌, ◌%◌}
 use Rattle.parts_list.specs.Format.{body_of}

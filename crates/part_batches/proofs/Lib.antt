@@ -1,0 +1,4 @@
+pub mod NumberLaws
+pub mod CountLaws
+pub mod SameLaws
+pub mod WholeLaws

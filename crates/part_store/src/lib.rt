@@ -1,0 +1,11 @@
+//! The parts of the first so many batches, on a vault: a file for each part, and a list of them.
+#![tactic(auto)]
+
+mod catalog;
+mod fault;
+mod files;
+mod prepare;
+mod store;
+
+pub use fault::StoreFault;
+pub use store::{Store, Stored};

@@ -1,0 +1,156 @@
+//! What crashes and faults leave while parts are replaced.
+
+use crate::store_tests::{TestFault, add, new_store, replace_first};
+use part_files::{FileFault, read_part};
+use part_store::{Store, StoreFault};
+use parts_list::read_list;
+use std::alloc::Global;
+use vl_row::Held;
+use vl_vault::{MemoryVault, Vault};
+
+/// How many images of each moment are tried.
+const IMAGES: u64 = 300;
+
+/// Makes one of three changes: a part of a later day, one of an earlier day, and one in the place of the latter.
+fn change(alloc: Global, store: &mut Store<MemoryVault>, number: u64) -> Result<(), TestFault> {
+    match number {
+        1 => add(alloc, store, 3, 1),
+        2 => add(alloc, store, 1, 2),
+        _ => replace_first(alloc, store, 1, 3),
+    }
+}
+
+/// Returns the days and the files of the parts after so many changes.
+fn places(number: u64) -> &'static [(u32, u64)] {
+    match number {
+        0 => &[],
+        1 => &[(3, 2)],
+        2 => &[(1, 3), (3, 2)],
+        _ => &[(1, 4), (3, 2)],
+    }
+}
+
+/// Returns whether the store has the parts after so many changes, in their order.
+fn has_places(store: &Store<MemoryVault>, number: u64) -> bool {
+    let wanted = places(number);
+    let parts = store.parts();
+    let mut same = parts.len() == wanted.len();
+    for (part, place) in parts.iter().zip(wanted) {
+        same = same && part.day == place.0 && part.file == place.1 && part.part.rows() == 1;
+    }
+    same && store.front() == number && store.generation() == number
+}
+
+/// Returns whether the vault has the list and the parts after so many changes.
+fn finds(alloc: Global, vault: &mut MemoryVault, number: u64) -> Result<bool, TestFault> {
+    let Some(list) = read_list(alloc, vault)? else {
+        return Ok(number == 0);
+    };
+    let wanted = places(number);
+    let entries = list.entries.as_slice();
+    if list.front != number || entries.len() != wanted.len() {
+        return Ok(false);
+    }
+    for i in 0..entries.len() {
+        let entry = entries[i];
+        if (entry.day, entry.file) != wanted[i] {
+            return Ok(false);
+        }
+        match read_part(alloc, vault, entry) {
+            Ok(_) => {}
+            Err(FileFault::Damaged { .. }) => return Ok(false),
+            Err(fault) => return Err(TestFault::File(fault)),
+        }
+    }
+    Ok(true)
+}
+
+/// Returns the vault after so many changes, each of which is made.
+fn vault_after(alloc: Global, number: u64) -> Result<MemoryVault, TestFault> {
+    let mut store = new_store(alloc, &[])?;
+    for i in 0..number {
+        change(alloc, &mut store, i.saturating_add(1))?;
+        if !has_places(&store, i.saturating_add(1)) {
+            return Err(TestFault::Memory);
+        }
+    }
+    Ok(store.into_vault())
+}
+
+/// How many images had the parts from before, how many the new ones, and how many neither.
+#[derive(Drop)]
+struct Counts {
+    old: u64,
+    new: u64,
+    neither: u64,
+}
+
+/// Tries images of the moment after this call, during the change of this number.
+fn try_moment(
+    alloc: Global,
+    vault: &MemoryVault,
+    call: u64,
+    number: u64,
+    counts: &mut Counts,
+) -> Result<(), TestFault> {
+    for choice in 0..IMAGES {
+        if vault.calls() < call {
+            return Err(TestFault::Memory);
+        }
+        let mut image = vault.image(call, choice)?;
+        if finds(alloc, &mut image, number)? {
+            counts.new = counts.new.saturating_add(1);
+        } else if finds(alloc, &mut image, number.saturating_sub(1))? {
+            counts.old = counts.old.saturating_add(1);
+        } else {
+            counts.neither = counts.neither.saturating_add(1);
+        }
+    }
+    Ok(())
+}
+
+/// Returns whether a crash at each moment of this change leaves the parts from before or the new ones.
+fn leaves_old_or_new(alloc: Global, number: u64) -> Result<bool, TestFault> {
+    let from = vault_after(alloc, number.saturating_sub(1))?.calls();
+    let vault = vault_after(alloc, number)?;
+    let mut counts = Counts {
+        old: 0,
+        new: 0,
+        neither: 0,
+    };
+    for call in from..vault.calls().saturating_add(1) {
+        try_moment(alloc, &vault, call, number, &mut counts)?;
+    }
+    Ok(counts.old > 1_000 && counts.new > 200 && counts.neither == 0)
+}
+
+/// Returns whether the store halts where this call fails, and the vault has the parts from before or the new ones.
+fn halts(alloc: Global, failing: u64) -> Result<bool, TestFault> {
+    let mut store = new_store(alloc, &[failing])?;
+    let mut made = 0;
+    for i in 0..3u64 {
+        match change(alloc, &mut store, i.saturating_add(1)) {
+            Ok(()) => made = i.saturating_add(1),
+            Err(TestFault::Store(StoreFault::VaultFault)) => break,
+            Err(fault) => return Err(fault),
+        }
+    }
+    let again = add(alloc, &mut store, 5, 4);
+    let refused = again == Err(TestFault::Store(StoreFault::Halted { fault: 1 }));
+    let kept = store.halted() == Some(1) && has_places(&store, made);
+    let mut vault = store.into_vault();
+    let found = finds(alloc, &mut vault, made)?
+        || finds(alloc, &mut vault, made.saturating_add(1))?;
+    Ok(refused && kept && found)
+}
+
+/// Returns whether the check of this name holds.
+pub fn holds(alloc: Global, name: &str) -> Result<bool, TestFault> {
+    if let Some(call) = name.strip_prefix("fault ") {
+        return halts(alloc, call.parse::<u64>().unwrap_or(0));
+    }
+    if let Some(number) = name.strip_prefix("change ") {
+        return leaves_old_or_new(alloc, number.parse::<u64>().unwrap_or(0));
+    }
+    Ok(false)
+}
