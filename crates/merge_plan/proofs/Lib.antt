@@ -1,0 +1,9 @@
+pub mod Lists
+pub mod LastOfDay
+pub mod WeightLaws
+pub mod KeptLaws
+pub mod GroupLaws
+pub mod MergeLaws
+pub mod PieceLaws
+pub mod SortLaws
+pub mod PlanLaws
