@@ -3,12 +3,14 @@ use Rattle.std.proofs.Common.{◌≡◌, ◌≤◌, ◌+◌, ◌-◌, zero, suc,
 use Rattle.std.proofs.Common.{refl, subst, ◌∙◌, length-append}
 use Rattle.std.specs.List.{flat_map}
 use Rattle.std.specs.List.Sorted.{IsPermutation}
-use Rattle.std.proofs.lemmas.List.{drop-take, length-take-le, take-map, take-take}
+use Rattle.std.proofs.lemmas.List.{drop-take, length-map, length-take-le, take-map, take-take}
 use Rattle.log_model.specs.Batches.{AreOf}
 use Rattle.log_model.specs.Core.{Contents, HoldsEach, Stands, count_of, held_limit, parts_of}
-use Rattle.log_model.specs.History.{History, Numbered, entry_rows, numbered}
+use Rattle.log_model.specs.History.{History, Numbered, batches_in, entry_rows, numbered}
 use Rattle.log_model.proofs.Joining.{parts_are_of}
 use Rattle.log_model.specs.Core.{AreFront}
+use Rattle.log_core.specs.Settled.{AreWhole}
+use Rattle.log_core.proofs.Standing.{have_rows}
 
 HoldsEach-take : {P : Type 0} (rows : P → List Numbered) (k n : ℕ) (parts : List P) (entries : History)
     → HoldsEach rows n parts entries → HoldsEach rows n (take k parts) (take k entries)
@@ -71,3 +73,13 @@ are_front rows held front n days history stands up within long same =
     let at : n ≡ length held.days + k = omega arith in
     subst (AreFront rows held front) (sym (same ∙ take-right held.days held.unsettled n k at))
     (front_parts rows held front k history stands (omega arith) within)
+
+-- All parts together are the parts of all batches.
+pub are_whole : {P : Type 0} (rows : P → List Numbered) (held : Contents P) (days : List P) (history : History)
+    → Stands rows held history → days ≡ parts_of held → AreWhole rows (count_of held) days
+are_whole rows held days history stands same = (
+  batches_in history,
+  length-map history entry_rows ∙ sym stands.counted,
+  have_rows history,
+  subst (λ parts. AreOf rows parts (batches_in history)) (sym same) (parts_are_of rows held history stands),
+)

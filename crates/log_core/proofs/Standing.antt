@@ -1,22 +1,25 @@
 -- What a commit and a swap leave stands for a history.
-use Rattle.std.proofs.Common.{◌≡◌, ◌<◌, ◌≤◌, ◌+◌, suc, ℕ, List, [], ◌∷◌, length, take, None, arith, sym, ap, subst, ◌∙◌}
+use Rattle.std.proofs.Common.{◌≡◌, ◌<◌, ◌≤◌, ◌+◌, zero, suc, ℕ, List, [], ◌∷◌, length, take, drop, None, arith, sym, ap}
+use Rattle.std.proofs.Common.{subst, ◌∙◌}
 use Rattle.std.proofs.Common.{All, Option, refl}
 use Rattle.std.specs.Prelude.{OnErr, OnOk, Result, Ok, Err}
 use Rattle.std.specs.List.{flat_map}
 use Rattle.std.specs.List.Sorted.{IsPermutation}
-use Rattle.std.proofs.lemmas.List.{take-map}
+use Rattle.std.proofs.lemmas.List.{length-map, take-map, take_all}
 use Rattle.std.proofs.lemmas.List.Elements.{All-head, All-tail}
 use Rattle.log_model.specs.Batches.{AreOf, batch_rows}
-use Rattle.log_model.specs.Core.{AreFront, Contents, Goes, Stands, after, commit, count_of, held_limit, nothing, swapped}
-use Rattle.log_model.specs.Core.{with_part}
-use Rattle.log_model.specs.History.{AreBatch, AreRowsOf, Entry, History, Numbered, entry_rows, numbered, numbered_in}
-use Rattle.log_model.specs.History.{with_batch}
+use Rattle.log_model.specs.Core.{AreFront, Contents, Goes, HoldsEach, Stands, after, commit, count_of, held_limit}
+use Rattle.log_model.specs.Core.{nothing, swapped, with_part}
+use Rattle.log_model.specs.History.{AreBatch, AreRowsOf, Entry, History, Numbered, batches_in, entry_rows, numbered}
+use Rattle.log_model.specs.History.{numbered_in, with_batch}
+use Rattle.log_model.specs.Row.{Batch}
 use Rattle.log_model.proofs.Joining.{numbered_batches, stands_swapped}
 use Rattle.log_model.proofs.Numbering.{batch_is_one, batch_with_number}
 use Rattle.log_model.proofs.Standing.{stands_after}
 use Rattle.std.proofs.lemmas.List.Sorted.{IsPermutation-refl}
 use Rattle.log_core.specs.Commits.{GoesBy, HaveNumber, StandsWith}
 use Rattle.log_core.specs.Faults.{IsRefused}
+use Rattle.log_core.specs.Settled.{AreWhole, HaveRows, StandsForParts, settled_only}
 use Rattle.log_core.specs.declared.fault.CommitFault.{CommitFault}
 use Rattle.log_core.specs.declared.fault.CommitFault.TheVariants.{Memory}
 
@@ -112,3 +115,46 @@ refused_as_it_was {P} rows prevents part back batch none same =
     let one = batch_is_one (rows part) batch in
     subst (λ fault. IsRefused rows fault part Memory back) (sym none)
     (refl, (one.0, ap rows same ∙ same_number (rows part) one.0 one.1))
+
+-- ---- settled batches only
+
+-- There is a history of batches that each have a row.
+history_of : (batches : List Batch) → HaveRows batches → (history : History) × (batches_in history ≡ batches)
+history_of [] some = ([], refl)
+history_of ([] ∷ batches) some = absurd (omega (arith, some.0))
+history_of ((row ∷ others) ∷ batches) some =
+    let rest = history_of batches some.1 in
+    let entry : Entry = record { first = row; others = others; maker = None } in
+    (entry ∷ rest.0, ap (λ (l : List Batch). (row ∷ others) ∷ l) rest.1)
+
+-- Each batch of a history has a row.
+pub have_rows : (history : History) → HaveRows (batches_in history)
+have_rows [] = tt
+have_rows (entry ∷ history) = (omega arith, have_rows history)
+
+none_after : (history : History) (n : ℕ) → length history ≡ n → drop n history ≡ []
+none_after [] zero all = refl
+none_after [] (suc n) all = refl
+none_after (entry ∷ history) zero all = absurd (omega (arith, all))
+none_after (entry ∷ history) (suc n) all = none_after history n (omega (arith, all))
+
+-- Parts of all batches stand for each history of them.
+pub stands_settled : {P : Type 0} (rows : P → List Numbered) (front : ℕ) (days : List P) (held : Contents P)
+    → held ≡ settled_only front days → StandsForParts rows front days held
+stands_settled rows front days held is history long are = subst (λ h. Stands rows h history) (sym is) record {
+  counted = omega (arith, long);
+  few = omega arith;
+  days = subst (IsPermutation (flat_map rows days))
+      (sym (ap numbered (take_all front history (omega (arith, long))) ∙ numbered_batches history)) are;
+  unsettled = subst (HoldsEach rows front []) (sym (none_after history front long)) tt;
+}
+
+-- So there is one for which they stand.
+pub standing_settled : {P : Type 0} (rows : P → List Numbered) (front : ℕ) (days : List P) (held : Contents P)
+    → held ≡ settled_only front days → AreWhole rows front days → (history : History) × Stands rows held history
+standing_settled rows front days held is (batches, long, some, are) =
+    let (history, same) = history_of batches some in (
+      history,
+      stands_settled rows front days held is history
+          (omega (arith, ap length same, length-map history entry_rows, long)) (subst (AreOf rows days) (sym same) are),
+    )

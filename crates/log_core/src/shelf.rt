@@ -7,6 +7,7 @@ ghost use Rattle.log_model.specs.History.{AreBatch, History, with_batch};
 ghost use Rattle.log_core.specs.Commits.{GoesBy, HaveNumber, HoldsNext, StandsWith};
 ghost use Rattle.log_core.specs.Faults.{IsPartRefused, IsRefused, IsSwapRefused, commit_fault};
 ghost use Rattle.log_core.specs.Offers.{IsSameOffer, offered};
+ghost use Rattle.log_core.specs.Settled.{AreWhole, StandsForParts, settled_only};
 ghost use Rattle.log_core.specs.Shared.{shared_parts};
 
 use crate::fault::{CommitFault, SwapFault};
@@ -53,7 +54,18 @@ impl<P: Held> Shelf<P> {
         ensures nothing { IfOk result (λ shelf. shelf ≡ nothing) }
         ensures stands { IfOk result (λ shelf. Stands P.numbered shelf []) }
     {
-        let state = Arc::new(alloc, State::empty(alloc)?)?;
+        let state = Arc::new(alloc, State::of_days(alloc, Vec::new(alloc), 0)?)?;
+        Ok(Shelf { state })
+    }
+
+    /// Returns the shelf of this many batches, all of which are held as these day parts.
+    pub fn of_days(alloc: Global, days: Vec<Arc<P>>, front: u64) -> Result<Shelf<P>, AllocError>
+        requires small { front < 2 ^ 63 }
+        requires days { AreWhole P.numbered front (shared_parts days.items) }
+        ensures held { IfOk result (λ shelf. shelf ≡ settled_only front (shared_parts days.items)) }
+        ensures stands { IfOk result (StandsForParts P.numbered front (shared_parts days.items)) }
+    {
+        let state = Arc::new(alloc, State::of_days(alloc, days, front)?)?;
         Ok(Shelf { state })
     }
 

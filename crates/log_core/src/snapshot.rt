@@ -1,4 +1,4 @@
-ghost use Rattle.std.specs.Prelude.{◌≡◌, ◌↔◌, ◌<◌, IsTrue, Some, [], length, slice_get};
+ghost use Rattle.std.specs.Prelude.{◌≡◌, ◌^◌, ◌↔◌, ◌<◌, IsTrue, Some, [], length, slice_get};
 ghost use Rattle.std.specs.Arc.{arc_value};
 ghost use Rattle.log_model.specs.Core.{count_of, parts_of};
 
@@ -24,7 +24,8 @@ impl<P> Model for Snapshot<P> {
 impl<P> Snapshot<P> {
     /// Returns how many batches there were.
     pub fn front(&self) -> u64
-        ensures { result ≡ count_of self.now }
+        ensures value { result ≡ count_of self.now }
+        ensures small { result < 2 ^ 63 }
     {
         self.state.count()
     }

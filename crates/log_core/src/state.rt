@@ -4,8 +4,9 @@ ghost use Rattle.std.specs.Prelude.{IfNone, IfSome};
 ghost use Rattle.std.specs.Prelude.{drop, length, map, slice_get, vec_capacity, vec_len};
 ghost use Rattle.std.specs.Arc.{arc_value};
 ghost use Rattle.log_model.specs.Core.{swapped};
-ghost use Rattle.log_model.specs.Core.{count_of, nothing, parts_of, with_part};
+ghost use Rattle.log_model.specs.Core.{count_of, parts_of, with_part};
 ghost use Rattle.log_core.specs.Offers.{IsSameOffer, offered};
+ghost use Rattle.log_core.specs.Settled.{settled_only};
 ghost use Rattle.log_core.specs.Shared.{AreChunks, AreFilled, HasRoom, joined, lists_in, parts_in, shared_parts};
 
 use crate::offer::Offer;
@@ -107,16 +108,21 @@ fn part_in<P>(chunks: &[Chunk<P>], place: usize) -> &Arc<P>
 }
 
 impl<P: Drop> State<P> {
-    /// Returns the state of no batch.
-    pub(crate) fn empty(alloc: Global) -> Result<State<P>, AllocError>
-        ensures { IfOk result (λ state. state ≡ nothing) }
+    /// Returns the state of this many batches, all of which are held as these day parts.
+    pub(crate) fn of_days(
+        alloc: Global,
+        days: Vec<Arc<P>>,
+        front: u64,
+    ) -> Result<State<P>, AllocError>
+        requires { front < 2 ^ 63 }
+        ensures { IfOk result (λ state. state ≡ settled_only front (shared_parts days.items)) }
     {
         let early = Early {
-            days: Vec::new(alloc),
+            days,
             others: Vec::new(alloc),
         };
         Ok(State {
-            settled: 0,
+            settled: front,
             waiting: 0,
             early: Arc::new(alloc, early)?,
             chunks: Vec::with_capacity(alloc, CHUNK)?,

@@ -21,7 +21,7 @@ use Rattle.log_desk.specs.Faults.{Refuses, fault_of, last_number}
 use Rattle.log_desk.proofs.SeenLaws.{took_committed}
 
 -- the rows of a part of the shelf
-abbrev rows : List Numbered → List Numbered
+abbrev pub rows : List Numbered → List Numbered
 rows part = part
 
 -- What a commit of a part of this batch leaves in the shelf, for which entries stood before.

@@ -3,8 +3,12 @@ use Rattle.std.specs.Prelude.{◌≡◌, ℕ, ◌+◌, ◌-◌, ◌^◌, ◌<◌
 use Rattle.log_model.specs.Core.{held_limit}
 use Rattle.log_core.specs.declared.fault.CommitFault.{CommitFault}
 use Rattle.log_core.specs.declared.fault.CommitFault.TheVariants as commits
+use Rattle.part_store.specs.declared.fault.StoreFault.{StoreFault}
+use Rattle.part_store.specs.declared.fault.StoreFault.TheVariants as stores
 use Rattle.log_desk.specs.declared.fault.InsertFault.{InsertFault}
 use Rattle.log_desk.specs.declared.fault.InsertFault.TheVariants.{Full, Spent, Memory}
+use Rattle.log_desk.specs.declared.fault.KeepFault.{KeepFault}
+use Rattle.log_desk.specs.declared.fault.KeepFault.TheVariants as keeps
 
 -- what a fault of the shelf is to a caller of the desk
 abbrev pub fault_of : CommitFault → InsertFault
@@ -35,3 +39,16 @@ abbrev pub fault_text : InsertFault → List ℕ
 fault_text (Full held) = codes "full " ++ decimal held
 fault_text Spent = codes "spent"
 fault_text Memory = codes "no memory"
+
+-- what a fault of the store is to a keeper
+abbrev pub keep_fault_of : StoreFault → KeepFault
+keep_fault_of (stores.Halted fault) = keeps.Halted fault
+keep_fault_of stores.Spent = keeps.Spent
+keep_fault_of stores.VaultFault = keeps.VaultFault
+keep_fault_of stores.Memory = keeps.Memory
+
+abbrev pub keep_fault_text : KeepFault → List ℕ
+keep_fault_text (keeps.Halted fault) = codes "halted " ++ decimal fault
+keep_fault_text keeps.Spent = codes "spent"
+keep_fault_text keeps.VaultFault = codes "vault failed"
+keep_fault_text keeps.Memory = codes "no memory"

@@ -1,19 +1,23 @@
 //! The desk and its calls.
-ghost use Rattle.std.specs.Prelude.{◌≡◌, ◌<◌, ◌≤◌, ◌∷◌, [], length, IfErr, IfOk};
+ghost use Rattle.std.specs.Prelude.{◌≡◌, ◌<◌, ◌≤◌, ◌∷◌, [], length, take, IfErr, IfOk, OnErr, OnOk};
+ghost use Rattle.log_model.specs.Batches.{AreOf};
 ghost use Rattle.log_model.specs.Core.{Stands};
+ghost use Rattle.turn_lock.specs.Entries.{made_by_nobody};
 ghost use Rattle.turn_lock.specs.Passes.{IsPassOf, Joins, SplitsOff, StaysAtSplit};
 ghost use Rattle.log_core.specs.Entries.{seen_history};
+ghost use Rattle.log_core.specs.Shared.{shared_parts};
 ghost use Rattle.log_desk.specs.Calls.{Inserted, IsRefused, Looked};
 ghost use Rattle.log_desk.specs.Faults.{HasRoom};
+ghost use Rattle.log_desk.specs.Keeping.{GoesOn, batches_seen};
 
 use crate::fault::InsertFault;
 use crate::pass::Pass;
 use crate::prepared::PreparedBatch;
-use log_core::{Shelf, Snapshot};
+use log_core::{Shelf, Snapshot, SwapFault};
 use part_file::Part;
 use std::alloc::{AllocError, Global};
 use std::marker::Model;
-use std::sync::Wait;
+use std::sync::{Arc, Wait};
 use turn_lock::{SplitFault, TurnLock};
 use vl_row::Batch;
 
@@ -44,11 +48,32 @@ impl Desk {
         ensures history { IfOk result (λ r. r.1.seen ≡ []) }
     {
         let shelf = Shelf::fresh(alloc)?;
+        let (desk, pass) = Desk::over(rt, alloc, shelf, passes)?;
+        Ok((desk, pass))
+    }
+
+    /// Returns a desk over a shelf, and its first pass, which has seen all batches and may settle. No one made them.
+    pub(crate) fn over<R>(
+        rt: &R,
+        alloc: Global,
+        shelf: Shelf<Part>,
+        passes: u32,
+    ) -> Result<(Desk, Pass), AllocError>
+        requires { (0 < passes) × (passes ≤ 65536) }
+        ensures lock { IfOk result (λ r. IsPassOf r.0 r.1 × (r.0.passes ≡ passes)) }
+        ensures pass { IfOk result (λ r. (r.1.numbers ≡ 0 ∷ []) × (r.1.seen_drawn ≡ 1)
+            × (r.1.draws ≡ 0) × (r.1.turns ≡ [])) }
+        ensures mark { IfOk result (λ r. (r.1.mark ≡ shelf.settled) × (r.1.may_settle ≡ 1)) }
+        ensures history { IfOk result (λ r. Stands (λ rows. rows) shelf (seen_history r.1.seen)
+            × (made_by_nobody r.1.seen ≡ length r.1.seen)) }
+    {
+        let front = shelf.count();
+        let settled = shelf.settled();
         let (lock, at_lock) = TurnLock::new(rt, alloc, shelf, passes)?;
         let pass = Pass {
             at_lock,
-            front: 0,
-            settled: 0,
+            front,
+            settled,
         };
         Ok((Desk { lock }, pass))
     }
@@ -111,9 +136,12 @@ impl Desk {
         ensures complete { HasRoom (length pass.new.seen) pass.new.mark
             → IfErr result (λ refusal. refusal.0 ≡ InsertFault.Memory) }
     {
-        match PreparedBatch::of(alloc, batch) {
-            Ok(prepared) => self.insert_prepared(rt, alloc, pass, prepared),
-            Err(batch) => Err((InsertFault::Memory, batch)),
+        let Ok(prepared) = PreparedBatch::of(alloc, &batch) else {
+            return Err((InsertFault::Memory, batch));
+        };
+        match self.insert_prepared(rt, alloc, pass, prepared) {
+            Ok(number) => Ok(number),
+            Err((fault, _)) => Err((fault, batch)),
         }
     }
 
@@ -124,7 +152,7 @@ impl Desk {
         alloc: Global,
         pass: &mut Pass,
         prepared: PreparedBatch,
-    ) -> Result<u64, (InsertFault, Batch)>
+    ) -> Result<u64, (InsertFault, PreparedBatch)>
         requires { IsPassOf self.now pass.old }
         ensures pass { IsPassOf self.now pass.new }
         ensures inserted { IfOk result (λ number. Inserted prepared number pass.old pass.new) }
@@ -133,7 +161,7 @@ impl Desk {
         ensures complete { HasRoom (length pass.new.seen) pass.new.mark
             → IfErr result (λ refusal. refusal.0 ≡ InsertFault.Memory) }
     {
-        let PreparedBatch { batch, part } = prepared;
+        let PreparedBatch { part } = prepared;
         let mut turn = self.lock.enter(rt, &mut pass.at_lock);
         let shelf = turn.value();
         pass.front = shelf.count();
@@ -145,10 +173,9 @@ impl Desk {
                 pass.front = number;
                 Ok(number)
             }
-            // The part is dropped after the turn.
-            Err((fault, _part)) => {
+            Err((fault, part)) => {
                 turn.leave();
-                Err((InsertFault::from(fault), batch))
+                Err((InsertFault::from(fault), PreparedBatch { part }))
             }
         }
     }
@@ -186,5 +213,42 @@ impl Desk {
         pass.settled = shelf.settled();
         turn.leave();
         (pass.front, pass.settled)
+    }
+    /// Has the first `front` batches as these day parts from now on, in one turn, and raises the mark.
+    ///
+    /// Its caller keeps a look at the parts in whose place these come, so that they are not freed within the turn.
+    pub(crate) fn swap<R: Wait>(
+        &self,
+        rt: &R,
+        alloc: Global,
+        pass: &mut Pass,
+        days: Vec<Arc<Part>>,
+        front: u64,
+    ) -> Result<(), AllocError>
+        requires pass { IsPassOf self.now pass.old × (0 < pass.old.may_settle) }
+        requires front { (pass.old.mark ≤ front) × (front ≤ length pass.old.seen) }
+        requires days { AreOf (λ rows. rows) (shared_parts days.items) (take front (batches_seen pass.old.seen)) }
+        ensures pass { IsPassOf self.now pass.new }
+        ensures sees { GoesOn self.now pass.old pass.new }
+        ensures ok { OnOk result (pass.new.mark ≡ front) }
+        ensures err { OnErr result (pass.new.mark ≡ pass.old.mark) }
+    {
+        let mut turn = self.lock.enter(rt, &mut pass.at_lock);
+        let shelf = turn.value();
+        pass.front = shelf.count();
+        pass.settled = shelf.settled();
+        match shelf.swap(alloc, front, days) {
+            Ok(()) => {
+                turn.settle();
+                turn.leave();
+                pass.settled = front;
+                Ok(())
+            }
+            Err(SwapFault::Memory) => {
+                turn.leave();
+                Err(AllocError)
+            }
+            Err(SwapFault::Behind { .. }) => unreachable!(),
+        }
     }
 }

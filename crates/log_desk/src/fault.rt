@@ -1,5 +1,6 @@
-//! Why a batch was not inserted.
+//! Why a batch was not inserted, and why a round of a keeper ended.
 use log_core::CommitFault;
+use part_store::StoreFault;
 use std::error::Error;
 use std::fmt;
 
@@ -48,3 +49,53 @@ impl fmt::Display for InsertFault {
 }
 
 impl Error for InsertFault {}
+
+/// Why a round of a keeper ended.
+#[derive(Clone, Copy, Debug, PartialEq, Eq)]
+pub enum KeepFault {
+    /// The vault failed in an earlier round.
+    Halted {
+        /// The vault's count of faults then.
+        fault: u64,
+    },
+    /// There is no number for another list or for all new parts, or the list would have 2^32 entries or more.
+    Spent,
+    /// The vault failed.
+    VaultFault,
+    /// Memory ran out.
+    Memory,
+}
+
+impl From<StoreFault> for KeepFault {
+    ghost use Rattle.std.specs.Prelude.{◌≡◌};
+    ghost use Rattle.log_desk.specs.Faults.{keep_fault_of};
+
+    ghost from_gives = { λ fault given. given ≡ keep_fault_of fault };
+
+    fn from(fault: StoreFault) -> KeepFault {
+        match fault {
+            StoreFault::Halted { fault } => KeepFault::Halted { fault },
+            StoreFault::Spent => KeepFault::Spent,
+            StoreFault::VaultFault => KeepFault::VaultFault,
+            StoreFault::Memory => KeepFault::Memory,
+        }
+    }
+}
+
+impl fmt::Display for KeepFault {
+    ghost use Rattle.std.specs.Prelude.{Some};
+    ghost use Rattle.log_desk.specs.Faults.{keep_fault_text};
+
+    ghost output = { λ fault. Some (keep_fault_text fault) };
+
+    fn fmt<W: fmt::Write>(&self, f: &mut fmt::Formatter<W>) -> fmt::Result {
+        match self {
+            KeepFault::Halted { fault } => write!(f, "halted {fault}"),
+            KeepFault::Spent => f.write_str("spent"),
+            KeepFault::VaultFault => f.write_str("vault failed"),
+            KeepFault::Memory => f.write_str("no memory"),
+        }
+    }
+}
+
+impl Error for KeepFault {}

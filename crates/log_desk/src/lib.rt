@@ -3,12 +3,15 @@
 
 mod desk;
 mod fault;
+mod keeper;
 mod law;
+mod opening;
 mod pass;
 mod prepared;
 
 pub use desk::Desk;
-pub use fault::InsertFault;
+pub use fault::{InsertFault, KeepFault};
+pub use keeper::Keeper;
 pub use law::one_caller_law;
 pub use pass::Pass;
 pub use prepared::PreparedBatch;

@@ -1,8 +1,9 @@
 //! Tests of the shared state (`log_core`) and of its desk (`log_desk`).
 //!
 //! A line names a check, and the program writes whether it holds. `look COUNT` looks at a shelf of this many batches
-//! before and after one more. `swap FRONT` swaps in day parts for this many of 200 batches, and others later. The other
-//! words name a check that stands in the code. All of them hold by the pages of the two crates.
+//! before and after one more. `swap FRONT` swaps in day parts for this many of 200 batches, and others later.
+//! `settled COUNT` begins with a shelf of day parts only. The other words name a check that stands in the code. All of
+//! them hold by the pages of the two crates.
 #![tactic(auto)]
 
 mod batches_tests;
@@ -36,6 +37,7 @@ fn holds<R: AllocGlobal + Clock + Threads + Wait + Sync>(rt: &R, line: &str) -> 
         "look" => shelf_tests::looks_stay(alloc, number)?,
         "swap" => shelf_tests::swaps_leave_the_later(alloc, number)?,
         "full_shelf" => shelf_tests::full_shelf(alloc)?,
+        "settled" => shelf_tests::settled_from_the_start(alloc, number)?,
         "swap_behind" => shelf_tests::swap_behind(alloc)?,
         "shared_box" => shelf_tests::shared_box(alloc)?,
         "spent_split" => desk_tests::spent_split(rt, alloc)?,

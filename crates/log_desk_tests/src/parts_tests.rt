@@ -132,6 +132,14 @@ pub(crate) fn settle(
     }
 }
 
+/// Returns a shelf of the same batches, all of which are settled.
+pub(crate) fn settled_shelf(alloc: Global, shelf: &Shelf<Part>) -> Result<Shelf<Part>, AllocError> {
+    let count = shelf.count();
+    let look = shelf.look()?;
+    let days = first_parts(alloc, &look, look.len())?;
+    Shelf::of_days(alloc, days, count)
+}
+
 /// Swaps in no day parts for the first 0 batches.
 pub(crate) fn settle_none(alloc: Global, shelf: &mut Shelf<Part>) -> Result<(), SwapFault> {
     let _count = shelf.count();

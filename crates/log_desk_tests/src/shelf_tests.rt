@@ -1,6 +1,8 @@
 //! The chunks' edges, swaps, and memory that runs out.
 
-use crate::parts_tests::{commit_one, fill, holds, is_full, refuses_shared, settle, settle_none};
+use crate::parts_tests::{
+    commit_one, fill, holds, is_full, refuses_shared, settle, settle_none, settled_shelf,
+};
 use log_core::{Shelf, SwapFault};
 use std::alloc::{AllocError, Global};
 
@@ -44,6 +46,18 @@ pub fn swaps_leave_the_later(alloc: Global, front: u64) -> Result<bool, AllocErr
             && holds(alloc, &swapped, 200, front)?
             && holds(alloc, &filled, 300, front)?,
     )
+}
+
+/// Returns whether a shelf of the parts of this many batches holds them as settled, and goes on after them.
+pub fn settled_from_the_start(alloc: Global, count: u64) -> Result<bool, AllocError> {
+    let next = count.saturating_add(1);
+    let mut shelf = Shelf::fresh(alloc)?;
+    let filled = fill(alloc, &mut shelf, count)?;
+    let mut settled = settled_shelf(alloc, &shelf)?;
+    let held = holds(alloc, &settled.look()?, count, count)?;
+    let committed = commit_one(alloc, &mut settled, true)? == Some(next);
+    let swapped = settle(alloc, &mut settled, next)? == Some(Ok(()));
+    Ok(filled && held && committed && swapped && holds(alloc, &settled.look()?, next, next)?)
 }
 
 /// Returns whether a swap behind what is settled is refused, and nothing changes.

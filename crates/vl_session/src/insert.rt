@@ -131,14 +131,14 @@ impl Incoming {
         let rows = intake.rows.into_vec();
         let accepted = rows.len() as u64;
         match Batch::try_of(rows) {
-            Ok(batch) => match PreparedBatch::of(alloc, batch) {
-                Ok(batch) => Ok(Incoming {
+            Ok(batch) => {
+                let prepared = PreparedBatch::of(alloc, &batch)?;
+                Ok(Incoming {
                     accepted,
-                    batch: Some(batch),
+                    batch: Some(prepared),
                     refused,
-                }),
-                Err(_) => Err(InsertionFault::Memory),
-            },
+                })
+            }
             Err((BatchFault::NoRows, _)) => Ok(Incoming {
                 accepted,
                 batch: None,

@@ -15,7 +15,7 @@ returns-in-Ok-answer-clause-answered g c =
     record {
       over = subst (λ now. IsAnswerOver (question c.args.search.now) now (rows_of history) c.in-Ok-answer.lines) moment
           (c.in-Ok-answer.ensures.answered history stands);
-      front = c.front-front.ensures ∙ stands.counted;
+      front = c.front-front.ensures.value ∙ stands.counted;
     }
 
 pub returns-clause-refused : goal.returns-clause-refused
