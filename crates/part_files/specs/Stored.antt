@@ -15,6 +15,12 @@ pub record IsStoredPart (day bytes : ℕ) (part : List Numbered) (content : List
   pub size : length content ≡ bytes
   pub lies : LieInDay day part
 
+-- The part has a spelling of so many bytes.
+pub record Fills (bytes : ℕ) (part : List Numbered) : Type 0 where
+  pub spelling : List ℕ
+  pub written : part_writing part ≡ Some spelling
+  pub size : length spelling ≡ bytes
+
 -- The content is not as long as stated: it is damaged where the shorter of the two ends.
 pub record HasOtherLength (bytes at : ℕ) (content : List ℕ) : Type 0 where
   pub other : length content ≢ bytes

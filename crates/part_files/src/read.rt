@@ -6,7 +6,7 @@ ghost use Rattle.vl_vault.specs.Moments.{Always, IsUnchanged};
 ghost use Rattle.log_model.specs.History.{Numbered};
 ghost use Rattle.day_model.specs.Days.{LieInDay};
 ghost use Rattle.part_file.specs.Format.{part_writing};
-ghost use Rattle.part_files.specs.Stored.{IsFileFault, IsOutside, IsStoredPart};
+ghost use Rattle.part_files.specs.Stored.{Fills, IsFileFault, IsOutside, IsStoredPart};
 
 use crate::day::lies_in_day;
 use crate::fault::{FileFault, fault_of};
@@ -27,6 +27,7 @@ pub fn read_part<V: Vault>(alloc: Global, vault: &mut V, entry: Entry) -> Result
         → IsStoredPart entry.day entry.bytes part (content (V.past vault.old) entry.file) → IfErr result IsOutside }
     ensures damaged { V.is_told → IfErr result (λ fault.
         IsFileFault fault entry.day entry.bytes (content (V.past vault.old) entry.file)) }
+    ensures size { IfOk result (Fills entry.bytes) }
     ensures day { IfOk result (LieInDay entry.day) }
     ensures fault { result ≡ Err FileFault.VaultFault → Rose (V.faults vault.old) (V.faults vault.new) }
     ensures stays { V.faults vault.old ≤ V.faults vault.new }
@@ -40,7 +41,7 @@ pub fn read_part<V: Vault>(alloc: Global, vault: &mut V, entry: Entry) -> Result
 fn file_bytes<V: Vault>(alloc: Global, vault: &mut V, entry: Entry) -> Result<Vec<u8>, FileFault>
     ensures moments { V.is_told → Always (IsUnchanged (V.past vault.old)) (V.past vault.old) (V.past vault.new) }
     ensures bytes { V.is_told → IfOk result (λ bytes. bytes.items ≡ content (V.past vault.old) entry.file) }
-    ensures size { V.is_told → IfOk result (λ bytes. length bytes.items ≡ entry.bytes) }
+    ensures size { IfOk result (λ bytes. length bytes.items ≡ entry.bytes) }
     ensures only { V.is_told → length (content (V.past vault.old) entry.file) ≡ entry.bytes → IfErr result IsOutside }
     ensures damaged { V.is_told → IfErr result (λ fault.
         IsFileFault fault entry.day entry.bytes (content (V.past vault.old) entry.file)) }
@@ -56,6 +57,11 @@ fn file_bytes<V: Vault>(alloc: Global, vault: &mut V, entry: Entry) -> Result<Ve
     let mut bytes = vec![in alloc; 0u8; length as usize]?;
     let count = vault.read(entry.file, 0, &mut bytes)?;
     bytes.truncate(count);
+    if bytes.len() as u64 != entry.bytes {
+        return Err(FileFault::Damaged {
+            at: bytes.len() as u64,
+        });
+    }
     Ok(bytes)
 }
 

@@ -69,7 +69,8 @@ module _ {X : Type 0} where
 
   -- ---- of each two
 
-  pub pairs_weaker : (R S : X → X → Type 0) → ((x y : X) → R x y → S x y) → (xs : List X) → EachPair R xs → EachPair S xs
+  pub pairs_weaker : (R S : X → X → Type 0) → ((x y : X) → R x y → S x y) → (xs : List X) → EachPair R xs
+      → EachPair S xs
   pairs_weaker R S f [] p = tt
   pairs_weaker R S f (x ∷ xs) p = (weaker (R x) (S x) (f x) xs p.0, pairs_weaker R S f xs p.1)
 
@@ -91,7 +92,8 @@ module _ {X : Type 0} where
   -- those of P before those of Q
   pub across : (P Q : X → Type 0) (R : X → X → Type 0) → ((x y : X) → P x → Q y → R x y) → (xs ys : List X)
       → AllByRecursion P xs → AllByRecursion Q ys → AllByRecursion (λ x. AllByRecursion (R x) ys) xs
-  across P Q R f xs ys p q = weaker P (λ x. AllByRecursion (R x) ys) (λ x here. weaker Q (R x) (λ y there. f x y here there) ys q) xs p
+  across P Q R f xs ys p q = weaker P (λ x. AllByRecursion (R x) ys) (λ x here. weaker Q (R x)
+      (λ y there. f x y here there) ys q) xs p
 
   -- between elements of a list
   pub pair_cases : (R : X → X → Type 0) (xs : List X) (x y : X) → EachPair R xs → Contains xs x → Contains xs y

@@ -6,3 +6,6 @@ pub mod Rules
 pub mod Replacing
 pub mod Sorting
 pub mod Preparing
+pub mod Rereading
+pub mod Entries
+pub mod Reopening

@@ -8,8 +8,10 @@ use Rattle.std.proofs.lemmas.Bool.{eqb-true, eq-eqb, cases_lt}
 use Rattle.std.proofs.lemmas.List.Elements.{recursion_from_All, Contains-get_or, filter-append}
 use Rattle.std.proofs.lemmas.List.Sorted.{Contains-permutation, IsPermutation-sym}
 use Rattle.day_model.specs.Days.{DayRows, AreOfTheirDays}
-use Rattle.part_store.specs.State.{Listed, EachPair, ComesBefore, AreInOrder, AreStored, IsFileBelow, LiesInDay, is_day, kept, added}
-use Rattle.part_store.proofs.Every.{both, weaker, filtered, passes, reordered, append, at_each, pairs_weaker, pairs_filtered}
+use Rattle.part_store.specs.State.{Listed, EachPair, ComesBefore, AreInOrder, AreStored, IsFileBelow, LiesInDay}
+use Rattle.part_store.specs.State.{is_day, kept, added}
+use Rattle.part_store.proofs.Every.{both, weaker, filtered, passes, reordered, append, at_each, pairs_weaker}
+use Rattle.part_store.proofs.Every.{pairs_filtered}
 use Rattle.part_store.proofs.Every.{pairs_append, across, pair_cases, contains_filtered}
 
 -- ---- files
@@ -38,7 +40,8 @@ added_under next (part ∷ new) end fits = (omega (arith, fits), added_under (su
 pub added_rises : (next : ℕ) (new : List DayRows) → EachPair HasLowerFile (added next new)
 added_rises next [] = tt
 added_rises next (part ∷ new) = (
-  weaker (IsFrom (suc next)) (λ q. next < q.file) (λ q from. omega (arith, from)) (added (suc next) new) (added_from (suc next) (suc next) new (omega arith)),
+  weaker (IsFrom (suc next)) (λ q. next < q.file) (λ q from. omega (arith, from)) (added (suc next) new) (added_from
+      (suc next) (suc next) new (omega arith)),
   added_rises (suc next) new,
 )
 
@@ -59,10 +62,12 @@ day_is day part is = eqb-true part.day day is
 one_day : (day : ℕ) (part : Listed) (parts : List Listed) → part.day ≡ day → AllByRecursion (ComesBefore part) parts
     → AllByRecursion (HasLowerFile part) (filter (is_day day) parts)
 one_day day part parts is before =
-    both (ComesBefore part) (λ q. is_day day q ≡ true) (HasLowerFile part) (λ q comes on. pick q comes.0 (day_is day q on))
+    both (ComesBefore part) (λ q. is_day day q ≡ true) (HasLowerFile part) (λ q comes on. pick q comes.0
+    (day_is day q on))
     (filter (is_day day) parts) (filtered (ComesBefore part) (is_day day) parts before) (passes (is_day day) parts)
   where
-    pick : (q : Listed) → (part.day < q.day) ⊎ ((part.day ≡ q.day) × (part.file < q.file)) → q.day ≡ day → part.file < q.file
+    pick : (q : Listed) → (part.day < q.day) ⊎ ((part.day ≡ q.day) × (part.file < q.file)) → q.day ≡ day
+        → part.file < q.file
     pick q (inl earlier) on = absurd (omega (arith, earlier, on, is))
     pick q (inr same) on = same.1
 
@@ -80,7 +85,8 @@ day_rises day (part ∷ parts) order = by (is_day day part) refl (day_rises day 
 abbrev pub HasNoLaterDay : Listed → Listed → Type 0
 HasNoLaterDay a b = a.day ≤ b.day
 
-pub days_rise : (parts : List Listed) → IsNonDecreasingBy (λ (part : Listed). part.day) parts → EachPair HasNoLaterDay parts
+pub days_rise : (parts : List Listed) → IsNonDecreasingBy (λ (part : Listed). part.day) parts
+    → EachPair HasNoLaterDay parts
 days_rise [] up = tt
 days_rise (part ∷ parts) up = (
   recursion_from_All (HasNoLaterDay part) parts (λ k d below. up 0 (suc k) d (omega arith) (omega (arith, below))),
@@ -124,7 +130,8 @@ in_order_by whole (part ∷ parts) tell among days files = (
     own : AllByRecursion (HasLowerFile part) (filter (is_day part.day) parts)
     own = by (is_day part.day part) (eq-eqb part.day part.day refl) (files part.day)
       where
-        by : (b : Bool) → b ≡ true → EachPair HasLowerFile (cond b (part ∷ filter (is_day part.day) parts) (filter (is_day part.day) parts))
+        by : (b : Bool) → b ≡ true → EachPair HasLowerFile (cond b (part ∷ filter (is_day part.day) parts) (filter
+            (is_day part.day) parts))
             → AllByRecursion (HasLowerFile part) (filter (is_day part.day) parts)
         by true is up = up.0
         by false is up = absurd cc
@@ -134,7 +141,8 @@ in_order_by whole (part ∷ parts) tell among days files = (
       | inl earlier ↦ (inl earlier, λ same. absurd (omega (arith, earlier, tell part q first (later q has) same)))
       | inr ge ↦
           let on : q.day ≡ part.day = omega (arith, le, ge) in
-          let lower : part.file < q.file = at_each (HasLowerFile part) (filter (is_day part.day) parts) q own (contains_filtered (is_day part.day) parts q has (eq-eqb q.day part.day on)) in (
+          let lower : part.file < q.file = at_each (HasLowerFile part) (filter (is_day part.day) parts) q own
+          (contains_filtered (is_day part.day) parts q has (eq-eqb q.day part.day on)) in (
             inr (sym on, lower),
             λ same. absurd (omega (arith, lower, same)),
           )
@@ -155,13 +163,16 @@ module _ (old : List ℕ) (new : List DayRows) (next : ℕ) (before after : List
 
   apart : EachPair HasOtherFile whole
   apart = pairs_append HasOtherFile (kept old before) (added next new)
-      (pairs_weaker ComesBefore HasOtherFile (λ p q comes. comes.1) (kept old before) (pairs_filtered ComesBefore _ before stored.order))
-      (pairs_weaker HasLowerFile HasOtherFile (λ p q lower is. absurd (omega (arith, lower, is))) (added next new) (added_rises next new))
+      (pairs_weaker ComesBefore HasOtherFile (λ p q comes. comes.1) (kept old before)
+      (pairs_filtered ComesBefore _ before stored.order))
+      (pairs_weaker HasLowerFile HasOtherFile (λ p q lower is. absurd (omega (arith, lower, is))) (added next new)
+      (added_rises next new))
       (across (IsUnder next) (IsFrom next) HasOtherFile (λ p q low high is. absurd (omega (arith, low, high, is)))
       (kept old before) (added next new) under (added_from next next new (omega arith)))
 
   rises : (day : ℕ) → EachPair HasLowerFile (filter (is_day day) after)
-  rises day = subst (EachPair HasLowerFile) (sym (by_day day ∙ filter-append (is_day day) (kept old before) (added next new)))
+  rises day = subst (EachPair HasLowerFile) (sym (by_day day ∙ filter-append (is_day day) (kept old before)
+      (added next new)))
       (pairs_append HasLowerFile (filter (is_day day) (kept old before)) (filter (is_day day) (added next new))
       (day_rises day (kept old before) (pairs_filtered ComesBefore _ before stored.order))
       (pairs_filtered HasLowerFile (is_day day) (added next new) (added_rises next new))
@@ -180,9 +191,15 @@ module _ (old : List ℕ) (new : List DayRows) (next : ℕ) (before after : List
     order = order;
     files = reordered (IsFileBelow (next + length new)) whole after same
         (append (IsFileBelow (next + length new)) (kept old before) (added next new)
-        (filtered (IsFileBelow (next + length new)) _ before (weaker (IsFileBelow next) (IsFileBelow (next + length new)) (λ p b. (b.0, omega (arith, b.1))) before stored.files))
-        (both (IsFrom next) (IsUnder (next + length new)) (IsFileBelow (next + length new)) (λ p low high. (omega (arith, low, least), high)) (added next new)
+        (filtered (IsFileBelow (next + length new)) _ before (weaker (IsFileBelow next) (IsFileBelow
+        (next + length new)) (λ p b. (b.0, omega (arith, b.1))) before stored.files))
+        (both (IsFrom next) (IsUnder (next + length new)) (IsFileBelow (next + length new)) (λ p low high. (
+          omega
+              (arith, low, least),
+          high,
+        )) (added next new)
         (added_from next next new (omega arith)) (added_under next new (next + length new) (omega arith))));
     days = reordered LiesInDay whole after same
-        (append LiesInDay (kept old before) (added next new) (filtered LiesInDay _ before stored.days) (added_days next new days));
+        (append LiesInDay (kept old before) (added next new) (filtered LiesInDay _ before stored.days)
+        (added_days next new days));
   }

@@ -17,7 +17,8 @@ use Rattle.parts_list.specs.declared.list.Entry.{Entry}
 use Rattle.parts_list.specs.declared.list.List.{List as Listing}
 use Rattle.part_store.specs.declared.store.Stored.{Stored}
 use Rattle.part_store.specs.Preparing.{IsPlaced, IsSpelled, files_of, placed_part}
-use Rattle.part_store.specs.State.{Listed, StoreState, AreStored, listed_of, ArePartsAfter, IsSpent, added, day_part_of, is_day, kept}
+use Rattle.part_store.specs.State.{Listed, StoreState, AreStored, listed_of, ArePartsAfter, IsSpent, added}
+use Rattle.part_store.specs.State.{day_part_of, is_day, kept}
 use Rattle.part_store.specs.Finds.{CanBeWritten, IsCatalog, entry_of}
 use Rattle.part_store.proofs.Ordering.{length_added, stored_after}
 
@@ -41,11 +42,18 @@ pub added_at : (next i : ℕ) (new : List (ℕ × Arc (List Numbered) Global)) (
 added_at next i new d base before after below is pushed =
     let part : DayRows = day_part_of (get_or new i d) in
     let front : List DayRows = map day_part_of (take i new) in
-    let long : next + i ≡ next + length front = omega (arith, length-map (take i new) (day_part_of {P = Global}), length-take-le i new (omega (arith, below))) in
+    let long : next + i ≡ next + length front = omega (
+      arith,
+      length-map (take i new)
+          (day_part_of {P = Global}),
+      length-take-le i new (omega (arith, below)),
+    ) in
     pushed ∙ ap (λ (l : List Listed). l ++ new_part (next + i) part ∷ []) is
     ∙ append_assoc base (added next front) (new_part (next + i) part ∷ [])
-    ∙ ap (λ (l : List Listed). base ++ l) (ap (λ (f : ℕ). added next front ++ new_part f part ∷ []) long ∙ added_more next front part
-    ∙ ap (added next) (sym (map-append day_part_of (take i new) (get_or new i d ∷ [])) ∙ ap (map day_part_of) (sym (take_more new i d below))))
+    ∙ ap (λ (l : List Listed). base ++ l) (ap (λ (f : ℕ). added next front ++ new_part f part ∷ []) long
+    ∙ added_more next front part
+    ∙ ap (added next) (sym (map-append day_part_of (take i new) (get_or new i d ∷ []))
+    ∙ ap (map day_part_of) (sym (take_more new i d below))))
 
 -- ---- a part and its entry
 
@@ -73,7 +81,8 @@ module _ (new : List NewPart) (i : ℕ) (d : NewPart) (below : i < length new) (
   file_at files file all at =
       let parts : List DayRows = map day_part_of new in
       let long : length files ≡ length new =
-      sym (length-map files vec_items) ∙ ap length all ∙ length-map parts (λ (p : DayRows). part_bytes p.1) ∙ length-map new (day_part_of {P = Global}) in
+      sym (length-map files vec_items) ∙ ap length all ∙ length-map parts (λ (p : DayRows). part_bytes p.1)
+      ∙ length-map new (day_part_of {P = Global}) in
       let under_files : i < length files = omega (arith, below, long) in
       let under_parts : i < length parts = omega (arith, below, length-map new (day_part_of {P = Global})) in
       ap vec_items at ∙ sym (get_or-map vec_items files i file [] under_files)
@@ -96,7 +105,11 @@ module _ (entry : Entry) (part : Bor (Arc (List Numbered) Global)) (d : NewPart)
       → IsPlaced (record { entry = entry; part = part })
   new_placed long spelled small = record {
     size = is ∙ ap (λ (n : ℕ). record { day = d.0; file = file; bytes = n }) long ∙ ap entry_of (sym new_is);
-    written = subst CanBeWritten (sym new_is) (record { spelling = spelled.spelling; size = spelled.size; day = small });
+    written = subst CanBeWritten (sym new_is) (record {
+      spelling = spelled.spelling;
+      size = spelled.size;
+      day = small;
+    });
   }
 
 -- ---- a kept part
@@ -109,7 +122,8 @@ module _ (parts : List Stored) (entries : List Entry) (is : entries ≡ map entr
       → get_or entries i z ≡ entry_of (listed_of stored)
   entry_at i z stored below at =
       ap (λ (es : List Entry). get_or es i z) is
-      ∙ get_or-map entry_of (map listed_of parts) i (listed_of stored) z (omega (arith, below, length-map parts listed_of))
+      ∙ get_or-map entry_of (map listed_of parts) i (listed_of stored) z (omega
+      (arith, below, length-map parts listed_of))
       ∙ ap entry_of (get_or-map listed_of parts i stored (listed_of stored) below)
       ∙ ap (λ (s : Stored). entry_of (listed_of s)) (sym at)
 
@@ -161,7 +175,8 @@ module _ (old : List ℕ) (new : List DayRows) (list : Listing) (parts : List Li
   parts_fit = under (length (kept old parts) + length new) (2 ^ 32) (λ spent. room (inr (inr spent)))
 
   module _ (after : List Listed) (same : IsPermutation (kept old parts ++ added list.next_file new) after)
-      (by_day : (day : ℕ) → filter (is_day day) after ≡ filter (is_day day) (kept old parts ++ added list.next_file new))
+      (by_day : (day : ℕ) → filter (is_day day) after ≡ filter (is_day day)
+      (kept old parts ++ added list.next_file new))
       (up : IsNonDecreasingBy (λ (part : Listed). part.day) after) where
     pub are_after : ArePartsAfter old new (store_of list parts) after
     are_after = record {
@@ -181,7 +196,14 @@ module _ (old : List ℕ) (new : List DayRows) (list : Listing) (parts : List Li
       generation = generation_fits;
       front = small;
       next_file = (omega (arith, is, catalog.next_file.0), omega (arith, is, files_fit));
-      few = omega (arith, length_permutation (kept old parts ++ added list.next_file new) after same, length-append (kept old parts) (added list.next_file new), length_added list.next_file new, parts_fit);
+      few = omega (
+        arith,
+        length_permutation (kept old parts ++ added list.next_file new) after same,
+        length-append
+            (kept old parts) (added list.next_file new),
+        length_added list.next_file new,
+        parts_fit,
+      );
       entries = are;
       fresh = λ none. absurd (omega (arith, none));
       stored = subst (λ n. AreStored n after) (sym is)

@@ -41,7 +41,8 @@ added_files past first [] have = tt
 added_files past first (part ∷ new) have = (
   subst (λ n. IsDurable past n × (content past n ≡ part_bytes part.1)) start (have 0 (omega arith)),
   added_files past (suc first) new (λ i below. subst
-      (λ n. IsDurable past n × (content past n ≡ get_or (files_of new) i [])) (step i) (have (suc i) (omega (arith, below)))),
+      (λ n. IsDurable past n × (content past n ≡ get_or (files_of new) i [])) (step i) (have (suc i) (omega
+      (arith, below)))),
 )
   where
     start : first + 0 ≡ first
@@ -51,7 +52,8 @@ added_files past first (part ∷ new) have = (
     step i = omega arith
 
 among : (old : List ℕ) (file : ℕ) → Contains old file → list_any (λ f. f == file) old ≡ true
-among old file has = or_at (λ xs. list_any (λ f. f == file) xs) (λ f. f == file) refl (λ x xs. refl) old has.0 file has.1
+among old file has = or_at (λ xs. list_any (λ f. f == file) xs) (λ f. f == file) refl
+    (λ x xs. refl) old has.0 file has.1
     (eq-eqb (get_or old has.0 file) file has.2)
 
 files_below : (n : ℕ) (parts : List Listed) → AllByRecursion (IsFileBelow n) parts
@@ -82,7 +84,8 @@ module _ (list next : Listing) (parts news : List Listed) (catalog : IsCatalog l
 
   module _ (written : Past) (first : Always (ChangesOnly IsNew old) old written) where
     pub write_moments : Always Finds old written
-    write_moments = weaken (λ p w image may. inl (finds_still list parts catalog old on IsNew spares_new p w image may)) first
+    write_moments = weaken (λ p w image may. inl (finds_still list parts catalog old on IsNew spares_new p w image
+        may)) first
 
     pub written_on : IsOnVault list parts written
     written_on = still_on list parts catalog old on IsNew spares_new written (last first)
@@ -109,10 +112,12 @@ module _ (list next : Listing) (parts news : List Listed) (catalog : IsCatalog l
 
         module _ (there : found_in (content renewed) ≡ Some (Some next)) (slots : AreSlotsDurable renewed) where
           renewed_on : IsOnVault next news renewed
-          renewed_on = list_on list next parts news catalog whole later written written_on news_files renewed second there slots
+          renewed_on = list_on list next parts news catalog whole later written written_on news_files renewed second
+              there slots
 
           gone_file : (file : ℕ) → Contains gone file → (2 ≤ file) × (file < list.next_file)
-          gone_file file has = All-contains (λ f. (2 ≤ f) × (f < list.next_file)) (map (λ (part : Listed). part.file) parts) file
+          gone_file file has = All-contains (λ f. (2 ≤ f) × (f < list.next_file)) (map (λ
+              (part : Listed). part.file) parts) file
               (All-from_recursion (λ f. (2 ≤ f) × (f < list.next_file)) (map (λ (part : Listed). part.file) parts)
               (files_below list.next_file parts catalog.stored.files))
               (All-contains (Contains (map (λ (part : Listed). part.file) parts)) gone file listed has)
@@ -132,7 +137,11 @@ module _ (list next : Listing) (parts news : List Listed) (catalog : IsCatalog l
             files = reordered IsKept (kept gone parts ++ added list.next_file new) news
                 (IsPermutation-sym news (kept gone parts ++ added list.next_file new) same)
                 (append IsKept (kept gone parts) (added list.next_file new) kept_stay
-                (weaker (IsFrom list.next_file) IsKept (λ part from has. omega (arith, from, (gone_file part.file has).1))
+                (weaker (IsFrom list.next_file) IsKept (λ part from has. omega (
+                  arith,
+                  from,
+                  (gone_file part.file has).1,
+                ))
                 (added list.next_file new) (added_from list.next_file list.next_file new (omega arith))));
           }
 

@@ -12,7 +12,8 @@ use Rattle.std.proofs.lemmas.List.{length-map}
 use Rattle.std.proofs.lemmas.Map.Made.{distinct_count-from_IsDistinct}
 use Rattle.parts_list.specs.declared.list.Entry.{Entry}
 use Rattle.parts_list.specs.declared.list.List.{List as Listing}
-use Rattle.parts_list.specs.Listing.{is_within, is_generation, is_front, is_next_file, is_entry, comes_before, are_in_order}
+use Rattle.parts_list.specs.Listing.{is_within, is_generation, is_front, is_next_file, is_entry, comes_before}
+use Rattle.parts_list.specs.Listing.{are_in_order}
 use Rattle.parts_list.specs.Listing.{have_distinct_files, is_list}
 use Rattle.part_store.specs.State.{Listed, ComesBefore, AreInOrder, IsFileBelow}
 use Rattle.part_store.specs.Finds.{CanBeWritten, IsCatalog, entry_of}
@@ -20,7 +21,8 @@ use Rattle.part_store.specs.Finds.{CanBeWritten, IsCatalog, entry_of}
 within : (least end n : ℕ) → least ≤ n → n < end → is_within least end n ≡ true
 within least end n le lt = and_from (nat_le least n) (nat_lt n end) (le-leb least n le) (lt-ltb n end lt)
 
-entries_fit : (next : ℕ) (parts : List Listed) → AllByRecursion (IsFileBelow next) parts → AllByRecursion CanBeWritten parts
+entries_fit : (next : ℕ) (parts : List Listed) → AllByRecursion (IsFileBelow next) parts
+    → AllByRecursion CanBeWritten parts
     → list_all (is_entry next) (map entry_of parts) ≡ true
 entries_fit next [] files written = refl
 entries_fit next (part ∷ parts) files written =
@@ -36,7 +38,8 @@ entry_before : (a b : Listed) → ComesBefore a b → comes_before (entry_of a) 
 entry_before a b comes = pick comes.0
   where
     pick : (a.day < b.day) ⊎ ((a.day ≡ b.day) × (a.file < b.file)) → comes_before (entry_of a) (entry_of b) ≡ true
-    pick (inl earlier) = or_left (nat_lt a.day b.day) (a.day == b.day && nat_lt a.file b.file) (lt-ltb a.day b.day earlier)
+    pick (inl earlier) = or_left (nat_lt a.day b.day) (a.day == b.day && nat_lt a.file b.file)
+        (lt-ltb a.day b.day earlier)
     pick (inr same) = or_right (nat_lt a.day b.day) (a.day == b.day && nat_lt a.file b.file)
         (and_from (a.day == b.day) (nat_lt a.file b.file) (eq-eqb a.day b.day same.0) (lt-ltb a.file b.file same.1))
 
@@ -58,7 +61,8 @@ other_files part (q ∷ parts) comes = (
   other_files part parts comes.1,
 )
 
-files_distinct : (parts : List Listed) → AreInOrder parts → IsDistinct (eq_by_cmp nat_cmp) (map file_of (map entry_of parts))
+files_distinct : (parts : List Listed) → AreInOrder parts → IsDistinct (eq_by_cmp nat_cmp) (map file_of
+    (map entry_of parts))
 unfolding IsDistinct
 files_distinct [] order = tt
 files_distinct (part ∷ parts) order = (other_files part parts order.0, files_distinct parts order.1)
@@ -92,14 +96,18 @@ list_rules list parts whole some = subst
     es : List Entry
     es = map entry_of parts
 
-    rules : (g && f && n && nat_lt (length es) (2 ^ 32) && list_all (is_entry list.next_file) es && are_in_order es && have_distinct_files es) ≡ true
+    rules : (g && f && n && nat_lt (length es) (2 ^ 32) && list_all (is_entry list.next_file) es && are_in_order es &&
+        have_distinct_files es) ≡ true
     rules =
-        and_from (g && f && n && nat_lt (length es) (2 ^ 32) && list_all (is_entry list.next_file) es && are_in_order es) (have_distinct_files es)
-        (and_from (g && f && n && nat_lt (length es) (2 ^ 32) && list_all (is_entry list.next_file) es) (are_in_order es)
+        and_from (g && f && n && nat_lt (length es) (2 ^ 32) && list_all
+        (is_entry list.next_file) es && are_in_order es) (have_distinct_files es)
+        (and_from (g && f && n && nat_lt (length es) (2 ^ 32) && list_all (is_entry list.next_file) es)
+        (are_in_order es)
         (and_from (g && f && n && nat_lt (length es) (2 ^ 32)) (list_all (is_entry list.next_file) es)
         (and_from (g && f && n) (nat_lt (length es) (2 ^ 32))
         (and_from (g && f) n
-        (and_from g f (within 1 (2 ^ 63) list.generation (omega (arith, some)) whole.generation) (within 0 (2 ^ 63) list.front (omega arith) whole.front))
+        (and_from g f (within 1 (2 ^ 63) list.generation (omega (arith, some)) whole.generation) (within 0
+        (2 ^ 63) list.front (omega arith) whole.front))
         (within 2 (2 ^ 63) list.next_file whole.next_file.0 whole.next_file.1))
         (lt-ltb (length es) (2 ^ 32) (omega (arith, length-map parts entry_of, whole.few))))
         (entries_fit list.next_file parts whole.stored.files whole.written))

@@ -37,9 +37,23 @@ alike : (a b d : ℕ) → a ≡ d → (not (is_lt (nat_cmp a b)) && not (is_lt (
 alike a b d is = rw (lt_is a b, lt_is b a) (pick (cases_order b d))
   where
     pick : (b ≡ d) ⊎ ((b < d) ⊎ (d < b)) → (not (nat_lt a b) && not (nat_lt b a)) ≡ (b == d)
-    pick (inl same) = rw (le-ltb a b (omega (arith, is, same)), le-ltb b a (omega (arith, is, same)), eq-eqb b d same) refl
-    pick (inr (inl less)) = rw (le-ltb a b (omega (arith, is, less)), lt-ltb b a (omega (arith, is, less)), ne_eqb b d (λ same. omega (arith, same, less))) refl
-    pick (inr (inr more)) = rw (lt-ltb a b (omega (arith, is, more)), ne_eqb b d (λ same. omega (arith, same, more))) refl
+    pick (inl same) = rw (
+      le-ltb a b (omega (arith, is, same)),
+      le-ltb b a (omega
+          (arith, is, same)),
+      eq-eqb b d same,
+    ) refl
+    pick (inr (inl less)) = rw (
+      le-ltb a b (omega (arith, is, less)),
+      lt-ltb b a (omega
+          (arith, is, less)),
+      ne_eqb b d (λ same. omega (arith, same, less)),
+    ) refl
+    pick (inr (inr more)) = rw (
+      lt-ltb a b (omega (arith, is, more)),
+      ne_eqb b d (λ same. omega
+          (arith, same, more)),
+    ) refl
 
 module _ {X : Type 0} (n : X → ℕ) (xs ys : List X) (stable : IsStableByKey n nat_cmp xs ys) (d : ℕ) where
   abbrev t : X → Bool

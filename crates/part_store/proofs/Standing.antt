@@ -11,7 +11,8 @@ use Rattle.parts_list.specs.declared.list.List.{List as Listing}
 use Rattle.parts_list.specs.Slots.{found_in, live, slot_of}
 use Rattle.parts_list.specs.Writing.{AreSlotsDurable, HasOldOr, IsSlot, IsSlotOf}
 use Rattle.part_store.specs.State.{Listed, IsFileBelow, LiesInDay}
-use Rattle.part_store.specs.Finds.{FindsParts, FindsOldOr, HasPart, HasList, HasFile, IsOnVault, IsCatalog, CanBeWritten, entry_of}
+use Rattle.part_store.specs.Finds.{FindsParts, FindsOldOr, HasPart, HasList, HasFile, IsOnVault, IsCatalog}
+use Rattle.part_store.specs.Finds.{CanBeWritten, entry_of}
 use Rattle.part_store.specs.Preparing.{ChangesOnly}
 use Rattle.part_store.proofs.Every.{both, weaker}
 use Rattle.part_store.proofs.Running.{unchanged}
@@ -95,7 +96,11 @@ module _ (list : Listing) (parts : List Listed) (catalog : IsCatalog list parts)
   -- between two calls
   pub finds_now : (old : Past) → IsOnVault list parts old → EachImage (FindsParts list.front parts) old
   finds_now old on = finds_still old on (λ file. ⊥)
-      (record { slots = λ file is no. no; files = weaker IsAny (λ part. ⊥ → ⊥) (λ part any no. no) parts (any_all parts) }) old
+      (record {
+        slots = λ file is no. no;
+        files = weaker IsAny (λ part. ⊥
+            → ⊥) (λ part any no. no) parts (any_all parts);
+      }) old
       (unchanged (λ file. ⊥) old)
     where
       IsAny : Listed → Type 0
@@ -113,7 +118,8 @@ module _ (list next : Listing) (parts news : List Listed) (catalog : IsCatalog l
   outside : (part : Listed) → (n : ℕ) → IsFileBelow n part → IsSlotOf next part.file → ⊥
   outside part n below is = omega (arith, below.0, is)
 
-  module _ (ps : List Listed) (n : ℕ) (below : AllByRecursion (IsFileBelow n) ps) (files : AllByRecursion (HasFile old) ps)
+  module _ (ps : List Listed) (n : ℕ) (below : AllByRecursion (IsFileBelow n) ps) (files : AllByRecursion
+      (HasFile old) ps)
       {P : Image → Type 0} (p : Past) (run : ChangesFiles (IsSlotOf next) P old p) where
     bytes_outside : (image : Image) → IsCrashImage p image → AllByRecursion (HasBytes image) ps
     bytes_outside image may = both (HasFile old) (IsFileBelow n) (HasBytes image)
@@ -123,7 +129,8 @@ module _ (list next : Listing) (parts news : List Listed) (catalog : IsCatalog l
     files_outside : AllByRecursion (HasFile p) ps
     files_outside = both (HasFile old) (IsFileBelow n) (HasFile p)
         (λ part file out. (
-          λ c left. file.0 c (run.others part.file (outside part n out) c left) ∙ sym (run.others_read part.file (outside part n out)),
+          λ c left. file.0 c (run.others part.file (outside part n out) c left)
+              ∙ sym (run.others_read part.file (outside part n out)),
           run.others_read part.file (outside part n out) ∙ file.1,
         )) ps files below
 
@@ -131,7 +138,8 @@ module _ (list next : Listing) (parts news : List Listed) (catalog : IsCatalog l
       → Always (EachImage (FindsOldOr list.front parts next.front news)) old new
   list_finds new run = weaken (λ p w image may. pick p w image may (w.image image may)) run
     where
-      pick : (p : Past) → ChangesFiles (IsSlotOf next) (HasOldOr old next) old p → (image : Image) → IsCrashImage p image
+      pick : (p : Past) → ChangesFiles (IsSlotOf next) (HasOldOr old next) old p → (image : Image)
+          → IsCrashImage p image
           → HasOldOr old next image → FindsOldOr list.front parts next.front news image
       pick p w image may (inl same) =
           inl (image_finds list parts catalog old image on.live same

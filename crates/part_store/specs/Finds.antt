@@ -60,6 +60,10 @@ pub record HoldsWhole {V : Type 0} (store : StoreState V) (batches : List Batch)
 abbrev pub HoldsBatches : {V : Type 0} → StoreState V → Type 0
 HoldsBatches store = (batches : List Batch) × HoldsWhole store batches
 
+-- The image finds batches, each of which has a row.
+abbrev pub FindsBatches : Image → Type 0
+FindsBatches image = (batches : List Batch) × Finds batches image × HaveRows batches
+
 -- the entry of a part
 abbrev pub entry_of : Listed → Entry
 entry_of part = record { day = part.day; file = part.file; bytes = length (part_bytes part.rows) }

@@ -1,3 +1,4 @@
 pub mod State
 pub mod Finds
+pub mod Reopening
 pub mod Preparing

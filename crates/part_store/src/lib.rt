@@ -5,7 +5,8 @@ mod catalog;
 mod fault;
 mod files;
 mod prepare;
+mod reopen;
 mod store;
 
-pub use fault::StoreFault;
+pub use fault::{ReopenFault, StoreFault};
 pub use store::{Store, Stored};

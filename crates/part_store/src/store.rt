@@ -1,19 +1,22 @@
 //! The store.
-ghost use Rattle.std.specs.Prelude.{◌≡◌, ◌≢◌, ◌^◌, ◌<◌, ◌≤◌, All, Contains, Err, [], IfErr, None, OnErr, OnOk, Some, map};
+ghost use Rattle.std.specs.Prelude.{◌≡◌, ◌≢◌, ◌^◌, ◌<◌, ◌≤◌, All, Contains, Err, IfErr, IfOk, None, OnErr, OnOk};
+ghost use Rattle.std.specs.Prelude.{Some, map};
 ghost use Rattle.std.specs.Prelude.{ℕ};
 ghost use Rattle.day_model.specs.Days.{AreOfTheirDays};
 ghost use Rattle.vl_io.specs.Faults.{Rose};
 ghost use Rattle.vl_vault.specs.Disk.{content};
 ghost use Rattle.vl_vault.specs.Moments.{Always, EachImage};
 ghost use Rattle.parts_list.specs.Slots.{found_in};
-ghost use Rattle.parts_list.specs.Writing.{AreSlotsDurable};
-ghost use Rattle.part_store.specs.Finds.{FindsOldOrNew, FindsParts};
+ghost use Rattle.part_store.specs.Finds.{FindsBatches, FindsOldOrNew, FindsParts, HoldsBatches};
+ghost use Rattle.part_store.specs.Reopening.{AreListedDurable, HasNumbersOf, IsOnlySynced, IsOutside, IsReopenFault};
+ghost use Rattle.part_store.specs.Reopening.{vault_after};
 ghost use Rattle.part_store.specs.State.{AreStored, HasSameList, IsReplaced, IsSpent, day_part_of, listed_of};
 
 use crate::catalog::Catalog;
-use crate::fault::StoreFault;
+use crate::fault::{ReopenFault, StoreFault};
 use crate::files::put_on_vault;
 use crate::prepare::prepare;
+use crate::reopen::read_catalog;
 use part_file::Part;
 use std::alloc::Global;
 use std::marker::Model;
@@ -54,19 +57,30 @@ impl<V: Vault> Model for Store<V> {
 }
 
 impl<V: Vault> Store<V> {
-    /// Returns the store of no batches, over a vault in which no list was written.
-    pub fn of_new(alloc: Global, vault: V) -> Store<V>
-        requires none { V.is_told → found_in (content (V.past vault)) ≡ Some None }
-        requires durable { V.is_told → AreSlotsDurable (V.past vault) }
-        ensures vault { result.vault ≡ vault }
-        ensures parts { (result.parts ≡ []) × (result.front ≡ 0) }
-        ensures numbers { (result.generation ≡ 0) × (result.next_file ≡ 2) }
-        ensures on { result.halted ≡ None }
+    /// Syncs the slots of the list, and reads the list and its parts. After a refusal the vault comes back.
+    pub fn reopen(alloc: Global, vault: V) -> Result<Store<V>, (ReopenFault, V)>
+        requires durable { V.is_told → AreListedDurable (V.past vault) }
+        ensures found { V.is_told → IfOk result (λ store. FindsParts store.front store.parts (content (V.past vault))) }
+        ensures numbers { V.is_told → IfOk result (HasNumbersOf (found_in (content (V.past vault)))) }
+        ensures batches { IfOk result HoldsBatches }
+        ensures on { IfOk result (λ store. store.halted ≡ None) }
+        ensures only { V.is_told → FindsBatches (content (V.past vault))
+            → IfErr result (λ refused. IsOutside refused.0) }
+        ensures damaged { V.is_told → IfErr result (λ refused. IsReopenFault refused.0 (content (V.past vault))) }
+        ensures moments { V.is_told → Always (IsOnlySynced (V.past vault))
+            (V.past vault) (V.past (vault_after result)) }
+        ensures fault { IfErr result (λ refused. refused.0 ≡ ReopenFault.VaultFault
+            → Rose (V.faults vault) (V.faults refused.1)) }
+        ensures stays { V.faults vault ≤ V.faults (vault_after result) }
     {
-        Store {
-            vault,
-            catalog: Catalog::empty(alloc),
-            halted: None,
+        let mut vault = vault;
+        match read_catalog(alloc, &mut vault) {
+            Ok(catalog) => Ok(Store {
+                vault,
+                catalog,
+                halted: None,
+            }),
+            Err(fault) => Err((fault, vault)),
         }
     }
 

@@ -1,22 +1,20 @@
 //! What crashes and faults leave while parts are replaced.
 
-use crate::store_tests::{TestFault, add, new_store, replace_first};
-use part_files::{FileFault, read_part};
-use part_store::{Store, StoreFault};
-use parts_list::read_list;
+use crate::store_tests::{TestFault, add, crashed_store, new_store, replace_first};
+use part_store::{ReopenFault, Store, StoreFault};
 use std::alloc::Global;
 use vl_row::Held;
-use vl_vault::{MemoryVault, Vault};
+use vl_vault::MemoryVault;
 
 /// How many images of each moment are tried.
-const IMAGES: u64 = 300;
+const IMAGES: u64 = 100;
 
 /// Makes one of three changes: a part of a later day, one of an earlier day, and one in the place of the latter.
 fn change(alloc: Global, store: &mut Store<MemoryVault>, number: u64) -> Result<(), TestFault> {
     match number {
         1 => add(alloc, store, 3, 1),
         2 => add(alloc, store, 1, 2),
-        _ => replace_first(alloc, store, 1, 3),
+        _ => replace_first(alloc, store, 1, 2),
     }
 }
 
@@ -38,31 +36,7 @@ fn has_places(store: &Store<MemoryVault>, number: u64) -> bool {
     for (part, place) in parts.iter().zip(wanted) {
         same = same && part.day == place.0 && part.file == place.1 && part.part.rows() == 1;
     }
-    same && store.front() == number && store.generation() == number
-}
-
-/// Returns whether the vault has the list and the parts after so many changes.
-fn finds(alloc: Global, vault: &mut MemoryVault, number: u64) -> Result<bool, TestFault> {
-    let Some(list) = read_list(alloc, vault)? else {
-        return Ok(number == 0);
-    };
-    let wanted = places(number);
-    let entries = list.entries.as_slice();
-    if list.front != number || entries.len() != wanted.len() {
-        return Ok(false);
-    }
-    for i in 0..entries.len() {
-        let entry = entries[i];
-        if (entry.day, entry.file) != wanted[i] {
-            return Ok(false);
-        }
-        match read_part(alloc, vault, entry) {
-            Ok(_) => {}
-            Err(FileFault::Damaged { .. }) => return Ok(false),
-            Err(fault) => return Err(TestFault::File(fault)),
-        }
-    }
-    Ok(true)
+    same && store.front() == number.min(2) && store.generation() == number
 }
 
 /// Returns the vault after so many changes, each of which is made.
@@ -94,13 +68,10 @@ fn try_moment(
     counts: &mut Counts,
 ) -> Result<(), TestFault> {
     for choice in 0..IMAGES {
-        if vault.calls() < call {
-            return Err(TestFault::Memory);
-        }
-        let mut image = vault.image(call, choice)?;
-        if finds(alloc, &mut image, number)? {
+        let store = crashed_store(alloc, vault, call, choice)?;
+        if has_places(&store, number) {
             counts.new = counts.new.saturating_add(1);
-        } else if finds(alloc, &mut image, number.saturating_sub(1))? {
+        } else if has_places(&store, number.saturating_sub(1)) {
             counts.old = counts.old.saturating_add(1);
         } else {
             counts.neither = counts.neither.saturating_add(1);
@@ -121,27 +92,45 @@ fn leaves_old_or_new(alloc: Global, number: u64) -> Result<bool, TestFault> {
     for call in from..vault.calls().saturating_add(1) {
         try_moment(alloc, &vault, call, number, &mut counts)?;
     }
-    Ok(counts.old > 1_000 && counts.new > 200 && counts.neither == 0)
+    Ok(counts.old > 300 && counts.new > 60 && counts.neither == 0)
 }
 
-/// Returns whether the store halts where this call fails, and the vault has the parts from before or the new ones.
-fn halts(alloc: Global, failing: u64) -> Result<bool, TestFault> {
-    let mut store = new_store(alloc, &[failing])?;
+/// Makes changes until a call on the vault fails, and returns how many were made.
+fn made_changes(alloc: Global, store: &mut Store<MemoryVault>) -> Result<u64, TestFault> {
     let mut made = 0;
-    for i in 0..3u64 {
-        match change(alloc, &mut store, i.saturating_add(1)) {
-            Ok(()) => made = i.saturating_add(1),
-            Err(TestFault::Store(StoreFault::VaultFault)) => break,
+    for number in 1..4u64 {
+        match change(alloc, store, number) {
+            Ok(()) => made = number,
+            Err(TestFault::Store(StoreFault::VaultFault)) => return Ok(made),
             Err(fault) => return Err(fault),
         }
     }
+    Ok(made)
+}
+
+/// Returns whether each image of the last moment has the parts after so many changes, or after one more.
+fn leaves_one_of_two(alloc: Global, vault: &MemoryVault, made: u64) -> Result<bool, TestFault> {
+    let mut same = true;
+    for choice in 0..IMAGES {
+        let store = crashed_store(alloc, vault, vault.calls(), choice)?;
+        same = same && (has_places(&store, made) || has_places(&store, made.saturating_add(1)));
+    }
+    Ok(same)
+}
+
+/// Returns whether the store halts where this call fails, and the vault has the parts from before or the new ones. The
+/// first four calls are those of the reopening, which then refuses.
+fn halts(alloc: Global, failing: u64) -> Result<bool, TestFault> {
+    let mut store = match new_store(alloc, &[failing]) {
+        Ok(store) => store,
+        Err(fault) => return Ok(failing < 4 && fault == TestFault::Reopen(ReopenFault::VaultFault)),
+    };
+    let made = made_changes(alloc, &mut store)?;
     let again = add(alloc, &mut store, 5, 4);
     let refused = again == Err(TestFault::Store(StoreFault::Halted { fault: 1 }));
     let kept = store.halted() == Some(1) && has_places(&store, made);
-    let mut vault = store.into_vault();
-    let found = finds(alloc, &mut vault, made)?
-        || finds(alloc, &mut vault, made.saturating_add(1))?;
-    Ok(refused && kept && found)
+    let vault = store.into_vault();
+    Ok(refused && kept && leaves_one_of_two(alloc, &vault, made)?)
 }
 
 /// Returns whether the check of this name holds.

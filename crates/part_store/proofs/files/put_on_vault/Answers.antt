@@ -36,7 +36,8 @@ returns-in_err-write_files-clause-moments g c = λ told.
     let run = subst (λ n. Always (ChangesOnly (IsNewFile catalog.list.next_file n) old) old
     (g.V.Vault.past c.write_files.new.vault)) count (c.write_files.ensures.moments told) in
     write_moments catalog.list next.list (parts_of catalog) (parts_of next) c.requires.whole p.whole p.generation
-    c.args.old.now new p.after.same c.requires.listed old (c.requires.vault told) (g.V.Vault.past c.write_files.new.vault) run
+    c.args.old.now new p.after.same c.requires.listed old (c.requires.vault told)
+    (g.V.Vault.past c.write_files.new.vault) run
 
 pub write_spelled-requires-clause-durable : goal.write_spelled-requires-clause-durable
 write_spelled-requires-clause-durable g c = λ told.
@@ -51,7 +52,8 @@ write_spelled-requires-clause-durable g c = λ told.
     let run = subst (λ n. Always (ChangesOnly (IsNewFile catalog.list.next_file n) old) old
     (g.V.Vault.past c.write_files.new.vault)) count (c.write_files.ensures.moments told) in
     (written_on catalog.list next.list (parts_of catalog) (parts_of next) c.requires.whole p.whole p.generation
-    c.args.old.now new p.after.same c.requires.listed old (c.requires.vault told) (g.V.Vault.past c.write_files.new.vault) run).slots
+    c.args.old.now new p.after.same c.requires.listed old (c.requires.vault told)
+    (g.V.Vault.past c.write_files.new.vault) run).slots
 
 pub write_spelled-requires-clause-rules : goal.write_spelled-requires-clause-rules
 write_spelled-requires-clause-rules g c =
@@ -72,7 +74,8 @@ write_spelled-requires-clause-next g c = λ told.
     let run = subst (λ n. Always (ChangesOnly (IsNewFile catalog.list.next_file n) old) old
     (g.V.Vault.past c.write_files.new.vault)) count (c.write_files.ensures.moments told) in
     comes_next catalog.list next.list (parts_of catalog) (parts_of next) c.requires.whole p.whole p.generation
-    c.args.old.now new p.after.same c.requires.listed old (c.requires.vault told) (g.V.Vault.past c.write_files.new.vault) run
+    c.args.old.now new p.after.same c.requires.listed old (c.requires.vault told)
+    (g.V.Vault.past c.write_files.new.vault) run
 
 pub returns-in_err-write_spelled-clause-moments : goal.returns-in_err-write_spelled-clause-moments
 returns-in_err-write_spelled-clause-moments g c = λ told.
@@ -87,7 +90,8 @@ returns-in_err-write_spelled-clause-moments g c = λ told.
     ap length c.deref.ensures.value ∙ sym (length-map files vec_items) ∙ files_long (map vec_items files) new p.files in
     let run = subst (λ n. Always (ChangesOnly (IsNewFile catalog.list.next_file n) old) old mid) count
     (c.write_files.ensures.moments told) in
-    let contents = subst (λ cs. HaveContents catalog.list.next_file cs mid) (ap (map vec_items) c.deref.ensures.value ∙ p.files)
+    let contents = subst (λ cs. HaveContents catalog.list.next_file cs mid) (ap
+    (map vec_items) c.deref.ensures.value ∙ p.files)
     (c.in_ok-write_files.ensures.written told) in
     list_moments catalog.list next.list (parts_of catalog) (parts_of next) c.requires.whole p.whole p.generation
     c.args.old.now new p.after.same c.requires.listed old (c.requires.vault told) mid run contents
@@ -106,7 +110,8 @@ returns-in_err-remove_files-clause-moments g c = λ told.
     ap length c.deref.ensures.value ∙ sym (length-map files vec_items) ∙ files_long (map vec_items files) new p.files in
     let run = subst (λ n. Always (ChangesOnly (IsNewFile catalog.list.next_file n) old) old mid) count
     (c.write_files.ensures.moments told) in
-    let contents = subst (λ cs. HaveContents catalog.list.next_file cs mid) (ap (map vec_items) c.deref.ensures.value ∙ p.files)
+    let contents = subst (λ cs. HaveContents catalog.list.next_file cs mid) (ap
+    (map vec_items) c.deref.ensures.value ∙ p.files)
     (c.in_ok-write_files.ensures.written told) in
     all_moments catalog.list next.list (parts_of catalog) (parts_of next) c.requires.whole p.whole p.generation
     c.args.old.now new p.after.same c.requires.listed old (c.requires.vault told) mid run contents
@@ -127,7 +132,8 @@ returns-clause-moments g c = λ told.
     ap length c.deref.ensures.value ∙ sym (length-map files vec_items) ∙ files_long (map vec_items files) new p.files in
     let run = subst (λ n. Always (ChangesOnly (IsNewFile catalog.list.next_file n) old) old mid) count
     (c.write_files.ensures.moments told) in
-    let contents = subst (λ cs. HaveContents catalog.list.next_file cs mid) (ap (map vec_items) c.deref.ensures.value ∙ p.files)
+    let contents = subst (λ cs. HaveContents catalog.list.next_file cs mid) (ap
+    (map vec_items) c.deref.ensures.value ∙ p.files)
     (c.in_ok-write_files.ensures.written told) in
     all_moments catalog.list next.list (parts_of catalog) (parts_of next) c.requires.whole p.whole p.generation
     c.args.old.now new p.after.same c.requires.listed old (c.requires.vault told) mid run contents
@@ -148,7 +154,8 @@ returns-clause-done g c = λ told.
     ap length c.deref.ensures.value ∙ sym (length-map files vec_items) ∙ files_long (map vec_items files) new p.files in
     let run = subst (λ n. Always (ChangesOnly (IsNewFile catalog.list.next_file n) old) old mid) count
     (c.write_files.ensures.moments told) in
-    let contents = subst (λ cs. HaveContents catalog.list.next_file cs mid) (ap (map vec_items) c.deref.ensures.value ∙ p.files)
+    let contents = subst (λ cs. HaveContents catalog.list.next_file cs mid) (ap
+    (map vec_items) c.deref.ensures.value ∙ p.files)
     (c.in_ok-write_files.ensures.written told) in
     all_done catalog.list next.list (parts_of catalog) (parts_of next) c.requires.whole p.whole p.generation
     c.args.old.now new p.after.same c.requires.listed old (c.requires.vault told) mid run contents

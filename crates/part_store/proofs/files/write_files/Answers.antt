@@ -30,7 +30,8 @@ loop-i-preserved g c = record {
       let contents = c.args.contents.now in
       let i = c.loop-i.i in
       let item = c.index-contents-i.result in
-      let is : content (g.V.Vault.past c.write_part.new.vault) (c.args.first + i) ≡ get_or (map vec_items contents) i [] =
+      let is : content (g.V.Vault.past c.write_part.new.vault) (c.args.first + i) ≡ get_or
+      (map vec_items contents) i [] =
       c.in_ok-write_part.ensures.written told ∙ c.deref.ensures.value ∙ ap vec_items c.index-contents-i.is
       ∙ sym (get_or-map vec_items contents i item [] c.loop-i-test.true) in
       contents_more c.args.first i (map vec_items contents) (g.V.Vault.past c.loop-i.vault)

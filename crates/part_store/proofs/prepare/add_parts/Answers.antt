@@ -20,9 +20,11 @@ loop-i-preserved c =
     let value = c.new_entry-entry.ensures.value in
     let items = c.in_ok-push.ensures.items in
     let bytes = file_at new i d below c.index-new-i.is c.args.files.now file c.requires.files c.index-files-i.is in
-    let long : c.len-bytes.result ≡ length (part_bytes (arc_value d.1)) = c.len-bytes.ensures ∙ file.ok.0 ∙ ap length bytes in
+    let long : c.len-bytes.result ≡ length (part_bytes (arc_value d.1)) = c.len-bytes.ensures ∙ file.ok.0
+    ∙ ap length bytes in
     let spelled = spelled_at new i d below c.index-new-i.is c.requires.spelled in
-    let is = new_is entry (record { ref_ptr = (0, 0); now = d.1 }) d (c.args.next_file + i) c.len-bytes.result value refl in
+    let is = new_is entry (record { ref_ptr = (0, 0); now = d.1 }) d
+    (c.args.next_file + i) c.len-bytes.result value refl in
     record {
       parts = added_at c.args.next_file i new d (map placed_part c.args.placed.now.items) (map placed_part old)
           (map placed_part c.push.new.self.items) below c.loop-i.invariant.parts
@@ -34,5 +36,6 @@ loop-i-preserved c =
           }) c.index-new-i.is));
       placed = λ all. All-same IsPlaced c.push.new.self.items (old ++ _ ∷ []) items
           (All-push IsPlaced old _ (c.loop-i.invariant.placed all)
-          (new_placed entry _ d (c.args.next_file + i) c.len-bytes.result value refl long spelled c.new_entry-entry.ensures.small));
+          (new_placed entry _ d (c.args.next_file + i) c.len-bytes.result value refl long spelled
+          c.new_entry-entry.ensures.small));
     }

@@ -15,18 +15,21 @@ entries_are : (placed : List Placed) → AllByRecursion IsPlaced placed
 entries_are [] all = refl
 entries_are (part ∷ placed) all = λ i. all.0.size i ∷ entries_are placed all.1 i
 
-can_be_written : (placed : List Placed) → AllByRecursion IsPlaced placed → AllByRecursion CanBeWritten (map placed_part placed)
+can_be_written : (placed : List Placed) → AllByRecursion IsPlaced placed
+    → AllByRecursion CanBeWritten (map placed_part placed)
 can_be_written [] all = tt
 can_be_written (part ∷ placed) all = (all.0.written, can_be_written placed all.1)
 
 pub returns-clause-same : goal.returns-clause-same
 returns-clause-same c =
-    subst (IsPermutation (map placed_part c.args.placed.items)) (sym (c.in_ok-parts.ensures.parts ∙ ap (map placed_part) c.deref.ensures.value))
+    subst (IsPermutation (map placed_part c.args.placed.items)) (sym (c.in_ok-parts.ensures.parts
+    ∙ ap (map placed_part) c.deref.ensures.value))
     (IsPermutation-map placed_part c.args.placed.items c.in_ok-placed.placed.items c.in_ok-placed.ensures.same)
 
 pub returns-clause-sorted : goal.returns-clause-sorted
 returns-clause-sorted c =
-    subst (IsNonDecreasingBy (λ (part : Listed). part.day)) (sym (c.in_ok-parts.ensures.parts ∙ ap (map placed_part) c.deref.ensures.value))
+    subst (IsNonDecreasingBy (λ (part : Listed). part.day)) (sym (c.in_ok-parts.ensures.parts
+    ∙ ap (map placed_part) c.deref.ensures.value))
     (rising_mapped placed_part (λ (part : Listed). part.day) c.in_ok-placed.placed.items c.in_ok-placed.ensures.sorted)
 
 pub returns-clause-entries : goal.returns-clause-entries

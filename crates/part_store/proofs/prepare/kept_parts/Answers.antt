@@ -23,7 +23,8 @@ loop-i-preserved c =
     let i = c.loop-i.i in
     let stored = c.index-stored.result.now in
     let below : i < length parts = omega (arith, as_many parts entries are, c.loop-i-test.true) in
-    let is = placed_is _ stored (record { ref_ptr = (0, 0); now = stored.part }) (entry_at parts entries are i _ stored below c.index-stored.ensures) refl in
+    let is = placed_is _ stored (record { ref_ptr = (0, 0); now = stored.part })
+    (entry_at parts entries are i _ stored below c.index-stored.ensures) refl in
     record {
       parts = kept_more c.args.old.now i parts stored (map placed_part c.loop-i.placed.items)
           (map placed_part c.keep.new.placed.items) below c.index-stored.ensures c.loop-i.invariant.parts

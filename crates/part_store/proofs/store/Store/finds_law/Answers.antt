@@ -12,7 +12,8 @@ returns g c =
     let inside = c.self.inside in
     let told = g.V.Vault.is_told in
     let past = g.V.Vault.past in
-    subst (λ (s : StoreState g.row.V.Denot). told → s.halted ≡ None → EachImage (FindsParts s.front s.parts) (past s.vault))
+    subst (λ (s : StoreState g.row.V.Denot). told → s.halted ≡ None → EachImage (FindsParts s.front s.parts)
+    (past s.vault))
     c.self.view_is
     (λ tells on. finds_now inside.catalog.list (parts_of inside.catalog) c.self.invariant.catalog (past inside.vault)
     (c.self.invariant.vault tells on))

@@ -16,7 +16,8 @@ returns-then-is_spent-clause-moments g c =
     let told = g.V.Vault.is_told in
     let past = g.V.Vault.past in
     subst (λ (s : StoreState g.row.V.Denot). told → s.halted ≡ None
-    → Always (EachImage (FindsOldOrNew c.args.old.now (map day_part_of c.args.new.now) c.args.front s)) (past s.vault) (past s.vault))
+    → Always (EachImage (FindsOldOrNew c.args.old.now (map day_part_of c.args.new.now) c.args.front s))
+    (past s.vault) (past s.vault))
     c.self.view_is
     (λ tells on. now (λ image may. inl (finds_now inside.catalog.list (parts_of inside.catalog) c.self.invariant.catalog
     (past inside.vault) (c.self.invariant.vault tells on) image may)))
@@ -27,7 +28,8 @@ returns-in_default-prepare-clause-moments g c =
     let told = g.V.Vault.is_told in
     let past = g.V.Vault.past in
     subst (λ (s : StoreState g.row.V.Denot). told → s.halted ≡ None
-    → Always (EachImage (FindsOldOrNew c.args.old.now (map day_part_of c.args.new.now) c.args.front s)) (past s.vault) (past s.vault))
+    → Always (EachImage (FindsOldOrNew c.args.old.now (map day_part_of c.args.new.now) c.args.front s))
+    (past s.vault) (past s.vault))
     c.self.view_is
     (λ tells on. now (λ image may. inl (finds_now inside.catalog.list (parts_of inside.catalog) c.self.invariant.catalog
     (past inside.vault) (c.self.invariant.vault tells on) image may)))
