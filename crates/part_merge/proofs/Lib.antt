@@ -1,0 +1,2 @@
+mod BeforeLaws
+mod MergeLaws

@@ -6,4 +6,4 @@ mod names;
 mod order;
 
 pub use fill::block_end;
-pub use order::{is_earlier, sorted};
+pub use order::{is_earlier, labels_cmp, sorted};

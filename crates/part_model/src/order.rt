@@ -45,8 +45,8 @@ fn key_cmp(a: &NumberedRef<'_>, b: &NumberedRef<'_>) -> Ordering
     times.then(batches).then(a.place.cmp(&b.place))
 }
 
-/// Label by label. Where one list begins the other, it comes first.
-fn labels_cmp(labels: &[Field], others: &[Field]) -> Ordering
+/// The order of streams by their labels: label by label. Where one list begins the other, it comes first.
+pub fn labels_cmp(labels: &[Field], others: &[Field]) -> Ordering
     ensures { result ≡ labels_cmp labels.now others.now }
 {
     for i in 0..labels.len().min(others.len()) {
