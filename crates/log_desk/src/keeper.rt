@@ -60,6 +60,13 @@ impl<V: Vault> Keeper<V> {
         self.store.front()
     }
 
+    /// Lends its store.
+    pub fn store(&self) -> &Store<V>
+        ensures { result.now ≡ self.now }
+    {
+        &self.store
+    }
+
     /// Returns the store.
     pub fn into_store(self) -> Store<V>
         ensures { result ≡ self }

@@ -14,18 +14,34 @@ use vl_row::{Batch, FieldList, Held, Row};
 #[derive(Drop)]
 struct Tested;
 
-/// Returns a row with this message.
-fn row_of(alloc: Global, message: &str) -> Result<Option<Row>, AllocError> {
+/// Returns a row of this time with this message.
+fn row_of(alloc: Global, time: i64, message: &str) -> Result<Option<Row>, AllocError> {
     let mut fields = FieldList::new(alloc);
     fields.set(alloc, "_msg", message)?;
-    Ok(Row::try_new(alloc, 0, &[], fields).ok())
+    Ok(Row::try_new(alloc, time, &[], fields).ok())
 }
 
 /// Returns a batch of one row for each line, with that message.
 pub(crate) fn batch_of(alloc: Global, lines: &str) -> Result<Option<Batch>, AllocError> {
     let mut rows = Vec::new(alloc);
     for line in lines.lines() {
-        let Some(row) = row_of(alloc, line)? else {
+        let Some(row) = row_of(alloc, 0, line)? else {
+            return Ok(None);
+        };
+        rows.push(row)?;
+    }
+    Ok(Batch::try_of(rows).ok())
+}
+
+/// Returns a batch of one row for each of these times, each with this message.
+pub(crate) fn batch_at(
+    alloc: Global,
+    times: &[i64],
+    message: &str,
+) -> Result<Option<Batch>, AllocError> {
+    let mut rows = Vec::new(alloc);
+    for time in times {
+        let Some(row) = row_of(alloc, *time, message)? else {
             return Ok(None);
         };
         rows.push(row)?;

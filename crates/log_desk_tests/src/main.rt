@@ -9,6 +9,9 @@
 mod batches_tests;
 mod callers_tests;
 mod desk_tests;
+mod keeper_tests;
+mod kept_tests;
+mod keys_tests;
 mod parts_tests;
 mod shelf_tests;
 mod threads_tests;
@@ -47,6 +50,13 @@ fn holds<R: AllocGlobal + Clock + Threads + Wait + Sync>(rt: &R, line: &str) -> 
         "full_desk" => desk_tests::full_desk(rt, alloc)?,
         "faults_print" => desk_tests::faults_print(alloc)?,
         "eight_callers" => threads_tests::eight_callers(rt)?,
+        "rounds_settle" => keeper_tests::rounds_settle(rt, alloc)?,
+        "full_settles" => keeper_tests::full_settles(rt, alloc)?,
+        "quiet_rounds" => keeper_tests::quiet_rounds(rt, alloc)?,
+        "faults_halt" => keeper_tests::faults_halt(rt, alloc)?,
+        "days_part" => keeper_tests::days_part(rt, alloc)?,
+        "goes_on" => keeper_tests::goes_on(rt, alloc)?,
+        "crashes_leave" => keeper_tests::crashes_leave(rt, alloc)?,
         _ => false,
     };
     Ok(holds)
