@@ -13,6 +13,8 @@ pub enum Status {
     Usage = 2,
     ReadFault = 3,
     WriteFault = 4,
+    VaultFault = 5,
+    Damaged = 6,
     DoorFault = 7,
     Limit = 8,
     NoMemory = 9,
