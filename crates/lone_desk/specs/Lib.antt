@@ -1,5 +1,8 @@
 pub mod Alone
+pub mod Kept
+pub use Rattle.log_desk.specs.Keeping
 pub use Rattle.log_desk.specs.Seen
+pub use Rattle.log_desk.specs.declared.fault.KeepFault
 pub use Rattle.vl_session.specs.Answer
 pub use Rattle.vl_session.specs.Asked
 pub use Rattle.vl_session.specs.Evaluation

@@ -29,10 +29,10 @@ use vl_session::{
 /// A contract sees what its caller has seen, which is all that there is.
 #[derive(Drop)]
 pub struct LoneDesk<'d, R> {
-    rt: &'d R,
-    alloc: Global,
-    desk: Desk,
-    pass: Pass,
+    pub(crate) rt: &'d R,
+    pub(crate) alloc: Global,
+    pub(crate) desk: Desk,
+    pub(crate) pass: Pass,
 }
 
 impl<'d, R> Model for LoneDesk<'d, R> {
