@@ -3,25 +3,24 @@ use Rattle.std.proofs.Common.{◌≡◌, ℕ, ◌+◌, ◌<◌, ◌≤◌, List,
 use Rattle.std.proofs.Common.{append_assoc, length-append}
 use Rattle.std.proofs.lemmas.List.{length-map}
 use Rattle.log_model.specs.Core.{held_limit}
-use Rattle.log_model.specs.History.{batches_in, entry_rows}
+use Rattle.log_model.specs.History.{entry_rows}
 use Rattle.log_model.specs.Row.{Batch, Row, batch_limit, batch_weight}
 use Rattle.ingest_row.specs.Ingest.{Options}
 use Rattle.ingest_row.specs.Intake.{Outcome, rows_read}
 use Rattle.lone_desk.specs.Insert.{HasInsertOutcome, insert_effect}
-use Rattle.lone_desk.specs.Insertion.{accepted}
+use Rattle.lone_desk.specs.Insertion.{accepted, batch_number}
 use Rattle.lone_desk.specs.Seen.{Caller, Gains, Seen}
 use Rattle.lone_desk.specs.Alone.{Has, InsertsAlone, Insertion, IsAlone, last_number}
 use Rattle.lone_desk.proofs.Laws.{batches-gained}
 use Rattle.vl_pipe.specs.Groups.{Arrival}
-use Rattle.vl_pipe.specs.Load.{AddsRows, IsHeld, TakesGroup}
+use Rattle.vl_pipe.specs.Load.{AddsRows, AreSettled, IsFull, IsHeld, IsLast, TakesGroup}
 use Rattle.vl_pipe.proofs.GroupLemmas.{append_nil}
 
 as_many : (opened : List Batch) (seen : Seen) (batches : List Batch) → IsHeld opened seen batches
-    → length seen.history ≡ seen.settled + length batches
+    → length seen.history ≡ length opened + length batches
 as_many opened seen batches held =
     omega (
       arith,
-      held.settled,
       ap length held.entered,
       length-map seen.history entry_rows,
       length-append opened batches,
@@ -29,13 +28,19 @@ as_many opened seen batches held =
 
 -- There is a number for one batch more.
 pub held_numbered : (opened : List Batch) (seen : Seen) (batches : List Batch) → IsHeld opened seen batches
-    → length opened + held_limit < last_number → length seen.history < last_number
-held_numbered opened seen batches held numbers =
-    omega (arith, held.few, held.settled, as_many opened seen batches held, numbers)
+    → seen.settled + held_limit < last_number → length seen.history < last_number
+held_numbered opened seen batches held numbers = omega (arith, held.few, numbers)
+
+-- Where exactly the opened batches are settled, all others are unsettled.
+pub held_few : (opened : List Batch) (seen : Seen) (batches : List Batch) → IsHeld opened seen batches
+    → AreSettled opened seen → length batches ≤ held_limit
+held_few opened seen batches held settled =
+    omega (arith, held.few, settled, as_many opened seen batches held)
 
 pub held_all : (opened : List Batch) (seen : Seen) (batches : List Batch) → IsHeld opened seen batches
-    → length seen.history ≡ seen.settled + held_limit → length batches ≡ held_limit
-held_all opened seen batches held full = omega (arith, full, as_many opened seen batches held)
+    → AreSettled opened seen → IsFull seen → length batches ≡ held_limit
+held_all opened seen batches held settled full =
+    omega (arith, full, settled, as_many opened seen batches held)
 
 module _ (caller : Caller) (alone : IsAlone caller) (options : Options) (now : ℕ) (body : List ℕ)
     (outcomes : List Outcome) (old new : Seen) where
@@ -44,28 +49,20 @@ module _ (caller : Caller) (alone : IsAlone caller) (options : Options) (now : �
       → Has caller old new (insert_effect (accepted rows outcomes)) → AddsRows old new rows
   adds [] none comes stays = (
     omega arith,
+    ap (λ (seen : Seen). seen.settled) stays,
     λ opened batches held. subst (λ seen. IsHeld opened seen (batches ++ [])) (sym stays)
         (subst (IsHeld opened old) (sym (append_nil batches)) held),
   )
   adds (row ∷ rows) are comes gains = (
     subst (λ rows. batch_weight rows ≤ batch_limit) are comes.0.light,
+    (subst (Gains caller old new) are gains).stays (omega (arith, alone.settles)),
     λ opened batches held.
         let gained : Gains caller old new (row ∷ rows) = subst (Gains caller old new) are gains in
-        let entered : batches_in new.history ≡ opened ++ (batches ++ (row ∷ rows) ∷ []) =
-        batches-gained caller old new (row ∷ rows) alone gained ∙ ap (λ bs. bs ++ (row ∷ rows) ∷ []) held.entered
-        ∙ append_assoc opened batches ((row ∷ rows) ∷ []) in
-        let settled : new.settled ≡ length opened = gained.stays (omega (arith, alone.settles)) ∙ held.settled in
         record {
-          entered = entered;
-          few = omega (
-            arith,
-            comes.1.few,
-            settled,
-            ap length entered,
-            length-map new.history entry_rows,
-            length-append opened (batches ++ (row ∷ rows) ∷ []),
-          );
-          settled = settled;
+          entered = batches-gained caller old new (row ∷ rows) alone gained
+              ∙ ap (λ bs. bs ++ (row ∷ rows) ∷ []) held.entered
+              ∙ append_assoc opened batches ((row ∷ rows) ∷ []);
+          few = comes.1.few;
         },
   )
 
@@ -78,3 +75,15 @@ takes arrival body old new insertion (caller, alone, inserts) = record {
   adds = adds caller alone arrival.options arrival.moment body inserts.outcomes old new
       (rows_read inserts.outcomes) refl inserts.has_outcome inserts.has;
 }
+
+-- The number of a batch is that of the last entry.
+pub is_last : (arrival : Arrival) (body : List ℕ) (old new : Seen) (insertion : Insertion)
+    → InsertsAlone arrival.options arrival.moment body old new insertion
+    → IsLast old.history new.history insertion.batch
+is_last arrival body old new insertion (caller, alone, inserts) =
+    subst (IsLast old.history new.history) (sym inserts.batch) (numbered (rows_read inserts.outcomes) inserts.has)
+  where
+    numbered : (rows : List Row) → Has caller old new (insert_effect (accepted rows inserts.outcomes))
+        → IsLast old.history new.history (batch_number rows new.history)
+    numbered [] has = ap (λ (seen : Seen). seen.history) has
+    numbered (row ∷ rows) has = refl

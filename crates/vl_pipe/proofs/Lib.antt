@@ -1,11 +1,15 @@
 pub mod AnswerLemmas
+pub mod FlushLemmas
 pub mod GroupLemmas
 pub mod HeldLemmas
 pub mod InsertLemmas
 pub mod LineLemmas
+pub mod LoadEndLemmas
 pub mod LoadLemmas
 pub mod PipeLemmas
+pub mod QueryLemmas
 pub mod RefusalLemmas
 pub mod RefusedLemmas
+pub mod StoringLemmas
 pub mod WeightLemmas
 pub mod WindowLemmas

@@ -8,6 +8,7 @@ use Rattle.vl_io.specs.Bytes.{Appends, Consumes, IsAtEnd}
 use Rattle.vl_io.specs.Change.{Change, IsCut, IsSpent}
 use Rattle.vl_io.specs.Lines.{Reading, is_feed, piece_len}
 use Rattle.vl_io.proofs.Laws.{Appends-nil, Appends-trans, Consumes-nil, Consumes-trans, Rose-earlier}
+use Rattle.log_model.specs.Core.{held_limit}
 use Rattle.log_model.specs.Line.{lines_of}
 use Rattle.log_model.specs.Row.{Batch, batch_limit, batch_weight}
 use Rattle.log_model.proofs.Lines.{lines_le, lines_of-none}
@@ -17,8 +18,8 @@ use Rattle.vl_pipe.specs.Groups.{Arrival, AreGroups, BeginsWith, EndsLine, FitBa
 use Rattle.vl_pipe.specs.Groups.{batches_of, input_limit, outcomes_in, refusals_from, refusals_of}
 use Rattle.vl_pipe.specs.Program as model
 use Rattle.vl_pipe.specs.Program.{AreFew, HaveNoGroup, IsBeyond}
-use Rattle.vl_pipe.specs.Load.{AreOpen, IsHeld, IsLoaded, IsTooMuch, IsUnderWay, Run, StopsGroup, StopsLoad}
-use Rattle.vl_pipe.specs.Load.{StopsUntold, TakesGroup, errors_of}
+use Rattle.vl_pipe.specs.Load.{AreOpen, AreSettled, IsFull, IsHeld, IsLoaded, IsTooMuch, IsUnderWay, Run}
+use Rattle.vl_pipe.specs.Load.{StopsGroup, StopsHeld, StopsHolding, StopsLoad, StopsUntold, TakesGroup, errors_of}
 use Rattle.vl_pipe.specs.Window.{AreTooMany, EndsWindow, GoesOn, IsBody, IsWindow, joined}
 use Rattle.vl_pipe.specs.Interrupt.{limit_of, interrupt_at}
 use Rattle.vl_io.specs.declared.transfer.ReadFault.{ReadFault}
@@ -29,7 +30,7 @@ use Rattle.vl_pipe.specs.declared.interrupt.Interrupt.{Interrupt}
 use Rattle.vl_pipe.specs.declared.interrupt.Interrupt.TheVariants.{Unreadable, Unwritable, Beyond, NoAnswer, NoMemory}
 use Rattle.vl_pipe.proofs.GroupLemmas.{AllByRecursion-more, AllZip-length, AreGroups-more, AreGroups-weaken}
 use Rattle.vl_pipe.proofs.GroupLemmas.{AreGroups-whole, batches-more, intake-more, outcomes-more, refusals-more}
-use Rattle.vl_pipe.proofs.HeldLemmas.{held_all}
+use Rattle.vl_pipe.proofs.HeldLemmas.{held_few}
 use Rattle.vl_pipe.proofs.LineLemmas.{length-lines_of, lines_few, lines_some}
 use Rattle.vl_pipe.proofs.WindowLemmas.{behind_bodies, few_enough, some_body}
 
@@ -169,14 +170,20 @@ module _ (run : Run) (bodies : List (List ℕ)) (written : Option (List ℕ)) (f
   -- memory ran out, or a limit was met
   stops_at : (stop : model.Stop) → model.IsCause run.arrival run.source u.groups begins_at stop
       → (err : Option (List ℕ)) (now : ℕ) → err ≡ written
-      → StopsUntold run.arrival run.source (errors_of run err now) stop
+      → StopsHeld run.arrival run.opened run.source (errors_of run err now) seen stop
   unfolding begins_at
   stops_at stop cause err now same = record {
     groups = u.groups;
     behind = record { begins = begins_at; light = u.light; few = few_at; cause = cause };
-    unsettled = u.held.few;
+    held = u.held;
     named = subst (λ e. Appends run.written e (refusals_of u.groups)) (sym same) u.named;
   }
+
+  -- the run stops here, and nothing was written to the error stream meanwhile
+  pub stops_now : (err : Option (List ℕ)) (now : ℕ) → err ≡ written
+      → StopsHeld run.arrival run.opened run.source (errors_of run err now) seen model.no_memory
+  unfolding begins_at
+  stops_now err now same = stops_at model.no_memory tt err now same
 
 module _ (run : Run) (body : List ℕ) (bodies : List (List ℕ)) (err0 err1 : Option (List ℕ)) (f0 f1 : ℕ)
     (old new : Seen) (lines : ℕ) (u : IsUnderWay run (body ∷ bodies) err0 f0 old lines) where
@@ -200,7 +207,7 @@ module _ (run : Run) (body : List ℕ) (bodies : List (List ℕ)) (err0 err1 : O
   held_group : (group : List Outcome) → TakesGroup run.arrival body group old new
       → IsHeld run.opened new (batches_of (u.groups ++ group ∷ []))
   held_group group takes = subst (IsHeld run.opened new) (sym (batches-more u.groups group))
-      (takes.adds.1 run.opened (batches_of u.groups) u.held)
+      (takes.adds.2 run.opened (batches_of u.groups) u.held)
 
   gave_group : Consumes run.source.bytes_before run.source.bytes_after ((u.taken ++ body) ++ Rest)
   gave_group = subst (Consumes run.source.bytes_before run.source.bytes_after)
@@ -310,14 +317,15 @@ module _ (run : Run) (body : List ℕ) (bodies : List (List ℕ)) (err0 err1 : O
   few_behind = few_enough (length bodies + u.behind) 7 Rest (omega (arith, u.few)) (omega arith)
       (behind_bodies run.ended bodies run.tail u.behind (length bodies + u.behind) refl u.are.1 u.tail_few)
 
-  -- the run stops at the group
-  pub stops_at_group : (interrupt : Interrupt) → StopsGroup run.arrival body lines old new (change err0 err1 f0 f1) interrupt
-      → StopsLoad run.arrival run.source (errors_of run err1 f1) interrupt
+  -- The run stops at the group. Where as many batches are unsettled as may be, they are those of the run.
+  pub stops_at_group : (IsFull old → length (batches_of u.groups) ≡ held_limit) → (interrupt : Interrupt)
+      → StopsGroup run.arrival body lines old new (change err0 err1 f0 f1) interrupt
+      → StopsHolding run.arrival run.opened run.source (errors_of run err1 f1) old new interrupt
   unfolding begins_with begins_at
-  stops_at_group Unreadable h = absurd h
-  stops_at_group (NoAnswer overflow) h = absurd h
-  stops_at_group Unwritable (group, takes, cut) = (
-    record {
+  stops_at_group all Unreadable h = absurd h
+  stops_at_group all (NoAnswer overflow) h = absurd h
+  stops_at_group all Unwritable (group, takes, cut) = record {
+    fault = record {
       groups = u.groups;
       group = group;
       begins = begins_with group takes.intake;
@@ -330,20 +338,30 @@ module _ (run : Run) (body : List ℕ) (bodies : List (List ℕ)) (err0 err1 : O
             took = Appends-trans run.written err0 err1 _ _ u.named cut.took;
             failed = Rose-earlier run.faults f0 f1 u.stays cut.failed;
           });
-    },
-    (held_group group takes).few,
+    };
+    before = u.held;
+    after = held_group group takes;
+    settled = takes.adds.1;
+  }
+  stops_at_group all (Beyond limit) (same, (group, given, much)) = (
+    stops_at run (body ∷ bodies) err0 f0 old lines u (model.beyond (limit_of limit))
+        (beyond limit much (begins_with group given)) err1 f1 same,
+    full limit much,
   )
-  stops_at_group (Beyond limit) (same, (group, given, much)) =
-      stops_at run (body ∷ bodies) err0 f0 old lines u (model.beyond (limit_of limit))
-      (beyond limit much (begins_with group given)) err1 f1 same
     where
       beyond : (limit : Limit) → IsTooMuch old (rows_read group) limit
           → BeginsWith run.arrival run.source (u.groups ++ group ∷ [])
-          → IsBeyond run.arrival run.source u.groups (begins_at run (body ∷ bodies) err0 f0 old lines u) (limit_of limit)
+          → IsBeyond run.arrival run.source u.groups (begins_at run (body ∷ bodies) err0 f0 old lines u)
+          (limit_of limit)
       beyond Long h begins = absurd h
       beyond (Large weight) h begins = (group, begins, h.0, h.1)
-      beyond Full h begins = (group, begins, held_all run.opened old (batches_of u.groups) u.held h.0, h.1, h.2)
-  stops_at_group NoMemory same =
+      beyond Full h begins = (group, begins, all h.0, h.1, h.2)
+
+      full : (limit : Limit) → IsTooMuch old (rows_read group) limit → limit ≡ Full → IsFull old
+      full Long h is = absurd h
+      full (Large weight) h is = absurd (let other = is in cc)
+      full Full h is = h.0
+  stops_at_group all NoMemory same =
       stops_at run (body ∷ bodies) err0 f0 old lines u model.no_memory tt err1 f1 same
 
 -- ---- a window
@@ -411,7 +429,8 @@ module _ (arrival : Arrival) (opened : List Batch) (left0 left1 left2 : Option (
   module _ (err2 : Option (List ℕ)) (f2 : ℕ) (new : Seen) (lines2 : ℕ)
       (u : IsUnderWay run_on [] err2 f2 new lines2) (source_stays : s1 ≤ s2) where
     -- another turn begins
-    pub turns_on : more ≡ Ok true → Loading arrival opened (change left0 left2 s0 s2) (change err0 err2 f0 f2) next new lines2
+    pub turns_on : more ≡ Ok true → Loading arrival opened (change left0 left2 s0 s2) (change err0 err2 f0 f2) next
+        new lines2
     turns_on is =
         let goes : GoesOn reader next Place w.tail w.ended =
         subst (EndsWindow reader next s1 s2 Place w.tail w.ended) is w.stops in
@@ -465,7 +484,7 @@ module _ (arrival : Arrival) (opened : List Batch) (left0 left1 left2 : Option (
 
     -- Reading failed.
     pub stops_reading : (fault : ReadFault) → more ≡ Err fault
-        → StopsLoad arrival (change left0 left2 s0 s2) (change err0 err2 f0 f2) (interrupt_at fault)
+        → StopsHolding arrival opened (change left0 left2 s0 s2) (change err0 err2 f0 f2) new new (interrupt_at fault)
     unfolding begins_at
     stops_reading faults.Failed is =
         let stops = subst (EndsWindow reader next s1 s2 Place w.tail w.ended) is w.stops in
@@ -480,20 +499,22 @@ module _ (arrival : Arrival) (opened : List Batch) (left0 left1 left2 : Option (
         omega (arith, many.all, l.limit, u.placed, ap length many.are) in
         let within : take (input_limit - length u.taken) w.tail ≡ many.front =
         ap (λ n. take n w.tail) len ∙ ap (take (length many.front)) many.are
-        ∙ take-append_seam many.front many.last in
-        stops_at run_on [] err2 f2 new lines2 u (model.beyond model.long) (
-          omega (
-            arith,
-            many.all,
-            many.one,
-            l.limit,
-            u.placed,
-            ap length many.are,
-            length-append many.front many.last,
-            length-append u.taken w.tail,
-          ),
-          subst HaveNoGroup (sym within) many.fewer,
-        ) err2 f2 refl
+        ∙ take-append_seam many.front many.last in (
+          stops_at run_on [] err2 f2 new lines2 u (model.beyond model.long) (
+            omega (
+              arith,
+              many.all,
+              many.one,
+              l.limit,
+              u.placed,
+              ap length many.are,
+              length-append many.front many.last,
+              length-append u.taken w.tail,
+            ),
+            subst HaveNoGroup (sym within) many.fewer,
+          ) err2 f2 refl,
+          λ is. absurd (let other = is in cc),
+        )
 
 -- no bytes are few
 pub nothing_few : AreFew 8 []
@@ -507,9 +528,10 @@ nothing_few =
     }
 
 -- the run stops before anything is read
-pub stops_unread : (arrival : Arrival) (left : Option (List ℕ)) (s0 s1 : ℕ) (err : Option (List ℕ)) (f0 f1 : ℕ)
-    → StopsUntold arrival (change left left s0 s1) (change err err f0 f1) model.no_memory
-stops_unread arrival left s0 s1 err f0 f1 = record {
+pub stops_unread : (arrival : Arrival) (opened : List Batch) (left : Option (List ℕ)) (s0 s1 : ℕ)
+    (err : Option (List ℕ)) (f0 f1 : ℕ) (seen : Seen) → IsHeld opened seen []
+    → StopsHeld arrival opened (change left left s0 s1) (change err err f0 f1) seen model.no_memory
+stops_unread arrival opened left s0 s1 err f0 f1 seen held = record {
   groups = [];
   behind = record {
     begins = record {
@@ -525,6 +547,39 @@ stops_unread arrival left s0 s1 err f0 f1 = record {
     few = nothing_few;
     cause = tt;
   };
-  unsettled = omega arith;
+  held = held;
   named = Appends-nil err;
 }
+
+module _ (arrival : Arrival) (opened : List Batch) (source errors : Change) (seen : Seen) where
+  -- Of a run that settles nothing, the batches are no more than may be unsettled.
+  stops_few : (stop : model.Stop) → StopsHeld arrival opened source errors seen stop → AreSettled opened seen
+      → StopsUntold arrival source errors stop
+  stops_few stop stops settled = record {
+    groups = stops.groups;
+    behind = stops.behind;
+    unsettled = held_few opened seen (batches_of stops.groups) stops.held settled;
+    named = stops.named;
+  }
+
+  -- why a run stops that settles nothing
+  pub stops_unsettled : (new : Seen) (interrupt : Interrupt)
+      → StopsHolding arrival opened source errors seen new interrupt → AreSettled opened seen
+      → StopsLoad arrival source errors interrupt
+  stops_unsettled new Unreadable stops settled = stops_few model.unreadable stops settled
+  stops_unsettled new Unwritable stops settled = (
+    stops.fault,
+    held_few opened new (batches_of (stops.fault.groups ++ stops.fault.group ∷ [])) stops.after
+        (stops.settled ∙ settled),
+  )
+  stops_unsettled new (Beyond limit) stops settled = stops_few (model.beyond (limit_of limit)) stops.0 settled
+  stops_unsettled new (NoAnswer overflow) stops settled = absurd stops
+  stops_unsettled new NoMemory stops settled = stops_few model.no_memory stops settled
+
+-- the run stops before there is a desk
+pub stops_unopened : (arrival : Arrival) (left : Option (List ℕ)) (s0 s1 : ℕ) (err : Option (List ℕ)) (f0 f1 : ℕ)
+    → StopsUntold arrival (change left left s0 s1) (change err err f0 f1) model.no_memory
+stops_unopened arrival left s0 s1 err f0 f1 =
+    let nothing : Seen = record { history = []; settled = 0; turns = [] } in
+    stops_few arrival [] (change left left s0 s1) (change err err f0 f1) nothing model.no_memory
+    (stops_unread arrival [] left s0 s1 err f0 f1 nothing (record { entered = refl; few = omega arith })) refl

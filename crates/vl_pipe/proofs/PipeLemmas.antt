@@ -14,11 +14,11 @@ use Rattle.lone_desk.specs.Query.{IsQueryText, batch_list_rows}
 use Rattle.lone_desk.specs.Question.{Question}
 use Rattle.lone_desk.specs.Seen.{Seen}
 use Rattle.lone_desk.proofs.QueryLemmas.{history_rows}
-use Rattle.vl_pipe.specs.Groups.{Arrival, batches_of, refusals_of}
+use Rattle.vl_pipe.specs.Groups.{Arrival, FitUnsettled, batches_of, refusals_of}
 use Rattle.vl_pipe.specs.Program as model
 use Rattle.vl_pipe.specs.Program.{AreFew, IsAnswer, IsTakenIn, Overflows, fault_of, overflow_text, said_of_query}
 use Rattle.vl_pipe.specs.Program.{stop_text}
-use Rattle.vl_pipe.specs.Load.{IsLoaded, StopsLoad, StopsUntold}
+use Rattle.vl_pipe.specs.Load.{AreSettled, IsLoaded, StopsLoad, StopsUntold}
 use Rattle.vl_pipe.specs.Interrupt.{limit_of, overflow_of}
 use Rattle.vl_pipe.specs.Pipe.{EndsPipe, IsPiped, ReportsInterrupt, StopsAnswer, WritesAnswer}
 use Rattle.vl_pipe.specs.Ended.{IsAnswerCut, IsAnswered, IsNamingCut, IsStopped}
@@ -28,6 +28,7 @@ use Rattle.vl_pipe.specs.declared.interrupt.Interrupt.{Interrupt}
 use Rattle.vl_pipe.specs.declared.interrupt.Interrupt.TheVariants.{Unreadable, Unwritable, Beyond, NoAnswer, NoMemory}
 use Rattle.vl_pipe.specs.declared.pipe.Pipe.{Pipe}
 use Rattle.vl_pipe.proofs.GroupLemmas.{append_nil, AreGroups-weaken}
+use Rattle.vl_pipe.proofs.HeldLemmas.{held_few}
 use Rattle.vl_pipe.proofs.LoadLemmas.{change, nothing_few}
 
 -- The source gave an input to its end, and its refused lines are named. The evaluation over it overflows, and nothing
@@ -64,7 +65,12 @@ stops_load query arrival source errors written f0 f1 (NoAnswer overflow) stops =
 stops_load query arrival source errors written f0 f1 NoMemory stops = stops
 
 module _ (query : Question) (arrival : Arrival) (now : ℤ) (at : now ≡ pos arrival.moment)
-    (source output errors : Change) (seen : Seen) (l : IsLoaded arrival [] source errors seen) where
+    (source output errors : Change) (seen : Seen) (l : IsLoaded arrival [] source errors seen)
+    (settled : AreSettled [] seen) where
+  -- The batches are no more than may be unsettled.
+  few : FitUnsettled l.groups
+  few = held_few [] seen (batches_of l.groups) l.holding settled
+
   -- what the input becomes
   taken : IsTakenIn arrival l.begins.taken (refusals_of l.groups) (batches_of l.groups)
   taken = record {
@@ -94,7 +100,7 @@ module _ (query : Question) (arrival : Arrival) (now : ℤ) (at : now ≡ pos ar
   answer lines is = record {
     batches = batches_of l.groups;
     taken = taken;
-    few = l.holding.few;
+    few = few;
     over = over (λ now rows. IsAnswerOver query now rows lines) is;
   }
 
@@ -120,7 +126,7 @@ module _ (query : Question) (arrival : Arrival) (now : ℤ) (at : now ≡ pos ar
       few = subst (AreFew 8) (sym l.all) nothing_few;
       cause = tt;
     };
-    unsettled = l.holding.few;
+    unsettled = few;
     named = l.named;
   }
 
@@ -134,7 +140,7 @@ module _ (query : Question) (arrival : Arrival) (now : ℤ) (at : now ≡ pos ar
     overflows = record {
       batches = batches_of l.groups;
       taken = taken;
-      few = l.holding.few;
+      few = few;
       fails = over (λ now rows. FailsOver query now rows (fault_of cause)) fails;
     };
     named = l.named;
@@ -160,7 +166,7 @@ module _ (query : Question) (arrival : Arrival) (now : ℤ) (at : now ≡ pos ar
 
 module _ (arrival : Arrival) (source : Change) (err0 err1 err2 : Option (List ℕ)) (f0 f1 f2 : ℕ) where
   -- what is reported after the names
-  told_after : (named text : List ℕ) → f0 ≤ f1 → Appends err0 err1 named → IsTold (change err1 err2 f1 f2) [] text
+  pub told_after : (named text : List ℕ) → f0 ≤ f1 → Appends err0 err1 named → IsTold (change err1 err2 f1 f2) [] text
       → IsTold (change err0 err2 f0 f2) named text
   told_after named text stays written (inl whole) = inl (Appends-trans err0 err1 err2 named text written whole)
   told_after named text stays written (inr cut) = inr (record {

@@ -1,10 +1,16 @@
 pub mod Ended
+pub mod Flushing
 pub mod Groups
 pub mod Interrupt
 pub mod Load
+pub mod Opened
 pub mod Pipe
 pub mod Program
 pub mod Refused
+pub mod Stored
+pub mod StoredLoad
+pub mod Storing
+pub mod VaultChange
 pub mod Window
 pub use Rattle.lone_desk.specs.Asked
 pub use Rattle.lone_desk.specs.Query

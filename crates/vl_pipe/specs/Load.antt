@@ -1,10 +1,10 @@
 -- What becomes of an input on its way to the desk.
-use Rattle.std.specs.Prelude.{◌≡◌, ◌⊎◌, ℕ, ◌+◌, ◌<◌, ◌≤◌, Bool, true, List, [], ◌∷◌, ◌++◌, length, Option}
+use Rattle.std.specs.Prelude.{◌≡◌, ◌⊎◌, ℕ, ◌+◌, ◌<◌, ◌≤◌, Bool, true, List, [], ◌∷◌, ◌++◌, length, Option, Some, None}
 use Rattle.std.specs.List.{AllByRecursion}
 use Rattle.vl_io.specs.Bytes.{Appends}
 use Rattle.vl_io.specs.Change.{Change, Gave, IsCut, IsSpent, IsUntold, Took}
 use Rattle.log_model.specs.Core.{held_limit}
-use Rattle.log_model.specs.History.{batches_in}
+use Rattle.log_model.specs.History.{History, batches_in}
 use Rattle.log_model.specs.Row.{Batch, Row, batch_limit, batch_weight}
 use Rattle.ingest_row.specs.Intake.{Outcome, rows_read}
 use Rattle.lone_desk.specs.Seen.{Seen}
@@ -21,19 +21,29 @@ use Rattle.vl_pipe.specs.declared.interrupt.Limit.TheVariants.{Long, Large, Full
 use Rattle.vl_pipe.specs.declared.interrupt.Interrupt.{Interrupt}
 use Rattle.vl_pipe.specs.declared.interrupt.Interrupt.TheVariants.{Unreadable, Unwritable, Beyond, NoAnswer, NoMemory}
 
--- What has been seen is a history of the opened batches, which are settled, and then of these. None of these is
--- settled, and they are no more than may wait for that.
+-- What has been seen is a history of the opened batches, and then of these. No more are unsettled than may be.
 pub record IsHeld (opened : List Batch) (seen : Seen) (batches : List Batch) : Type 0 where
   pub entered : batches_in seen.history ≡ opened ++ batches
-  pub settled : seen.settled ≡ length opened
-  pub few : length batches ≤ held_limit
+  pub few : length seen.history ≤ seen.settled + held_limit
+
+-- Exactly the opened batches are settled.
+abbrev pub AreSettled : List Batch → Seen → Type 0
+AreSettled opened seen = seen.settled ≡ length opened
+
+-- As many batches are unsettled as may be.
+abbrev pub IsFull : Seen → Type 0
+IsFull seen = length seen.history ≡ seen.settled + held_limit
+
+-- The number is that of the last entry, which is new. Without a number there is no new entry.
+abbrev pub IsLast : History → History → Option ℕ → Type 0
+IsLast old new (Some number) = number ≡ length new
+IsLast old new None = new ≡ old
 
 -- why these rows are not loaded, by what has been seen then
 abbrev pub IsTooMuch : Seen → List Row → Limit → Type 0
 IsTooMuch seen rows Long = ⊥
 IsTooMuch seen rows (Large weight) = (weight ≡ batch_weight rows) × (batch_limit < weight)
-IsTooMuch seen rows Full =
-    (length seen.history ≡ seen.settled + held_limit) × (0 < length rows) × (batch_weight rows ≤ batch_limit)
+IsTooMuch seen rows Full = IsFull seen × (0 < length rows) × (batch_weight rows ≤ batch_limit)
 
 -- why a group is not loaded
 abbrev pub RefusesGroup : Arrival → List ℕ → Seen → Interrupt → Type 0
@@ -44,10 +54,11 @@ RefusesGroup arrival body seen (Beyond limit) =
 RefusesGroup arrival body seen (NoAnswer overflow) = ⊥
 RefusesGroup arrival body seen NoMemory = Unit {0}
 
--- the rows became one batch more, if there were any
+-- The rows became one batch more, if there were any. No batch was settled.
 abbrev pub AddsRows : Seen → Seen → List Row → Type 0
 AddsRows old new rows =
     (batch_weight rows ≤ batch_limit)
+    × (new.settled ≡ old.settled)
     × ((opened batches : List Batch) → IsHeld opened old batches
     → IsHeld opened new (batches ++ batches_of_rows rows))
 
@@ -77,6 +88,35 @@ pub record IsLoaded (arrival : Arrival) (opened : List Batch) (source errors : C
   pub light : FitBatches groups
   pub holding : IsHeld opened seen (batches_of groups)
   pub named : Took errors (refusals_of groups)
+
+-- Groups were loaded, whose batches are held after the opened ones, and their refused lines named. Then the run
+-- stopped, and did not say yet why.
+pub record StopsHeld (arrival : Arrival) (opened : List Batch) (source errors : Change) (seen : Seen)
+    (stop : model.Stop) : Type 0 where
+  pub groups : List (List Outcome)
+  pub behind : StopsBehind arrival source groups stop
+  pub held : IsHeld opened seen (batches_of groups)
+  pub named : Took errors (refusals_of groups)
+
+-- The error stream failed while the refused lines of a group were named. Before the group `old` had been seen, and with
+-- its batch `new`. No batch was settled meanwhile.
+pub record StopsNaming (arrival : Arrival) (opened : List Batch) (source errors : Change) (old new : Seen)
+    : Type 0 where
+  pub fault : IsNamingFault arrival source errors
+  pub before : IsHeld opened old (batches_of fault.groups)
+  pub after : IsHeld opened new (batches_of (fault.groups ++ fault.group ∷ []))
+  pub settled : new.settled ≡ old.settled
+
+-- Why the run stops while it loads. Before the group at which it stops `old` had been seen.
+abbrev pub StopsHolding : Arrival → List Batch → Change → Change → Seen → Seen → Interrupt → Type 0
+StopsHolding arrival opened source errors old new Unreadable =
+    StopsHeld arrival opened source errors old model.unreadable
+StopsHolding arrival opened source errors old new Unwritable = StopsNaming arrival opened source errors old new
+StopsHolding arrival opened source errors old new (Beyond limit) =
+    StopsHeld arrival opened source errors old (model.beyond (limit_of limit)) × (limit ≡ Full → IsFull old)
+StopsHolding arrival opened source errors old new (NoAnswer overflow) = ⊥
+StopsHolding arrival opened source errors old new NoMemory =
+    StopsHeld arrival opened source errors old model.no_memory
 
 -- Groups were loaded, whose batches are no more than may be unsettled, and their refused lines named. Then the run
 -- stopped, and did not say yet why.

@@ -7,8 +7,8 @@ ghost use Rattle.log_model.specs.Line.{lines_of};
 ghost use Rattle.ingest_row.specs.Intake.{Outcome, refused_from};
 ghost use Rattle.lone_desk.specs.Alone.{last_number};
 ghost use Rattle.vl_pipe.specs.Groups.{Arrival as Came, refusals_from};
-ghost use Rattle.vl_pipe.specs.Load.{IsHeld, IsLoaded, IsUnderWay, RefusesGroup, Run, StopsGroup, StopsLoad};
-ghost use Rattle.vl_pipe.specs.Load.{TakesGroup, errors_of};
+ghost use Rattle.vl_pipe.specs.Load.{AreSettled, IsHeld, IsLast, IsLoaded, IsUnderWay, RefusesGroup, Run};
+ghost use Rattle.vl_pipe.specs.Load.{StopsGroup, StopsLoad, TakesGroup, errors_of};
 ghost use Rattle.vl_pipe.specs.Window.{AreReadGroups, IsReadGroup, bodies_of};
 
 use crate::arrival::Arrival;
@@ -22,10 +22,10 @@ use std::thread::Threads;
 use vl_io::{Failed, GroupReader, Sink, Source, put_all};
 
 /// How many lines form a group.
-const GROUP_LINES: usize = 1_000;
+pub(crate) const GROUP_LINES: usize = 1_000;
 
 /// The most bytes that an input may have.
-const INPUT_LIMIT: usize = 4_294_967_296;
+pub(crate) const INPUT_LIMIT: usize = 4_294_967_296;
 
 /// Returns a desk of only the input.
 pub(crate) fn load_fresh<'r, R: AllocGlobal + Threads + Wait + Sync, S: Source, E: Sink>(
@@ -36,6 +36,7 @@ pub(crate) fn load_fresh<'r, R: AllocGlobal + Threads + Wait + Sync, S: Source, 
 ) -> Result<LoneDesk<'r, R>, Interrupt>
     ensures loaded { IfOk result (IsLoaded arrival.now [] (change_of S.left S.faults src.old src.new)
         (change_of E.written E.faults err.old err.new)) }
+    ensures settled { IfOk result (AreSettled []) }
     ensures stopped { IfErr result (StopsLoad arrival.now (change_of S.left S.faults src.old src.new)
         (change_of E.written E.faults err.old err.new)) }
     ensures faults { E.faults err.old ≤ E.faults err.new }
@@ -57,9 +58,11 @@ fn load<R: Threads + Wait + Sync, S: Source, E: Sink>(
     err: &mut E,
 ) -> Result<(), Interrupt>
     requires opened { IsHeld (batches_in desk.old.history) desk.old [] }
-    requires numbers { length desk.old.history + held_limit < last_number }
+    requires settled { AreSettled (batches_in desk.old.history) desk.old }
+    requires numbers { desk.old.settled + held_limit < last_number }
     ensures loaded { OnOk result (IsLoaded arrival.now (batches_in desk.old.history)
         (change_of S.left S.faults src.old src.new) (change_of E.written E.faults err.old err.new) desk.new) }
+    ensures settled { OnOk result (desk.new.settled ≡ desk.old.settled) }
     ensures stopped { IfErr result (StopsLoad arrival.now (change_of S.left S.faults src.old src.new)
         (change_of E.written E.faults err.old err.new)) }
     ensures faults { E.faults err.old ≤ E.faults err.new }
@@ -86,13 +89,15 @@ fn take_groups<R: Wait, E: Sink>(
     err: &mut E,
 ) -> Result<u64, Interrupt>
     requires next { (run : Run) × AreReadGroups run.arrival groups.items
-        × IsUnderWay run (bodies_of groups.items) (E.written err.old) (E.faults err.old) desk.old lines_before
-        × (length run.opened + held_limit < last_number) }
+        × IsUnderWay run (bodies_of groups.items) (E.written err.old) (E.faults err.old) desk.old lines_before }
+    requires numbers { desk.old.settled + held_limit < last_number }
     ensures taken { (run : Run) → AreReadGroups run.arrival groups.items
         → IsUnderWay run (bodies_of groups.items) (E.written err.old) (E.faults err.old) desk.old lines_before
         → IfOk result (IsUnderWay run [] (E.written err.new) (E.faults err.new) desk.new) }
+    ensures settled { OnOk result (desk.new.settled ≡ desk.old.settled) }
     ensures stopped { (run : Run) → AreReadGroups run.arrival groups.items
         → IsUnderWay run (bodies_of groups.items) (E.written err.old) (E.faults err.old) desk.old lines_before
+        → AreSettled run.opened desk.old
         → IfErr result (StopsLoad run.arrival run.source (errors_of run (E.written err.new) (E.faults err.new))) }
     ensures faults { E.faults err.old ≤ E.faults err.new }
 {
@@ -104,13 +109,13 @@ fn take_groups<R: Wait, E: Sink>(
     Ok(lines)
 }
 
-/// Takes one group in, where this many lines came before it.
-fn take_group<R: Wait, E: Sink>(
+/// Takes one group in, where this many lines came before it. Returns the number of its batch, if it has rows.
+pub(crate) fn take_group<R: Wait, E: Sink>(
     desk: &mut LoneDesk<'_, R>,
     group: Group,
     lines_before: u64,
     err: &mut E,
-) -> Result<(), Interrupt>
+) -> Result<Option<u64>, Interrupt>
     requires read { (arrival : Came) × IsReadGroup arrival group }
     requires numbers { lines_before + length group.body.items < 2 ^ 64 }
     requires lines { length (lines_of group.body.items) ≤ 1000 }
@@ -121,13 +126,15 @@ fn take_group<R: Wait, E: Sink>(
     ensures stopped { (arrival : Came) → IsReadGroup arrival group
         → IfErr result (StopsGroup arrival group.body.items lines_before desk.old
         desk.new (change_of E.written E.faults err.old err.new)) }
+    ensures numbered { IfOk result (IsLast desk.old.history desk.new.history) }
     ensures faults { E.faults err.old ≤ E.faults err.new }
 {
     let insertion = insert_group(desk, group)?;
+    let number = insertion.batch;
     let refused = insertion.refused.into_vec();
     let refusals = names_after(*refused.allocator(), lines_before, refused.as_slice())?;
     match put_all(err, refusals.as_bytes()) {
-        Ok(()) => Ok(()),
+        Ok(()) => Ok(number),
         Err(Failed) => Err(Interrupt::Unwritable),
     }
 }
@@ -140,6 +147,7 @@ fn insert_group<R: Wait>(desk: &mut LoneDesk<'_, R>, group: Group) -> Result<Ins
     ensures taken { (arrival : Came) → IsReadGroup arrival group → IfOk result (λ insertion. (outcomes : List Outcome)
         × TakesGroup arrival group.body.items outcomes desk.old desk.new
         × (insertion.refused ≡ refused_from 1 outcomes)) }
+    ensures numbered { IfOk result (λ insertion. IsLast desk.old.history desk.new.history insertion.batch) }
     ensures refused { (arrival : Came) → IsReadGroup arrival group
         → IfErr result (RefusesGroup arrival group.body.items desk.old) }
 {

@@ -88,7 +88,7 @@ fn answer_input<R: AllocGlobal + Threads + Wait + RandomSource + Sync, S: Source
 }
 
 /// Writes the answer to a prepared query over all that was loaded.
-fn write_answer<R: Wait + RandomSource, O: Sink>(
+pub(crate) fn write_answer<R: Wait + RandomSource, O: Sink>(
     desk: &mut LoneDesk<'_, R>,
     search: &Search,
     now: i64,

@@ -1,9 +1,11 @@
-//! Writes to the error stream why a query ended early.
+//! Writes to the error stream why a command ended early.
 ghost use Rattle.vl_io.specs.Change.{change_of};
 ghost use Rattle.vl_pipe.specs.Pipe.{ReportsInterrupt};
 ghost use Rattle.vl_pipe.specs.Refused.{ReportsRefused};
+ghost use Rattle.vl_pipe.specs.Storing.{ReportsStop};
 
 use crate::interrupt::Interrupt;
+use crate::load_stop::LoadStop;
 use crate::refusal::said_of;
 use lone_desk::QueryRefusal;
 use std::alloc::Global;
@@ -52,5 +54,22 @@ pub fn report_interrupt<E: Sink>(alloc: Global, interrupt: Interrupt, err: &mut 
             Err(_) => report_no_memory(err),
         },
         Interrupt::NoMemory => report_no_memory(err),
+    }
+}
+
+/// Reports why a load ended early, as [`report_interrupt`] does.
+pub fn report_stop<E: Sink>(alloc: Global, stop: LoadStop, err: &mut E) -> Status
+    ensures { ReportsStop (change_of E.written E.faults err.old err.new) stop result }
+{
+    match stop {
+        LoadStop::Interrupted(interrupt) => report_interrupt(alloc, interrupt, err),
+        LoadStop::Spent => {
+            say(err, "spent\n");
+            Status::Limit
+        }
+        LoadStop::VaultFault => {
+            say(err, "vault fault\n");
+            Status::VaultFault
+        }
     }
 }

@@ -1,6 +1,6 @@
 use Rattle.std.proofs.Common.{subst}
 use Rattle.lone_desk.specs.Alone.{RefusesAlone}
-use Rattle.vl_pipe.proofs.HeldLemmas.{takes}
+use Rattle.vl_pipe.proofs.HeldLemmas.{is_last, takes}
 use Rattle.vl_pipe.proofs.InsertLemmas.{full_group, large_group, never_last}
 use Rattle.vl_pipe.proofs.load.insert_group.Goals as goal
 
@@ -38,3 +38,9 @@ unreachable-requires g c =
     let named = subst (RefusesAlone arrival.options arrival.moment body c.args.desk.now c.insert_read.new.self)
     c.in-Err-Spent.field-0-is refused in
     absurd (never_last arrival body c.args.desk.now c.insert_read.new.self c.requires.numbered named)
+
+pub returns-in-Ok-clause-numbered : goal.returns-in-Ok-clause-numbered
+returns-in-Ok-clause-numbered g c =
+    let reads = c.requires.read in
+    is_last reads.0 c.args.group.body.items c.args.desk.now c.insert_read.new.self c.in-Ok.insertion
+    (c.in-Ok.ensures.inserted reads.0.options reads.0.moment c.args.group.body.items reads.1)

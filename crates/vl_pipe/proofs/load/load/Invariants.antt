@@ -1,4 +1,4 @@
-use Rattle.std.proofs.Common.{◌-◌, ◌+◌, ◌<◌, ◌≤◌, length}
+use Rattle.std.proofs.Common.{◌≡◌, ◌-◌, ◌+◌, ◌<◌, ◌≤◌, length}
 use Rattle.log_model.specs.History.{batches_in}
 use Rattle.vl_io.specs.Change.{change_of}
 use Rattle.vl_pipe.proofs.LoadLemmas.{Loading}
@@ -11,6 +11,7 @@ invariant-windows g l = record {
       (change_of g.S.Source.left g.S.Source.faults l.initial.src l.src)
       (change_of g.E.Sink.written g.E.Sink.faults l.initial.err l.err)
       l.reader l.desk l.lines;
+  settled : l.desk.settled ≡ l.initial.desk.settled;
   some : 0 < l.most;
   few : l.most ≤ 8;
 }

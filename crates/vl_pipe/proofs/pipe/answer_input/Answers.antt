@@ -29,6 +29,7 @@ returns-in-Ok-write_answer-clause-ends g c =
     let output = change_of g.O.Sink.written g.O.Sink.faults c.args.out.now c.write_answer.new.out in
     let errors = change_of g.E.Sink.written g.E.Sink.faults c.args.err.now c.load_fresh.new.err in
     answered query arrival _ moment source output errors c.in-Ok.desk c.in-Ok.ensures.loaded
+    c.in-Ok.ensures.settled
     c.in-Ok-write_answer.ensures.done
 
 pub returns-clause-ends : goal.returns-clause-ends
@@ -47,7 +48,7 @@ returns-clause-ends g c =
     c.report_interrupt-in-Err-write_answer.new.err in
     reported arrival source _ _ _ _ _ _ query output interrupt status c.in-Ok.ensures.faults
     (unanswered query arrival _ moment source output named c.in-Ok.desk
-    c.in-Ok.ensures.loaded interrupt c.in-Err-write_answer.ensures.stopped)
+    c.in-Ok.ensures.loaded c.in-Ok.ensures.settled interrupt c.in-Err-write_answer.ensures.stopped)
     c.report_interrupt-in-Err-write_answer.ensures
 
 pub returns-clause-untouched : goal.returns-clause-untouched
