@@ -23,14 +23,23 @@ command name arguments = record (new_shape name) { rules = arguments }
 abbrev pub pipe : Shape
 pipe = command (codes "pipe") (option (codes "stream-fields") ∷ word (codes "query") ∷ [])
 
+-- `load --dir DIRECTORY [--stream-fields LIST]`
+abbrev pub load : Shape
+load = command (codes "load") (needed_option (codes "dir") ∷ option (codes "stream-fields") ∷ [])
+
+-- `query --dir DIRECTORY QUERY`
+abbrev pub query : Shape
+query = command (codes "query") (needed_option (codes "dir") ∷ word (codes "query") ∷ [])
+
 -- `trial SEED ROWS`
 abbrev pub trial : Shape
 trial = command (codes "trial") (word (codes "seed") ∷ word (codes "rows") ∷ [])
 
--- `serve --http ADDRESS [--syslog ADDRESS] [--workers COUNT]`
+-- `serve --dir DIRECTORY --http ADDRESS [--syslog ADDRESS] [--workers COUNT]`
 abbrev pub serve : Shape
 serve = command (codes "serve")
-    (needed_option (codes "http") ∷ option (codes "syslog") ∷ option (codes "workers") ∷ [])
+    (needed_option (codes "dir") ∷ needed_option (codes "http") ∷ option (codes "syslog")
+    ∷ option (codes "workers") ∷ [])
 
 -- The program without its commands. One of them is wanted. The words do not begin with the program's name, and there
 -- is no help flag and no version flag.
@@ -48,4 +57,6 @@ bare = record {
 
 -- the program
 unfoldable pub program : App
-program = with_subcommand (with_subcommand (with_subcommand bare pipe) trial) serve
+program =
+    with_subcommand (with_subcommand (with_subcommand (with_subcommand (with_subcommand bare pipe) load) query) trial)
+    serve

@@ -11,6 +11,20 @@ pub enum Command {
         /// The text of the query.
         query: Text,
     },
+    /// The rows of the input, kept in a directory.
+    Load {
+        /// The directory of the database, as it was written.
+        dir: Text,
+        /// The names of the fields that are the labels of each row, as for `Pipe`.
+        stream_fields: Option<Text>,
+    },
+    /// The answer to a query over the rows that a directory keeps.
+    Query {
+        /// The directory of the database, as it was written.
+        dir: Text,
+        /// The text of the query.
+        query: Text,
+    },
     /// A trial of the database on rows that it makes itself.
     Trial {
         /// What the rows are made from: 0 to 2^63 - 1.
@@ -18,8 +32,10 @@ pub enum Command {
         /// How many rows are made: 0 to 1,000,000.
         rows: u64,
     },
-    /// A server on one address or two.
+    /// A server on one address or two, which keeps its logs in a directory.
     Serve {
+        /// The directory of the database, as it was written.
+        dir: Text,
         /// The address for HTTP, as it was written.
         http: Text,
         /// The address for syslog, as it was written, if syslog is served too.

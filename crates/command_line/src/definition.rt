@@ -1,9 +1,10 @@
 //! The command line of the program, as clap defines one.
 ghost use Rattle.std.specs.Prelude.{◌≡◌, IfOk, false};
-ghost use Rattle.clap.specs.Simple.{app_of, shape_of};
+ghost use Rattle.clap.specs.Simple.{app_of, shape_of, with_subcommand};
 ghost use Rattle.clap.specs.Walk.{rule_of};
 ghost use Rattle.clap.specs.declared.builder.command.Command.TheViews.{out-Command};
-ghost use Rattle.command_line.specs.Program.{bare, needed_option, option, pipe, program, serve, trial, word};
+ghost use Rattle.command_line.specs.Program.{bare, load, pipe, program, query, serve, trial};
+ghost use Rattle.command_line.specs.Program.{needed_option, option, word};
 
 use clap::{Arg, Command};
 use std::alloc::{AllocError, Global};
@@ -13,10 +14,19 @@ use std::alloc::{AllocError, Global};
 pub(crate) fn program<'a>(alloc: Global) -> Result<Command<'a>, AllocError>
     ensures { IfOk result (λ whole. app_of whole ≡ program) }
 {
+    let first = first_commands(alloc)?;
+    first.subcommand(trial(alloc)?)?.subcommand(serve(alloc)?)
+}
+
+/// Returns the program with the first three of its commands.
+fn first_commands<'a>(alloc: Global) -> Result<Command<'a>, AllocError>
+    ensures { IfOk result (λ some. app_of some
+        ≡ with_subcommand (with_subcommand (with_subcommand bare pipe) load) query) }
+{
     let bare = bare_program(alloc);
     bare.subcommand(pipe(alloc)?)?
-        .subcommand(trial(alloc)?)?
-        .subcommand(serve(alloc)?)
+        .subcommand(load(alloc)?)?
+        .subcommand(query(alloc)?)
 }
 
 /// Returns the program without its commands.
@@ -40,6 +50,24 @@ fn pipe<'a>(alloc: Global) -> Result<Command<'a>, AllocError>
         .arg(word(alloc, "query"))
 }
 
+fn load<'a>(alloc: Global) -> Result<Command<'a>, AllocError>
+    ensures shape { IfOk result (λ leaf. shape_of leaf ≡ load) }
+    ensures globals { IfOk result (λ leaf. (out-Command leaf).has_globals ≡ false) }
+{
+    Command::new(alloc, "load")
+        .arg(needed_option(alloc, "dir"))?
+        .arg(option(alloc, "stream-fields"))
+}
+
+fn query<'a>(alloc: Global) -> Result<Command<'a>, AllocError>
+    ensures shape { IfOk result (λ leaf. shape_of leaf ≡ query) }
+    ensures globals { IfOk result (λ leaf. (out-Command leaf).has_globals ≡ false) }
+{
+    Command::new(alloc, "query")
+        .arg(needed_option(alloc, "dir"))?
+        .arg(word(alloc, "query"))
+}
+
 fn trial<'a>(alloc: Global) -> Result<Command<'a>, AllocError>
     ensures shape { IfOk result (λ leaf. shape_of leaf ≡ trial) }
     ensures globals { IfOk result (λ leaf. (out-Command leaf).has_globals ≡ false) }
@@ -54,6 +82,7 @@ fn serve<'a>(alloc: Global) -> Result<Command<'a>, AllocError>
     ensures globals { IfOk result (λ leaf. (out-Command leaf).has_globals ≡ false) }
 {
     Command::new(alloc, "serve")
+        .arg(needed_option(alloc, "dir"))?
         .arg(needed_option(alloc, "http"))?
         .arg(option(alloc, "syslog"))?
         .arg(option(alloc, "workers"))

@@ -9,7 +9,7 @@ use std::alloc::AllocError;
 use std::error::Error;
 use std::fmt;
 
-/// Why no command was read. The text of `Usage` also names `load` and `query`, which are not commands yet.
+/// Why no command was read.
 #[derive(Clone, Copy, Debug, PartialEq, Eq)]
 pub enum UsageFault {
     /// The words are not a command.

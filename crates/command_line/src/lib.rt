@@ -1,8 +1,10 @@
 //! The command line of the program: what its words ask for.
 //!
 //!     pipe [--stream-fields LIST] QUERY
+//!     load --dir DIRECTORY [--stream-fields LIST]
+//!     query --dir DIRECTORY QUERY
 //!     trial SEED ROWS
-//!     serve --http ADDRESS [--syslog ADDRESS] [--workers COUNT]
+//!     serve --dir DIRECTORY --http ADDRESS [--syslog ADDRESS] [--workers COUNT]
 //!
 //! SEED is 0 to 2^63 - 1 and ROWS 0 to 1,000,000. COUNT is how many workers each address has: 1 to 64 with one
 //! address, 1 to 32 with two, and 4 where it is left out. A number is written in ASCII digits without a sign or a

@@ -1,6 +1,6 @@
 //! Words, as the command that they are.
-ghost use Rattle.std.specs.Prelude.{◌≡◌, ◌⊎◌, ◌^◌, ◌<◌, ◌≤◌, ℕ, List, [], Option, IfErr, IfNone, IfOk, IfSome, OnOk};
-ghost use Rattle.std.specs.Prelude.{codes, map, option_map};
+ghost use Rattle.std.specs.Prelude.{◌≡◌, ◌⊎◌, ◌^◌, ◌<◌, ◌≤◌, ℕ, List, [], Option, None, Some};
+ghost use Rattle.std.specs.Prelude.{IfErr, IfNone, IfOk, IfSome, OnOk, codes, map, option_map};
 ghost use Rattle.clap.specs.Faults.{fault_of};
 ghost use Rattle.clap.specs.Matches.{found_of};
 ghost use Rattle.clap.specs.Simple.{subcommand_of, subcommand_rows_of};
@@ -78,6 +78,8 @@ fn command_of(alloc: Global, name: &str, values: &ArgMatches<'_>) -> Result<Comm
 {
     match name {
         "pipe" => pipe(alloc, values),
+        "load" => load(alloc, values),
+        "query" => query(alloc, values),
         "trial" => trial(values),
         "serve" => serve(alloc, values),
         _ => Err(UsageFault::Usage),
@@ -90,10 +92,33 @@ fn pipe(alloc: Global, values: &ArgMatches<'_>) -> Result<Command, UsageFault>
     ensures usage { IfErr result (λ fault. fault ≡ UsageFault.Usage → (fields : Option (List ℕ))
         → (query : List ℕ) → HasValues (rows_of (found_of values.now)) (Command.Pipe fields query) → ⊥) }
 {
-    let query = value(values, "query").ok_or(UsageFault::Usage)?;
     Ok(Command::Pipe {
-        stream_fields: copied(alloc, value(values, "stream-fields"))?,
-        query: Text::try_of(alloc, query)?,
+        stream_fields: optional(alloc, values, "stream-fields")?,
+        query: needed(alloc, values, "query")?,
+    })
+}
+
+fn load(alloc: Global, values: &ArgMatches<'_>) -> Result<Command, UsageFault>
+    ensures name { IfOk result (λ command. name_of command ≡ codes "load") }
+    ensures read { IfOk result (HasValues (rows_of (found_of values.now))) }
+    ensures usage { IfErr result (λ fault. fault ≡ UsageFault.Usage → (dir : List ℕ)
+        → (fields : Option (List ℕ)) → HasValues (rows_of (found_of values.now)) (Command.Load dir fields) → ⊥) }
+{
+    Ok(Command::Load {
+        dir: needed(alloc, values, "dir")?,
+        stream_fields: optional(alloc, values, "stream-fields")?,
+    })
+}
+
+fn query(alloc: Global, values: &ArgMatches<'_>) -> Result<Command, UsageFault>
+    ensures name { IfOk result (λ command. name_of command ≡ codes "query") }
+    ensures read { IfOk result (HasValues (rows_of (found_of values.now))) }
+    ensures usage { IfErr result (λ fault. fault ≡ UsageFault.Usage → (dir query : List ℕ)
+        → HasValues (rows_of (found_of values.now)) (Command.Query dir query) → ⊥) }
+{
+    Ok(Command::Query {
+        dir: needed(alloc, values, "dir")?,
+        query: needed(alloc, values, "query")?,
     })
 }
 
@@ -111,17 +136,16 @@ fn trial(values: &ArgMatches<'_>) -> Result<Command, UsageFault>
 fn serve(alloc: Global, values: &ArgMatches<'_>) -> Result<Command, UsageFault>
     ensures name { IfOk result (λ command. name_of command ≡ codes "serve") }
     ensures read { IfOk result (HasValues (rows_of (found_of values.now))) }
-    ensures usage { IfErr result (λ fault. fault ≡ UsageFault.Usage → (http : List ℕ)
+    ensures usage { IfErr result (λ fault. fault ≡ UsageFault.Usage → (dir http : List ℕ)
         → (syslog : Option (List ℕ)) → (workers : ℕ)
-        → HasValues (rows_of (found_of values.now)) (Command.Serve http syslog workers) → ⊥) }
+        → HasValues (rows_of (found_of values.now)) (Command.Serve dir http syslog workers) → ⊥) }
 {
-    let http = value(values, "http").ok_or(UsageFault::Usage)?;
-    let syslog = value(values, "syslog");
-    let most = most_workers(syslog);
+    let most = most_workers(value(values, "syslog"));
     let workers = workers(values, most).ok_or(UsageFault::Usage)?;
     Ok(Command::Serve {
-        http: Text::try_of(alloc, http)?,
-        syslog: copied(alloc, syslog)?,
+        dir: needed(alloc, values, "dir")?,
+        http: needed(alloc, values, "http")?,
+        syslog: optional(alloc, values, "syslog")?,
         workers,
     })
 }
@@ -167,11 +191,23 @@ fn value<'a>(values: &ArgMatches<'a>, name: &str) -> Option<&'a str>
     values.get_str(name)
 }
 
-/// Returns a copy of a text, where there is one.
-fn copied(alloc: Global, text: Option<&str>) -> Result<Option<Text>, AllocError>
-    ensures { IfOk result (λ copy. copy ≡ option_map (λ text. text.now) text.entry) }
+/// Returns a copy of the value of an argument that a command needs.
+fn needed(alloc: Global, values: &ArgMatches<'_>, name: &str) -> Result<Text, UsageFault>
+    ensures read { IfOk result (λ copy. first_of name.now (rows_of (found_of values.now)) ≡ Some copy) }
+    ensures usage { IfErr result (λ fault. fault ≡ UsageFault.Usage
+        → first_of name.now (rows_of (found_of values.now)) ≡ None) }
 {
-    match text {
+    match value(values, name) {
+        Some(text) => Ok(Text::try_of(alloc, text)?),
+        None => Err(UsageFault::Usage),
+    }
+}
+
+/// Returns a copy of the value of an argument, where it has one.
+fn optional(alloc: Global, values: &ArgMatches<'_>, name: &str) -> Result<Option<Text>, AllocError>
+    ensures { IfOk result (λ copy. first_of name.now (rows_of (found_of values.now)) ≡ copy) }
+{
+    match value(values, name) {
         Some(text) => Ok(Some(Text::try_of(alloc, text)?)),
         None => Ok(None),
     }

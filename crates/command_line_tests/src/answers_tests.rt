@@ -33,13 +33,29 @@ fn shown(alloc: Global, command: &Command) -> Result<String, AllocError> {
             write!(text, "pipe <{}>", query.as_str())?;
             push_option(stream_fields.as_ref(), "stream fields", &mut text)?;
         }
+        Command::Load { dir, stream_fields } => {
+            write!(text, "load <{}>", dir.as_str())?;
+            push_option(stream_fields.as_ref(), "stream fields", &mut text)?;
+        }
+        Command::Query { dir, query } => write!(
+            text,
+            "query <{}> <{}>",
+            dir.as_str(),
+            query.as_str()
+        )?,
         Command::Trial { seed, rows } => write!(text, "trial {seed} {rows}")?,
         Command::Serve {
+            dir,
             http,
             syslog,
             workers,
         } => {
-            write!(text, "serve {workers} <{}>", http.as_str())?;
+            write!(
+                text,
+                "serve {workers} <{}> <{}>",
+                dir.as_str(),
+                http.as_str()
+            )?;
             push_option(syslog.as_ref(), "syslog", &mut text)?;
         }
     }
