@@ -1,15 +1,14 @@
 -- The batches of a trial, inserted one after another.
-use Rattle.std.proofs.Common.{◌≡◌, ℕ, ◌+◌, ◌^◌, ◌-◌, ◌<◌, ◌≤◌, List, [], ◌∷◌, ◌++◌, append_assoc, length, length-append}
+use Rattle.std.proofs.Common.{◌≡◌, ℕ, ◌<◌, ◌≤◌, List, [], ◌∷◌, ◌++◌, append_assoc, length, length-append}
 use Rattle.std.proofs.Common.{ap, ◌∙◌, arith}
 use Rattle.std.specs.Prelude.{flat_map}
 use Rattle.std.proofs.lemmas.List.{length-map}
-use Rattle.log_model.specs.Core.{held_limit}
 use Rattle.log_model.specs.History.{History, batches_in, entry_rows, rows_of}
 use Rattle.log_model.specs.Row.{Batch, Row}
 use Rattle.log_desk.specs.Faults.{Refuses}
 use Rattle.log_desk.specs.Seen.{Seen}
 use Rattle.log_desk.specs.declared.fault.InsertFault.TheVariants.{Full, Spent}
-use Rattle.lone_desk.proofs.Laws.{batches-with, same-alone, settled-alone}
+use Rattle.lone_desk.proofs.Laws.{batches-with, same-alone}
 use Rattle.lone_desk.specs.Alone.{FollowsAlone, GainsAlone}
 use Rattle.lone_desk.proofs.QueryLemmas.{history_rows}
 
@@ -31,11 +30,11 @@ few seen batch left all whole small = omega (
 )
 
 module _ (old new : Seen) (batch : Batch) (left all : List Batch) (follows : FollowsAlone old new)
-    (whole : batches_in old.history ++ batch ∷ left ≡ all) (small : length all ≤ 1000) (none : old.settled ≡ 0) where
+    (whole : batches_in old.history ++ batch ∷ left ≡ all) (small : length all ≤ 1000) where
   pub never_full : (held : ℕ) → Refuses (length new.history) new.settled (Full held) → ⊥
   never_full held refuses =
       let same = same-alone old new follows in
-      omega (arith, refuses.0, ap length same.0, same.1, none, few old batch left all whole small)
+      omega (arith, refuses.0, ap length same.0, few old batch left all whole small)
 
   pub never_last : Refuses (length new.history) new.settled Spent → ⊥
   never_last refuses =

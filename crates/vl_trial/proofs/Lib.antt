@@ -7,4 +7,5 @@ pub mod Lexed
 pub mod Asking
 pub mod Spelled
 mod Held
+mod Keeping
 mod Asked

@@ -4,16 +4,19 @@ ghost use Rattle.log_model.specs.History.{batches_in, rows_of};
 ghost use Rattle.vl_trial.specs.QueryTexts.{count_text, errors_text, slow_text};
 ghost use Rattle.vl_trial.specs.Trial.{trial_batches, trial_rows};
 ghost use Rattle.lone_desk.specs.Answer.{HasRecords};
+ghost use Rattle.lone_desk.specs.Kept.{MayKeepAlone};
 ghost use Rattle.vl_trial.specs.Answer.{AreLines, IsTrialAnswer};
 
 use crate::batches::TrialBatches;
+use crate::kept::{open_desk, round_after};
 use crate::laws::{trial_law, trial_queries_law};
 use log_desk::InsertFault;
-use lone_desk::{AnswerFault, LoneDesk};
+use lone_desk::{AnswerFault, Keeper, LoneDesk};
 use std::alloc::{AllocError, Global};
 use std::random::RandomSource;
 use std::sync::Wait;
 use vl_row::Text;
+use vl_vault::MemoryVault;
 
 /// Counts all rows.
 const COUNTED: &str = "* | stats count() as n";
@@ -39,8 +42,8 @@ pub fn trial_lines<R: Wait + RandomSource>(
 {
     trial_queries_law();
     trial_law();
-    let mut desk = LoneDesk::fresh(rt, alloc)?;
-    insert_rows(&mut desk, alloc, seed, rows)?;
+    let (mut desk, mut keeper) = open_desk(rt, alloc)?;
+    insert_rows(&mut desk, &mut keeper, alloc, seed, rows)?;
     let counted = lines_of(&mut desk, COUNTED, now)?;
     let errors = lines_of(&mut desk, ERRORS, now)?;
     let slow = lines_of(&mut desk, SLOW, now)?;
@@ -54,23 +57,24 @@ fn joined(alloc: Global, counted: &str, errors: &str, slow: &str) -> Result<Stri
     format!(in alloc; "{counted}{errors}{slow}")
 }
 
-/// Inserts the batches of the rows.
+/// Inserts the batches of the rows. The keeper has a round after each 16 of them.
 fn insert_rows<R: Wait>(
     desk: &mut LoneDesk<'_, R>,
+    keeper: &mut Keeper<MemoryVault>,
     alloc: Global,
     seed: u64,
     rows: u64,
 ) -> Result<(), AllocError>
     requires rows { rows ≤ 1_000_000 }
     requires nothing { desk.old.history ≡ [] }
-    requires unsettled { desk.old.settled ≡ 0 }
+    requires keeps { MayKeepAlone keeper.old desk.old }
     ensures entered { OnOk result (batches_in desk.new.history ≡ trial_batches seed rows) }
     ensures rows { OnOk result (rows_of desk.new.history ≡ trial_rows seed rows) }
 {
     let mut batches = TrialBatches::new(seed, rows);
     while let Some(batch) = batches.next_batch(alloc)? {
         match desk.insert(batch) {
-            Ok(_) => {}
+            Ok(number) => round_after(desk, keeper, number)?,
             Err(InsertFault::Full { .. }) => unreachable!(),
             Err(InsertFault::Spent) => unreachable!(),
             Err(InsertFault::Memory) => return Err(AllocError),

@@ -1,4 +1,4 @@
-use Rattle.std.proofs.Common.{◌≡◌, ◌∙◌, FitsSigned, ap, refl, subst, unsigned_abs, w64}
+use Rattle.std.proofs.Common.{◌∙◌, FitsSigned, ap, refl, subst, unsigned_abs, w64}
 use Rattle.std.proofs.lemmas.Int.{to_z-of_z}
 use Rattle.log_model.specs.History.{rows_of}
 use Rattle.vl_trial.specs.Questions.{all_counted, errors_by_app, slow_counted}
