@@ -1,2 +1,3 @@
 mod Workers
 mod DoorKinds
+mod Vaults

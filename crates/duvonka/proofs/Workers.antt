@@ -1,8 +1,8 @@
 -- A server that words ask for has no more workers than it may.
-use Rattle.std.proofs.Common.{◌≡◌, ℕ, ◌≤◌, List, Option, None, Some, arith}
+use Rattle.std.proofs.Common.{ℕ, ◌≤◌, List, Option, None, Some, arith}
 use Rattle.command_line.specs.Asked.{AreWorkers, IsCommand, most_workers}
 use Rattle.command_line.specs.declared.command.Command.{Command}
-use Rattle.command_line.specs.declared.command.Command.TheVariants.{Pipe, Trial, Serve}
+use Rattle.command_line.specs.declared.command.Command.TheVariants.{Pipe, Load, Query, Trial, Serve}
 use Rattle.duvonka.specs.Workers.{AreFewWorkers}
 
 four : (syslog : Option (List ℕ)) → 4 ≤ most_workers syslog
@@ -16,5 +16,7 @@ few syslog (Some text) workers are = are.few
 
 pub few_workers : (words : List (List ℕ)) (command : Command) → IsCommand words command → AreFewWorkers command
 few_workers words (Pipe fields query) is = tt
+few_workers words (Load dir fields) is = tt
+few_workers words (Query dir query) is = tt
 few_workers words (Trial seed rows) is = tt
-few_workers words (Serve http syslog workers) is = few syslog _ workers is.said.2
+few_workers words (Serve dir http syslog workers) is = few syslog _ workers is.said.3

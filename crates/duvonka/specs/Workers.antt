@@ -4,13 +4,15 @@ use Rattle.vl_io.specs.declared.outside.VisitKind.{VisitKind}
 use Rattle.vl_io.specs.declared.outside.VisitKind.TheVariants.{Http, Syslog}
 use Rattle.command_line.specs.Asked.{most_workers}
 use Rattle.command_line.specs.declared.command.Command.{Command}
-use Rattle.command_line.specs.declared.command.Command.TheVariants.{Pipe, Trial, Serve}
+use Rattle.command_line.specs.declared.command.Command.TheVariants.{Pipe, Load, Query, Trial, Serve}
 
 -- It has no more than it may have at its addresses.
 abbrev pub AreFewWorkers : Command → Type 0
 AreFewWorkers (Pipe fields query) = Unit {0}
+AreFewWorkers (Load dir fields) = Unit {0}
+AreFewWorkers (Query dir query) = Unit {0}
 AreFewWorkers (Trial seed rows) = Unit {0}
-AreFewWorkers (Serve http syslog workers) = workers ≤ most_workers syslog
+AreFewWorkers (Serve dir http syslog workers) = workers ≤ most_workers syslog
 
 -- this many doors for HTTP
 abbrev pub all_http : ℕ → List VisitKind
@@ -26,6 +28,8 @@ in_turn (suc count) = in_turn count ++ Syslog ∷ Http ∷ []
 -- has an address for that. Another command has none.
 abbrev pub kinds_for : Command → List VisitKind
 kinds_for (Pipe fields query) = []
+kinds_for (Load dir fields) = []
+kinds_for (Query dir query) = []
 kinds_for (Trial seed rows) = []
-kinds_for (Serve http None workers) = all_http workers
-kinds_for (Serve http (Some address) workers) = in_turn workers
+kinds_for (Serve dir http None workers) = all_http workers
+kinds_for (Serve dir http (Some address) workers) = in_turn workers

@@ -1,10 +1,8 @@
-//! That doors are served, and side by side: by the library, and by the program.
+//! That doors are served, and side by side, by the program.
 ghost use Rattle.std.specs.Prelude.{◌≤◌, IfOk, length};
-ghost use Rattle.turn_lock.specs.Passes.{IsPassOf};
 
-use crate::program_tests::text_of;
+use crate::program_tests::{new_vault, text_of};
 use crate::visitors_tests::{CountingSink, Replies, WaitingSource};
-use log_desk::{Desk, Pass};
 use std::alloc::{AllocError, AllocGlobal, Global};
 use std::random::RandomSource;
 use std::rt::Clock as SystemTimer;
@@ -12,7 +10,7 @@ use std::sync::atomic::{AtomicU64, Ordering};
 use std::sync::{Arc, Wait};
 use std::thread::Threads;
 use vl_io::{MemClock, MemDoors, MemSink, MemSource, SystemClock, Visit, VisitKind};
-use vl_top::{run, serve};
+use vl_top::run;
 
 /// Doors whose visitors can wait for one another.
 type TestDoors<R> = MemDoors<WaitingSource<R>, CountingSink, MemClock>;
@@ -76,28 +74,8 @@ fn crossing_doors<R: SystemTimer + Copy + Drop>(
     Ok(doors)
 }
 
-/// Returns the result of serving: how many doors failed, whether memory ran out, how many replies are written, and the
-/// front that the pass has seen then.
-fn serve_all<R: Threads + Wait + RandomSource + Sync + SystemTimer + Copy + Drop + Send>(
-    rt: &R,
-    alloc: Global,
-    passes: u32,
-    replies: &Replies,
-    doors: &mut Vec<TestDoors<R>>,
-) -> Result<String, AllocError>
-    requires passes { (1 ≤ passes) × (passes ≤ 65536) }
-    requires doors { length doors.old.items ≤ 64 }
-{
-    let (desk, mut pass) = Desk::fresh(rt, alloc, passes)?;
-    let mut clock = MemClock::of(alloc, &[5])?;
-    let end = serve(rt, alloc, &desk, &mut pass, doors, &mut clock);
-    let written = replies.load(Ordering::SeqCst);
-    let front = pass.front();
-    format!(in alloc; "{} {} {written} {front}", end.door_faults, end.memory)
-}
-
 /// The words of a server. Nothing listens at the address, since the doors are in memory.
-const SERVER: &[&str] = &["serve", "--http", "x"];
+const SERVER: &[&str] = &["serve", "--dir", "d", "--http", "x"];
 
 /// Runs a server over the doors. Returns its status, how many bytes it writes to its output, and its error text.
 fn server_end<
@@ -109,8 +87,11 @@ fn server_end<
     let mut src = MemSource::of(alloc, b"x\n", &[], &[])?;
     let mut out = MemSink::of(alloc, &[])?;
     let mut err = MemSink::of(alloc, &[])?;
+    let vault = new_vault(alloc)?;
     let mut clock = MemClock::of(alloc, &[5])?;
-    let ended = run(rt, SERVER, &mut src, &mut out, &mut err, doors, &mut clock);
+    let (ended, _) = run(
+        rt, SERVER, &mut src, &mut out, &mut err, vault, doors, &mut clock,
+    );
     let said = text_of(err.bytes());
     format!(in alloc; "{ended} {} {said:?}", out.bytes().len())
 }
@@ -119,52 +100,8 @@ fn server_end<
 pub fn write_all<
     R: AllocGlobal + Threads + Wait + RandomSource + Sync + SystemTimer + Copy + Drop + Send,
 >(rt: &R, text: &mut String) -> Result<(), AllocError> {
-    write_crossing(rt, text)?;
-    write_each(rt, text)?;
-    write_none(rt, text)?;
     write_served(rt, text)?;
     write_failing(rt, text)
-}
-
-/// Doors are served side by side.
-fn write_crossing<
-    R: AllocGlobal + Threads + Wait + RandomSource + Sync + SystemTimer + Copy + Drop + Send,
->(rt: &R, text: &mut String) -> Result<(), AllocError> {
-    let alloc = rt.alloc();
-    let replies: Replies = Arc::new(alloc, AtomicU64::new(0))?;
-    let mut doors = crossing_doors(*rt, alloc, &replies)?;
-    let end = serve_all(rt, alloc, 5, &replies, &mut doors)?;
-    write!(text, "crossing doors {end}\n")
-}
-
-/// Each door is served to its end. With three passes each door has its own, with two one of them, and with one none.
-/// The second door fails after its first visit.
-fn write_each<
-    R: AllocGlobal + Threads + Wait + RandomSource + Sync + SystemTimer + Copy + Drop + Send,
->(rt: &R, text: &mut String) -> Result<(), AllocError> {
-    let alloc = rt.alloc();
-    let http = (VisitKind::Http, 0);
-    let syslog = (VisitKind::Syslog, 0);
-    for passes in 1..4 {
-        let replies: Replies = Arc::new(alloc, AtomicU64::new(0))?;
-        let mut doors = Vec::new(alloc);
-        doors.push(door_for(*rt, alloc, &replies, &[http, syslog, http], &[])?)?;
-        doors.push(door_for(*rt, alloc, &replies, &[http, http], &[1])?)?;
-        let end = serve_all(rt, alloc, passes, &replies, &mut doors)?;
-        write!(text, "passes {passes} {end}\n")?;
-    }
-    Ok(())
-}
-
-/// Without doors serving ends.
-fn write_none<
-    R: AllocGlobal + Threads + Wait + RandomSource + Sync + SystemTimer + Copy + Drop + Send,
->(rt: &R, text: &mut String) -> Result<(), AllocError> {
-    let alloc = rt.alloc();
-    let replies: Replies = Arc::new(alloc, AtomicU64::new(0))?;
-    let mut doors: Vec<TestDoors<R>> = Vec::new(alloc);
-    let end = serve_all(rt, alloc, 1, &replies, &mut doors)?;
-    write!(text, "no doors {end}\n")
 }
 
 /// The program serves doors side by side.

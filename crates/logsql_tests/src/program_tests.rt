@@ -1,5 +1,7 @@
 //! The program over objects in memory.
+ghost use Rattle.std.specs.Prelude.{IfOk};
 ghost use Rattle.vl_io.specs.Moments.{IsMoment};
+ghost use Rattle.part_store.specs.Reopening.{AreListedDurable};
 
 use std::alloc::{AllocError, AllocGlobal, Global};
 use std::fmt::Write;
@@ -8,6 +10,7 @@ use std::sync::Wait;
 use std::thread::Threads;
 use vl_io::{MemClock, MemDoors, MemSink, MemSource};
 use vl_top::run;
+use vl_vault::MemoryVault;
 
 /// Doors that nothing opens.
 type NoDoors = MemDoors<MemSource, MemSink, MemClock>;
@@ -123,11 +126,20 @@ pub fn run_words<R: AllocGlobal + Threads + Wait + RandomSource + Sync>(
     let mut src = MemSource::of(alloc, input, &[7, 1, 30], failing.reads)?;
     let mut out = MemSink::of(alloc, failing.answers)?;
     let mut err = MemSink::of(alloc, failing.reports)?;
+    let vault = new_vault(alloc)?;
     let mut doors: Vec<NoDoors> = Vec::new(alloc);
-    let status = run(
-        rt, words, &mut src, &mut out, &mut err, &mut doors, &mut clock,
+    let (status, _) = run(
+        rt, words, &mut src, &mut out, &mut err, vault, &mut doors, &mut clock,
     );
     Ok(Ended { status, out, err })
+}
+
+/// Returns a vault of no files.
+#[tactic(auto, using(crate::proofs::Vaults::new_durable))]
+pub fn new_vault(alloc: Global) -> Result<MemoryVault, AllocError>
+    ensures { IfOk result (λ vault. AreListedDurable vault.past) }
+{
+    MemoryVault::of(alloc, &[])
 }
 
 /// The bytes as text.

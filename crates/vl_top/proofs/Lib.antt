@@ -1,3 +1,3 @@
-mod Ends
 mod RunLemmas
 mod ServerLemmas
+mod Outliving

@@ -1,7 +1,5 @@
-pub mod Doors
 pub mod Task
+pub mod Vault
 pub mod Run
 pub mod Server
 pub mod Trial
-pub mod Workers
-pub mod Visit

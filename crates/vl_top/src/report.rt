@@ -1,11 +1,12 @@
-//! Error messages for usage faults and listener failures.
-ghost use Rattle.std.specs.Prelude.{◌≡◌, ◌<◌, [], false, true};
+//! Error messages for usage faults, and for how serving ended.
+ghost use Rattle.std.specs.Prelude.{◌≡◌, []};
 ghost use Rattle.vl_io.specs.Change.{IsTold, change_of};
 ghost use Rattle.vl_top.specs.Run.{usage_text};
-ghost use Rattle.vl_top.specs.Server.{TellsEnd, door_fault_text};
+ghost use Rattle.vl_top.specs.Server.{TellsEnd, end_status};
 
-use crate::serving::ServeEnd;
+use log_desk::KeepFault;
 use vl_io::Sink;
+use vl_serve::ServeEnd;
 use vl_status::{Status, report_no_memory, say};
 
 /// Reports words that are not a command, by the usage line.
@@ -17,27 +18,35 @@ pub fn report_usage<E: Sink>(err: &mut E) -> Status
     Status::Usage
 }
 
-/// How serving ended: out of memory before a door that failed.
+/// Reports how serving ended: out of memory, else a vault that failed, else a store that is spent, else a door that
+/// failed.
 pub(crate) fn report_end<E: Sink>(end: &ServeEnd, err: &mut E) -> Status
-    ensures memory { end.now.memory ≡ true → result ≡ Status.NoMemory }
-    ensures fault { end.now.memory ≡ false → 0 < end.now.door_faults → result ≡ Status.DoorFault }
-    ensures done { end.now.memory ≡ false → end.now.door_faults ≡ 0 → result ≡ Status.Done }
+    ensures status { result ≡ end_status end.now }
     ensures said { TellsEnd (change_of E.written E.faults err.old err.new) result }
 {
-    if end.memory {
-        return report_no_memory(err);
+    let status = end_status(end);
+    match status {
+        Status::VaultFault => say(err, "vault fault\n"),
+        Status::Limit => say(err, "spent\n"),
+        Status::DoorFault => say(err, "door fault\n"),
+        Status::NoMemory => return report_no_memory(err),
+        _ => {}
     }
-    if end.door_faults > 0 {
-        return report_door_fault(err);
-    }
-    Status::Done
+    status
 }
 
-/// Reports that the listeners failed.
-fn report_door_fault<E: Sink>(err: &mut E) -> Status
-    ensures status { result ≡ Status.DoorFault }
-    ensures said { IsTold (change_of E.written E.faults err.old err.new) [] door_fault_text }
+/// Returns the first status that applies.
+fn end_status(end: &ServeEnd) -> Status
+    ensures { result ≡ end_status end.now }
 {
-    say(err, "door fault\n");
-    Status::DoorFault
+    if end.memory {
+        return Status::NoMemory;
+    }
+    match end.kept {
+        Some(KeepFault::VaultFault | KeepFault::Halted { .. }) => Status::VaultFault,
+        Some(KeepFault::Spent) => Status::Limit,
+        Some(KeepFault::Memory) => Status::NoMemory,
+        None if end.door_faults > 0 => Status::DoorFault,
+        None => Status::Done,
+    }
 }
