@@ -3,8 +3,13 @@ from chance import lines_of, mutated, table
 from values import number
 
 USAGE = "usage: pipe, load, query, trial or serve"
-OPTIONS = {"pipe": ("--stream-fields",), "trial": (), "serve": ("--http", "--syslog", "--workers")}
-PLACES = {"pipe": 1, "trial": 2, "serve": 0}
+# by command: the options that are needed, those that may be left out, and how many other words there are
+NEEDED = {"pipe": (), "load": ("--dir",), "query": ("--dir",), "trial": (), "serve": ("--dir", "--http")}
+FREE = {
+    "pipe": ("--stream-fields",), "load": ("--stream-fields",), "query": (), "trial": (),
+    "serve": ("--syslog", "--workers"),
+}  # fmt: skip
+PLACES = {"pipe": 1, "load": 0, "query": 1, "trial": 2, "serve": 0}
 
 
 class Usage(Exception):
@@ -24,19 +29,22 @@ def answer(line):
 
 def read(words):
     """Returns what the words of a command ask for."""
-    if not words or words[0] not in OPTIONS:
+    if not words or words[0] not in PLACES:
         raise Usage
-    options, places = taken_apart(words[1:], OPTIONS[words[0]])
-    if len(places) != PLACES[words[0]]:
+    command = words[0]
+    options, places = taken_apart(words[1:], NEEDED[command] + FREE[command])
+    if len(places) != PLACES[command] or not all(name in options for name in NEEDED[command]):
         raise Usage
-    if words[0] == "pipe":
+    if command == "pipe":
         return f"pipe <{places[0]}>" + option_text(options, "--stream-fields", "stream fields")
-    if words[0] == "trial":
+    if command == "load":
+        return f"load <{options['--dir']}>" + option_text(options, "--stream-fields", "stream fields")
+    if command == "query":
+        return f"query <{options['--dir']}> <{places[0]}>"
+    if command == "trial":
         return f"trial {numeral(places[0], 0, 2**63 - 1)} {numeral(places[1], 0, 1000000)}"
-    if "--http" not in options:
-        raise Usage
     workers = numeral(options.get("--workers", "4"), 1, 32 if "--syslog" in options else 64)
-    return f"serve {workers} <{options['--http']}>" + option_text(options, "--syslog", "syslog")
+    return f"serve {workers} <{options['--dir']}> <{options['--http']}>" + option_text(options, "--syslog", "syslog")
 
 
 def taken_apart(words, known):
@@ -70,7 +78,10 @@ def option_text(options, name, shown):
     return f", {shown} <{options[name]}>" if name in options else ""
 
 
-NAMES = ("--stream-fields", "--http", "--syslog", "--workers", "--seed", "--help", "-h", "-x", "--", "--http=", "--Http")
+NAMES = (
+    "--stream-fields", "--dir", "--http", "--syslog", "--workers", "--seed", "--help", "-h", "-x", "--", "--http=",
+    "--Http", "--dir=", "--Dir",
+)  # fmt: skip
 VALUES = (
     "''", "-", "0", "1", "4", "32", "33", "64", "65", "007", "+1", "-1", "1.0", "a,b", "127.0.0.1:0", "٣", "é", "=", "a=b",
     "9223372036854775807", "9223372036854775808", "1000000", "1000001", "9" * 40,
@@ -92,8 +103,15 @@ def cases(random):
         count = random.choice(VALUES[1:])
         workers = random.choice(("", "", f" --workers {count}", f" --workers={count}"))
         syslog = random.choice(("", " --syslog b", " --syslog=", " --syslog"))
-        lines.append("serve" + random.choice((" --http a", " --http=a")) + syslog + workers)
-        lines.append("serve" + workers + syslog + " --http 127.0.0.1:9428")
-        lines.append(mutated(random, lines[-1], "-=ht1").strip().replace("  ", " "))
+        directory = random.choice((" --dir d", " --dir=d", " --dir=", " --dir d", ""))
+        lines.append("serve" + directory + random.choice((" --http a", " --http=a")) + syslog + workers)
+        lines.append("serve" + workers + syslog + " --http 127.0.0.1:9428" + directory)
+        lines.append(mutated(random, lines[-1], "-=hdt1").strip().replace("  ", " "))
+        fields = random.choice(("", " --stream-fields a,b", " --stream-fields=", " --stream-fields"))
+        lines.append("load" + random.choice((directory + fields, fields + directory)))
+        lines.append(mutated(random, lines[-1], "-=dir").strip().replace("  ", " "))
+        word = random.choice(("", " error", " -- -x", " ''", " -"))
+        lines.append("query" + random.choice((directory + word, word + directory)))
+        lines.append(mutated(random, lines[-1], "-=dir").strip().replace("  ", " "))
         lines.append(f"trial {random.choice(VALUES)} {random.choice(VALUES)}")
     return table(lines)
