@@ -88,6 +88,10 @@ def seed_faults(program):
     count, answer = seeds(program, query, data)
     if count != 1 or not answer:
         yield f"pipe: its one query takes {count} seeds"
+    with tempfile.TemporaryDirectory() as directory:
+        count, _ = seeds(program, ["query", "--dir", directory, query[1]], b"")
+    if count != 1:
+        yield f"query: its one query takes {count} seeds"
     count, _ = seeds(program, ["trial", "7", "100"], b"")
     if count != 3:
         yield f"trial: its three queries take {count} seeds"
@@ -113,11 +117,11 @@ def main():
     if shutil.which("strace") and subprocess.run(["strace", "-o", "/dev/null", "true"]).returncode == 0:
         faults = list(seed_faults(program))
         failed += len(faults)
-        passed += 4 - len(faults)
+        passed += 5 - len(faults)
         for fault in faults:
             print("FAILED", fault)
     else:
-        skipped = 4
+        skipped = 5
         print("skipped: strace is missing or cannot trace, so no seed was seen")
     print(f"{passed} passed, {failed} failed, {skipped} skipped")
     return failed > 0

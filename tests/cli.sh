@@ -18,7 +18,10 @@ for tool in mktemp cmp head yes; do
 done
 [ -x "$program" ] || fail_all "the program is not built: run ./duvonka --build, or set DUVONKA to the path of one"
 work=$(mktemp -d) || exit 1
-trap 'rm -rf "$work"' EXIT
+# shellcheck source=tests/serving.sh
+. "$top/tests/serving.sh"
+trap 'stop_servers; rm -rf "$work"' EXIT
+trap 'exit 1' INT TERM
 passed=0 failed=0
 
 # judge NAME STATUS WANTED_STATUS: compares the status, and the files out and err with wanted_out and wanted_err
@@ -224,6 +227,194 @@ exec 3>&-
 wait $slow; status=$?
 wants "" "$(printf 'line %s: NotObject\n' 1 1001 2001 3001 4001 6000 6001)"$'\n'
 judge "refused lines of a source that is slow" $status 0
+
+# ---- a directory
+
+logs=$work/logs
+
+# runs NAME STATUS OUT ERR WORDS..: runs the program without input, and judges it
+runs() {
+  local name=$1 status=$2 got
+  wants "$3" "$4"
+  shift 4
+  timeout 60 "$program" "$@" < /dev/null > "$work/out" 2> "$work/err"
+  got=$?
+  # the port that a server was given
+  sed -i 's/127\.0\.0\.1:[0-9]*/ADDRESS/g' "$work/err"
+  judge "$name" "$got" "$status"
+}
+
+# loads NAME STATUS OUT ERR WORDS..: loads the standard input, and judges it
+loads() {
+  local name=$1 status=$2 got
+  wants "$3" "$4"
+  shift 4
+  timeout 60 "$program" load "$@" > "$work/out" 2> "$work/err"
+  got=$?
+  judge "$name" "$got" "$status"
+}
+
+# query NAME STATUS OUT ERR DIRECTORY QUERY: asks over a directory, and judges the answer
+query() { runs "$1" "$2" "$3" "$4" query --dir "$5" -- "$6"; }
+
+# serve NAME STATUS ERR DIRECTORY: starts a server over a directory that it cannot serve, and judges it
+serve() {
+  runs "$1" "$2" '' "http on ADDRESS (workers: 1)"$'\n'"$3" serve --dir "$4" --http 127.0.0.1:0 --workers 1
+}
+
+# insert LINES: inserts lines by the server that was started last
+insert() {
+  exchange "$http" "POST /insert/jsonline HTTP/1.0\r\nContent-Length: ${#1}\r\n\r\n$1" > "$work/reply"
+}
+
+# put FILE PLACE BYTE: changes a byte of a file
+put() { printf %b "$3" | dd of="$1" bs=1 seek="$2" conv=notrunc 2> /dev/null; }
+
+# copied NAME: copies the directory, and prints the path of the copy
+copied() {
+  cp -r "$logs" "$work/$1"
+  echo "$work/$1"
+}
+
+is_missing=': No such file or directory (os error 2)' in_use=': another program uses this directory'
+fault=$'\nvault fault\n' all='* | stats count() as n'
+two=$'{"_msg":"one","_time":"2026-11-27T10:00:00Z"}\n{"_msg":"two","_time":"2026-11-28T10:00:00Z"}\n'
+
+runs "query without a directory" 2 '' "$usage" query x
+runs "query without a query" 2 '' "$usage" query --dir "$logs"
+runs "load without a directory" 2 '' "$usage" load
+runs "load with a query" 2 '' "$usage" load --dir "$logs" x
+runs "pipe with a directory" 2 '' "$usage" pipe --dir "$logs" x
+runs "trial with a directory" 2 '' "$usage" trial --dir "$logs" 7 10
+
+query "a missing directory" 5 '' "$logs$is_missing$fault" "$logs" x
+query "a refused query and a missing directory" 1 '' $'query: Syntax at 3\n' "$logs" 'a b)'
+serve "a directory in a missing one" 5 "$logs/a$is_missing$fault" "$logs/a"
+loads "load into a directory in a missing one" 5 '' "$logs/a$is_missing$fault" --dir "$logs/a" < "$work/three"
+[ ! -e "$logs" ]; wants '' ''; : > "$work/out"; : > "$work/err"
+judge "no directory was made" $? 0
+
+mkdir "$work/none"
+query "an empty directory" 0 '' '' "$work/none" x
+query "an empty directory: no row" 0 $'{"n":"0"}\n' '' "$work/none" "$all"
+judge "an empty directory stays empty" "$(ls -A "$work/none")" ''
+
+# A server makes the directory and inserts two batches. The first has rows of two days, in the parts 2 and 3. The second
+# has a row of the later day, and part 4 takes the place of part 3. The list is that of generation 2, in slot 0.
+if start_server 2 '' "$logs"; then
+  insert "$two"
+  settles 20 && insert '{"_msg":"three","_time":"2026-11-28T11:00:00Z"}' && settles 20
+  query "a query beside a server" 5 '' "$logs$in_use$fault" "$logs" x
+  loads "load beside a server" 5 '' "$logs$in_use$fault" --dir "$logs" < "$work/three"
+  serve "a second server" 5 "$logs$in_use$fault" "$logs"
+  stop_server
+fi
+rows=$'{"_msg":"one"}\n{"_msg":"two"}\n{"_msg":"three"}\n'
+query "a query after a server was stopped" 0 "$rows" '' "$logs" '* | fields _msg'
+query "a query that begins with -" 0 $'{"_msg":"two"}\n{"_msg":"three"}\n' '' "$logs" '-one | fields _msg'
+query "a refused query" 1 '' $'query: Syntax at 3\n' "$logs" 'a b)'
+query "a file in the place of a directory" 5 '' "$logs/2/0: Not a directory (os error 20)$fault" "$logs/2" x
+serve "a server over a file" 5 "$logs/2/..: Not a directory (os error 20)$fault" "$logs/2"
+
+if [ -c /dev/full ]; then
+  "$program" query --dir "$logs" one > /dev/full 2> "$work/err"
+  status=$?; : > "$work/out"; wants "" ""
+  judge "a full device as the output of a query" $status 4
+fi
+
+# a directory of another user
+chmod 711 "$work"
+cp "$program" "$work/program"
+other=$(copied other)
+if [ "$(id -u)" != 0 ]; then
+  chmod 000 "$other"
+  query "a directory that may not be read" 5 '' "$other: Permission denied (os error 13)$fault" "$other" x
+  chmod 700 "$other"
+elif command -v setpriv > /dev/null; then
+  chmod 700 "$other"
+  wants '' "$other: Permission denied (os error 13)$fault"
+  setpriv --reuid 65534 --regid 65534 --clear-groups "$work/program" query --dir "$other" x \
+    > "$work/out" 2> "$work/err"
+  judge "a directory that may not be read" $? 5
+else
+  echo "SKIPPED a directory that may not be read: there is no setpriv"
+fi
+
+# damage, each in a copy
+at=$(copied magic); put "$at/2" 5 X
+query "a part that is none" 6 '' $'damaged file 2 at 0\n' "$at" x
+serve "a server over it" 6 $'damaged file 2 at 0\n' "$at"
+at=$(copied word); put "$at/2" "$(($(wc -c < "$at/2") - 1))" X
+query "a part with another word than its filter has" 6 '' $'damaged file 2 at 53\n' "$at" x
+at=$(copied version); put "$at/2" 6 '\11'
+query "a part of another version" 6 '' $'version 9 in file 2\n' "$at" x
+at=$(copied long); echo >> "$at/4"
+query "a part that is too long" 6 '' "damaged file 4 at $(wc -c < "$logs/4")"$'\n' "$at" x
+at=$(copied missing); rm "$at/4"
+query "a part that is missing" 6 '' $'damaged file 4 at 0\n' "$at" x
+at=$(copied list); put "$at/0" 3 X
+query "a list that is none" 6 '' $'damaged file 0 at 1\n' "$at" x
+at=$(copied list_version); put "$at/0" 7 '\11'
+query "a list of another version" 6 '' $'version 9 in file 0\n' "$at" x
+at=$(copied front); put "$at/0" 17 '\3'
+query "a list with another front" 6 '' $'damaged file 0 at 17\n' "$at" x
+
+# damage that the format does not show, as docs/BYTES.md says
+at=$(copied time); put "$at/2" 22 '\1'
+query "a time that was changed" 0 $'{"_time":"2026-11-27T10:00:00.000000001Z"}\n' '' "$at" 'one | fields _time'
+at=$(copied gate); put "$at/0" 0 '\0'
+query "a closed slot, and the older list lacks a part" 6 '' $'damaged file 3 at 0\n' "$at" x
+at=$(copied gates); put "$at/0" 0 '\0'; put "$at/1" 0 '\0'
+query "two closed slots" 0 $'{"n":"0"}\n' '' "$at" "$all"
+
+at=$(copied slots); rm "$at/0" "$at/1"
+query "no slot" 0 $'{"n":"0"}\n' '' "$at" "$all"
+at=$work/days
+if start_server 2 '' "$at"; then
+  insert '{"_msg":"one","_time":"2026-11-27T10:00:00Z"}'
+  settles 20 && insert '{"_msg":"two","_time":"2026-11-28T10:00:00Z"}' && settles 20
+  stop_server
+fi
+query "rows of two days" 0 $'{"_msg":"one"}\n{"_msg":"two"}\n' '' "$at" '* | fields _msg'
+put "$at/0" 0 '\0'
+query "a closed slot, and the older list has its part" 0 $'{"_msg":"one"}\n' '' "$at" '* | fields _msg'
+
+# files that the list does not name
+at=$(copied unlisted); echo x > "$at/3"; echo x > "$at/71"
+query "files that no list names" 0 $'{"n":"3"}\n' '' "$at" "$all"
+"$top/tools/unlisted" "$at" > "$work/out" 2> "$work/err"
+status=$?; wants $'3\n71\n' ''
+judge "tools/unlisted" $status 0
+
+# a server that is killed
+if start_server 2 '' "$logs"; then
+  insert '{"_msg":"four"}'
+  settles 20
+  insert '{"_msg":"five"}'
+  stop_server KILL
+fi
+query "a query after a server was killed" 0 $'{"_msg":"four"}\n' '' "$logs" 'four | fields _msg'
+"$program" query --dir "$logs" "$all" > "$work/out" 2> "$work/err"
+status=$?; sed -i 's/"5"/"4"/' "$work/out"; wants $'{"n":"4"}\n' ''
+judge "all settled batches are there, and perhaps the last" $status 0
+
+# load
+at=$work/loaded
+loads "load" 0 $'flushed 1\n' '' --dir "$at" < "$work/three"
+loads "load again, with a refused line" 0 $'flushed 2\n' $'line 24: NotJson\n' --dir "$at" --stream-fields host \
+  < "$top/examples/access.jsonl"
+loads "load of nothing" 0 '' '' --dir "$at" < /dev/null
+query "what was loaded" 0 $'{"n":"42"}\n' '' "$at" "$all"
+query "the labels of what was loaded" 0 $'{"n":"10"}\n' '' "$at" '{host="web-1"} | stats count() as n'
+seq -f '{"n":"%g"}' 17000 > "$work/many"
+loads "load of 17 batches" 0 $'flushed 16\nflushed 17\n' '' --dir "$work/many_loaded" < "$work/many"
+query "17 batches" 0 $'{"n":"17000"}\n' '' "$work/many_loaded" "$all"
+loads "load of a folder" 3 '' $'read fault\n' --dir "$at" < "$work"
+(trap '' XFSZ; ulimit -f 2; timeout 60 "$program" load --dir "$at" < "$work/many" > "$work/out" 2> "$work/err")
+status=$?
+sed -i "s|^$at/[0-9]*:|FILE:|" "$work/err"; wants '' "FILE: File too large (os error 27)$fault"
+judge "load on a full disk" $status 5
+query "after load on a full disk" 0 $'{"n":"42"}\n' '' "$at" "$all"
 
 # each fifth of the cases of tests/logsql/
 if DUVONKA=$program "$top/tests/logsql.sh"; then passed=$((passed + 1)); else failed=$((failed + 1)); fi

@@ -103,6 +103,15 @@ replies() { judge "$1" "$(exchange "$http" "$2"; echo .)" "$3"$'\n.'; }
 # refuses NAME BYTES STATUS FAULT: judges the reply to a malformed request, after which the connection ends
 refuses() { replies "$1" "$2" "$(page "$3" "$text" "$4" '' close)"; }
 
+# held NAME BATCHES: judges the reply to /status: this many batches, of which all or fewer are settled
+held() {
+  local name=$1 batches=$2 status settled
+  status=$(exchange "$http" 'GET /status HTTP/1.1\r\nConnection: close\r\n\r\n'; echo .)
+  settled=$(sed -n 's/.*"settled":"\([0-9]*\)".*/\1/p' <<< "$status")
+  [ "${settled:-1}" -le "$batches" ] 2> /dev/null || settled="at most $batches"
+  judge "$name" "$status" "$(page '200 OK' $json "{\"batches\":\"$batches\",\"settled\":\"$settled\"}" '' close)"$'\n.'
+}
+
 # comes_to NAME QUERY WANTED: judges the records of a query, and asks for up to 10 s until they are the wanted ones,
 # since syslog has no replies to wait for
 comes_to() {
@@ -148,7 +157,7 @@ by_bytes() {
   for _ in {1..8}; do
     (exec 3<> "/dev/tcp/127.0.0.1/$http" && printf %b "${insert}Content-Length: 9\r\n\r\n{\"a\"" >&3)
   done
-  replies "after unfinished requests" "$status" "$(page '200 OK' $json '{"batches":"1","settled":"0"}' '' close)"
+  held "after unfinished requests" 1
 }
 
 # curled ARGUMENTS..: runs curl
@@ -244,7 +253,8 @@ refusals_by_curl() {
   printf '{"a":"b"}\n%.0s' {1..7000} > "$work/heavy"
   is_refused "rows that weigh too much" "$large" 'Large 70021000' \
     "$insert?extra_fields=x=$many" --data-binary "@$work/heavy"
-  curls "the status after all inserts" "$(page '200 OK' $json '{"batches":"9","settled":"0"}')" "$at/status"
+  judge "all batches are settled" "$(settles 20; echo $?)" 0
+  curls "the status after all inserts" "$(page '200 OK' $json '{"batches":"9","settled":"9"}')" "$at/status"
 }
 
 # python TASK: runs a task of clients.py
@@ -324,6 +334,43 @@ def unread():
     # all four workers at once
     beside = [connected() for _ in range(4)]
     print([said(connection, "GET", "/health")[0] for connection in beside])
+
+
+def onward():
+    """Inserts more batches than may wait, and says how many of them were accepted at the first try."""
+    inserted, refused = 0, 0
+    connection = connected()
+    while inserted < 4400:
+        status, text, says = said(connection, "POST", "/insert/jsonline", b'{"_msg":"onward"}')
+        inserted += status == 200
+        if status == 503:
+            refused += 1
+            time.sleep(0.1)
+        elif status != 200:
+            sys.exit(f"{status} {text}")
+        if says:
+            connection = connected()
+    print(inserted, "inserted")
+    print(f"{refused} refused", file=sys.stderr)
+
+
+def number():
+    """Inserts numbered rows until the server is gone, and keeps the last settled number that it said."""
+    number, settled = int(sys.argv[4]), 0
+    connection = connected()
+    try:
+        while True:
+            line = b'{"_msg":"numbered","n":"%d"}' % (number + 1)
+            status, text, says = said(connection, "POST", "/insert/jsonline", line)
+            number += status == 200
+            if number % 20 == 0:
+                status, text, says_too = said(connection, "GET", "/status")
+                settled = int(text.split('"settled":"')[1].split('"')[0])
+                says = says or says_too
+            if says:
+                connection = connected()
+    except (OSError, http.client.HTTPException):
+        print(number, settled)
 
 
 def full():
@@ -530,19 +577,96 @@ judge_rows_of_wrk() {
   echo "wrk: $ok accepted, $full refused, $rows rows"
   judge "wrk: every accepted line is a row, and at most 64 more are, whose replies wrk did not read" \
     "$((ok > 0 && rows >= ok && rows <= ok + 64))" 1
-  judge "wrk: 503 only when 4,096 batches are held" "$((full == 0 || rows == 4096))" 1
+  judge "wrk: 503 only when 4,096 batches may wait" "$((full == 0 || rows >= 4096))" 1
+  judge "wrk: all batches are settled" "$(settles 60; echo $?)" 0
 }
 
+# more batches than may wait at a time
+by_going_on() {
+  has "4,400 batches" python3 || return
+  start_server 2 || { judge "a server to go on" none "one that answers"; return; }
+  judge "4,400 batches, one after another" "$(timeout 120 python3 "$work/clients.py" onward "$http" '' 2> /dev/null)" \
+    "4400 inserted"
+  judge "4,400 batches: all are settled" "$(settles 60; echo $?) $(numbers)" "0 4400 4400"
+  judge "4,400 batches: all rows" "$(ask 'onward | stats count() as n')" '{"n":"4400"}'
+  stop_server
+}
+
+# The directory is moved away, so the keeper cannot write there and halts. What is inserted then stays in memory.
 by_filling() {
   has "4,096 batches" python3 || return
   start_server 2 syslog || { judge "a server to fill" none "one that answers"; return; }
-  judge "4,096 batches, and one more" "$(python full)" \
+  mv "$directory" "$work/moved"
+  judge "4,096 batches that wait, and one more" "$(python full)" \
     "4096 [(1000, 200, 'close'), (1000, 200, 'close'), (1000, 200, 'close'), (1000, 200, 'close'), (96, 200, None)]
 503 Full 4096
 200 $(accepted 0 '' '1 NotObject' 1)
 200 {\"n\":\"4096\"}
 syslog ended"
+  judge "after a device fault nothing is settled" "$(numbers)" "4096 0"
+  judge "the device fault is said once" "$(tail -n +2 "$work/server_err")" \
+    "$directory/2: No such file or directory (os error 2)"
+  rm -rf "$work/moved"
   stop_server
+}
+
+# by_device_fault: the directory is moved away after some batches were settled. Those that came later are copied out as
+# docs/OPERATIONS.md says, and inserted again over a copy of the directory
+by_device_fault() {
+  has "a device fault" curl || return
+  local word rest
+  start_server 2 || { judge "a server whose directory goes" none "one that answers"; return; }
+  curled "http://127.0.0.1:$http/insert/jsonline" --data-binary $'{"_msg":"one"}\n{"_msg":"two"}' > "$work/out"
+  judge "before a device fault all batches are settled" "$(settles 20; echo $?)" 0
+  mv "$directory" "$work/moved"
+  for word in three four five; do
+    curled "http://127.0.0.1:$http/insert/jsonline" --data-binary "{\"_msg\":\"$word\"}" > "$work/out"
+  done
+  for _ in {1..100}; do
+    [ "$(wc -l < "$work/server_err")" -gt 1 ] && break
+    sleep 0.1
+  done
+  judge "after a device fault inserts go on, and settled stands" "$(numbers)" "4 1"
+  # the server still has the directory, but not a copy of it
+  cp -a "$work/moved" "$work/copy"
+  rest=$("$program" query --dir "$work/copy" '* | stats count() as n' | sed 's/[^0-9]//g')
+  rest=$(ask "* | offset $rest | delete _stream, _stream_id")
+  stop_server
+  start_server 2 '' "$work/copy" || { judge "a server over the copy" none "one that answers"; return; }
+  curled "http://127.0.0.1:$http/insert/jsonline" --data-binary "$rest" > "$work/out"
+  judge "after a restart the rest is inserted" "$(ask '* | fields _msg')" \
+    "$(printf '{"_msg":"%s"}\n' one two three four five)"
+  stop_server
+  rm -rf "$work/moved" "$work/copy"
+}
+
+# by_killing: kills a server three times, and starts it again over its directory, where it finds the first of the
+# batches, with all that were settled
+by_killing() {
+  has "a server that is killed" python3 || return
+  local round began=0 found number settled
+  for round in 1 2 3; do
+    start_server 2 '' "$work/killed" || { judge "a server to kill" none "one that answers"; return; }
+    timeout 60 python3 "$work/clients.py" number "$http" '' "$began" > "$work/numbered" 2>&1 &
+    sender=$!
+    senders+=("$sender")
+    sleep "0.$((RANDOM % 9))"
+    sleep "$round"
+    stop_server KILL
+    wait "$sender"
+    read -r number settled < "$work/numbered"
+    start_server 2 '' "$work/killed" || { judge "a killed server, again" none "one that answers"; return; }
+    read -r found _ <<< "$(numbers)"
+    echo "killed: $settled of $number batches were seen to be settled, and $found are found"
+    # a batch may have been inserted whose reply never came
+    judge "a killed server: it finds all settled batches, and none that was not inserted" \
+      "$((settled <= found && began <= found && found <= number + 1))" 1
+    judge "a killed server: it finds the first batches" \
+      "$(ask 'numbered | stats count_uniq(n) as n, min(n) as least, max(n) as most')" \
+      "{\"least\":\"1\",\"most\":\"$found\",\"n\":\"$found\"}"
+    began=$found
+    stop_server
+  done
 }
 
 # ends NAME STATUS ERROR WORDS..: judges a run that ends by itself: its status, and that it writes only this error
@@ -557,16 +681,20 @@ ends() {
 by_words() {
   local usage='usage: pipe, load, query, trial or serve' address=127.0.0.1:$http
   local taken="cannot listen on $address: Address already in use (os error 98)"
-  ends "serve without an address" 2 "$usage" serve
-  ends "0 workers" 2 "$usage" serve --http "$address" --workers 0
-  ends "65 workers at one address" 2 "$usage" serve --http "$address" --workers 65
-  ends "33 workers at each of two addresses" 2 "$usage" serve --http "$address" --syslog "$address" --workers 33
-  ends "an address twice" 2 "$usage" serve --http "$address" --http "$address"
-  ends "a port in use" 7 "$taken"$'\n'"door fault" serve --http "$address"
+  local serve=(serve --dir "$work/words")
+  ends "serve without an address" 2 "$usage" "${serve[@]}"
+  ends "serve without a directory" 2 "$usage" serve --http "$address"
+  ends "a directory twice" 2 "$usage" "${serve[@]}" --dir "$work/words" --http "$address"
+  ends "0 workers" 2 "$usage" "${serve[@]}" --http "$address" --workers 0
+  ends "65 workers at one address" 2 "$usage" "${serve[@]}" --http "$address" --workers 65
+  ends "33 workers at each of two addresses" 2 "$usage" "${serve[@]}" --http "$address" --syslog "$address" --workers 33
+  ends "an address twice" 2 "$usage" "${serve[@]}" --http "$address" --http "$address"
+  judge "a command line that is not valid makes no directory" "$(ls -d "$work/words" 2> /dev/null)" ''
+  ends "a port in use" 7 "$taken"$'\n'"door fault" "${serve[@]}" --http "$address"
   ends "the same port in use for both addresses" 7 "$taken"$'\n'"$taken"$'\n'"door fault" \
-    serve --http "$address" --syslog "$address"
+    "${serve[@]}" --http "$address" --syslog "$address"
   ends "an address without a port" 7 "cannot listen on 127.0.0.1: invalid socket address"$'\n'"door fault" \
-    serve --http 127.0.0.1
+    "${serve[@]}" --http 127.0.0.1
 }
 
 write_python
@@ -585,7 +713,10 @@ if start_server 4 syslog; then
   judge "a server that SIGTERM stops" "$? $(cat "$work/server_out" "$work/server_err"; echo .)" \
     "143 http on 127.0.0.1:$http (workers: 4), syslog on 127.0.0.1:$syslog (workers: 4)"$'\n.'
   by_wrk
+  by_going_on
   by_filling
+  by_device_fault
+  by_killing
 else
   judge "a server" "none: $(head -c 300 "$work/server_err")" "one that answers"
 fi

@@ -1,8 +1,9 @@
 #!/usr/bin/env bash
 # Runs each example of the documents and compares what it prints with what the document shows. An example stands in a
 # block that begins with ```console: a line "$ COMMAND", which goes on in the next line where it ends with a bar, and
-# below it what the command prints. A document whose examples ask a server gets a new one. The numbers in the tables of
-# filters of docs/LOGSQL.md, and the faults in the tables of docs/ERRORS.md, are compared too.
+# below it what the command prints. A document whose examples ask a server gets a new one. The directory /tmp/logs of an
+# example is that of the document's server, or else a new one. The numbers in the tables of filters of docs/LOGSQL.md,
+# and the faults in the tables of docs/ERRORS.md, are compared too.
 # usage: tests/documents.sh     (the environment variable DUVONKA is the path of another build)
 # Its last line is 'N passed, M failed, K skipped'.
 set -u
@@ -52,19 +53,25 @@ try() {
   command=${command//curl /curl -q --noproxy \'*\' -s -m 20 }
   command=${command//127.0.0.1:9428/127.0.0.1:$http}
   command=${command//5514/$syslog}
-  # what came by syslog may take a moment to arrive
-  for _ in {1..50}; do
+  command=${command//\/tmp\/logs/$logs}
+  # what came by syslog may take a moment to arrive, and batches take some seconds to settle
+  for _ in {1..200}; do
     got=$(timeout 60 bash -c "$command" 2>&1 < /dev/null)
-    [ -n "$got" ] || [ -z "$wanted" ] && break
+    if [[ $command = */status* ]]; then
+      [ "$got" = "$wanted" ] && break
+    else
+      [ -n "$got" ] || [ -z "$wanted" ] && break
+    fi
     sleep 0.1
   done
+  got=${got//"$logs"//tmp/logs}
   judge "$document, $2" "$(without_arrival "$got")" "$(without_arrival "$wanted")"
 }
 
 # examples DOCUMENT: tries all of a document
 examples() {
   local document=$1 line command='' wanted='' inside='' more=''
-  http='' syslog=''
+  http='' syslog='' logs=$work/logs.${document//\//.}
   # a line of the file as it stands, and one more that ends the last example
   while IFS= read -r line; do
     if [ -n "$more" ]; then
@@ -85,6 +92,7 @@ examples() {
       [[ $line = *\| ]] && more=1
       if [ -z "$http" ] && [[ $command$more = *127.0.0.1* || -n $more ]]; then
         start_server 4 syslog || { judge "$document, a server" none "one that answers"; return; }
+        logs=$directory
       fi
     elif [ -n "$inside" ]; then
       wanted+=$line$'\n'

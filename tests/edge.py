@@ -3,7 +3,7 @@
 addresses. Each check has a server of its own at a port that the system chose, and all run side by side, in below two
 minutes. usage: tests/edge.py     (the environment variable DUVONKA is the path of another build)
 Its last line is 'N passed, M failed'."""
-import os, re, resource, signal, socket, struct, subprocess, sys, threading, time
+import os, re, resource, shutil, signal, socket, struct, subprocess, sys, tempfile, threading, time
 
 TOP = os.path.dirname(os.path.dirname(os.path.abspath(__file__)))
 PROGRAM = os.environ.get("DUVONKA", os.path.join(TOP, "crates/duvonka/out/duvonka"))
@@ -11,6 +11,7 @@ HEALTH = b"GET /health HTTP/1.1\r\nHost: h\r\n\r\n"
 LAST_HEALTH = b"GET /health HTTP/1.1\r\nHost: h\r\nConnection: close\r\n\r\n"
 LATE = 3.0  # how many seconds later than its deadline a connection may end on a busy machine
 SERVERS = []
+FOLDER = tempfile.mkdtemp()  # has the directory of each server
 
 
 class Wrong(Exception):
@@ -22,11 +23,16 @@ def want(what, seen):
         raise Wrong(what)
 
 
+def directory():
+    """Returns a new directory for a server."""
+    return tempfile.mkdtemp(dir=FOLDER)
+
+
 class Server:
-    """A server at ports that the system chose. Its first line names them."""
+    """A server at ports that the system chose, over a directory of its own. Its first line names the ports."""
 
     def __init__(self, workers, syslog=False, files=None):
-        words = [PROGRAM, "serve", "--http", "127.0.0.1:0", "--workers", str(workers)]
+        words = [PROGRAM, "serve", "--dir", directory(), "--http", "127.0.0.1:0", "--workers", str(workers)]
         words += ["--syslog", "127.0.0.1:0"] if syslog else []
         limit = (lambda: resource.setrlimit(resource.RLIMIT_NOFILE, (files, files))) if files else None
         self.process = subprocess.Popen(
@@ -95,10 +101,11 @@ def one_line_names_the_addresses():
     taken = f"127.0.0.1:{server.ports['http']}"
     why = f"cannot listen on {taken}: Address already in use (os error 98)\n"
     second = subprocess.run(
-        [PROGRAM, "serve", "--http", taken, "--syslog", taken], capture_output=True, text=True, timeout=30)
+        [PROGRAM, "serve", "--dir", directory(), "--http", taken, "--syslog", taken],
+        capture_output=True, text=True, timeout=30)
     want(f"a port in use: {second}", (second.returncode, second.stderr) == (7, why + why + "door fault\n"))
-    half = subprocess.Popen([PROGRAM, "serve", "--http", "127.0.0.1:0", "--syslog", taken, "--workers", "1"],
-                            stdin=subprocess.DEVNULL, stderr=subprocess.PIPE, text=True)
+    words = [PROGRAM, "serve", "--dir", directory(), "--http", "127.0.0.1:0", "--syslog", taken, "--workers", "1"]
+    half = subprocess.Popen(words, stdin=subprocess.DEVNULL, stderr=subprocess.PIPE, text=True)
     SERVERS.append(half)
     said = half.stderr.readline(), half.stderr.readline()
     form = r"http on 127\.0\.0\.1:\d+ \(workers: 1\)\n"
@@ -245,8 +252,8 @@ def a_silent_syslog_peer_stays():
 
 
 def accepting_goes_on_without_descriptors():
-    # Three streams, a listener, and room for four connections.
-    server = Server(8, files=8)
+    # Three streams, the directory, a listener, and room for four connections.
+    server = Server(8, files=9)
     idle = [server.connect() for _ in range(12)]
     start = time.monotonic()
     for stream in idle[1:]:
@@ -261,7 +268,7 @@ def accepting_goes_on_without_descriptors():
 
 
 def held_connections_wait_for_descriptors():
-    server = Server(8, files=8)
+    server = Server(8, files=9)
     idle = [server.connect() for _ in range(6)]  # the fifth finds no descriptor
     time.sleep(1)
     start = time.monotonic()
@@ -337,6 +344,8 @@ def main():
     finally:
         for process in SERVERS:
             process.kill()
+            process.wait()
+        shutil.rmtree(FOLDER)
     failed = 0
     for check in chosen:
         outcome = outcomes.get(check, "it has not ended after 115 s")

@@ -330,21 +330,45 @@ CONF
   stop_server
 }
 
-# by_unit: runs the commands of the unit with other ports, and lets systemd verify it
+# unit_script KEY WORD: the shell's script of the line of the unit with this key and this word, as systemd gives it to
+# the shell
+unit_script() {
+  local text
+  text=$(sed -n "s|^$1=.*/bin/sh -c '\(.*$2.*\)'\$|\1|p" "$work/duvonka.service")
+  printf %s "${text//\$\$/\$}"
+}
+
+# by_unit: runs the commands of the unit with other ports and another directory, and lets systemd verify it
 by_unit() {
-  local start post one
+  local start post listens stop one
   free_port; one=$port
   free_port; [ "$one" != "$port" ] || free_port
-  sed "s|/usr/bin/duvonka|$program|; s|:9428|:$one|; s|:5514|:$port|; s|1/9428|1/$one|; s|1/5514|1/$port|" \
+  sed "s|/usr/bin/duvonka|$program|; s|:9428|:$one|; s|:5514|:$port|; s|/var/lib/duvonka|$work/state|" \
     "$examples/duvonka.service" > "$work/duvonka.service"
   read -ra start <<< "$(sed -n 's/^ExecStart=//p' "$work/duvonka.service")"
-  post=$(sed -n "s/^ExecStartPost=.*-c '\(.*\)'$/\1/p" "$work/duvonka.service")
-  timeout 20 bash -c "$post" 2> /dev/null
-  judge "the unit: nothing listens" "$?" 1
+  post=$(unit_script ExecStartPost health)
+  listens=$(unit_script ExecStartPost telnet)
+  stop=$(unit_script ExecStop status)
+  timeout 20 sh -c "${post//600/10}" 2> /dev/null
+  judge "the unit: nothing answers" "$?" 1
+  timeout 20 sh -c "$listens" 2> /dev/null
+  judge "the unit: nothing listens for syslog" "$?" 1
+  MAINPID=99999999 timeout 20 sh -c "$stop" 2> /dev/null
+  judge "the unit: it does not wait for a server that is gone" "$?" 0
   starts "${start[@]}"
-  timeout 20 bash -c "$post" 2> /dev/null
-  judge "the unit: it waits until both addresses listen" "$?" 0
+  timeout 60 sh -c "$post" 2> /dev/null
+  judge "the unit: it waits until the server answers" "$?" 0
+  timeout 20 sh -c "$listens" 2> /dev/null
+  judge "the unit: syslog listens" "$?" 0
+  http=$one
+  for _ in {1..5}; do
+    exchange "$one" 'POST /insert/jsonline HTTP/1.0\r\nContent-Length: 16\r\n\r\n{"_msg":"of it"}' > /dev/null
+  done
+  MAINPID=${started[-1]} timeout 60 sh -c "$stop" 2> /dev/null
+  judge "the unit: before it stops, all batches are settled" "$? $(numbers)" "0 5 5"
   stops
+  judge "the unit: the batches are there after it stopped" \
+    "$("$program" query --dir "$work/state" '"of it" | stats count() as n' 2>&1)" '{"n":"5"}'
   has "the unit, by systemd" systemd-analyze || return
   judge "the unit, by systemd" "$(systemd-analyze verify "$work/duvonka.service" 2>&1 | grep duvonka; echo .)" .
 }

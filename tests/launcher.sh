@@ -331,6 +331,12 @@ by_words() {
   COMP_WORDS=(duvonka serve --w) COMP_CWORD=2
   _duvonka duvonka --w serve
   judge "completion" "${COMPREPLY[*]}" --workers
+  COMP_WORDS=(duvonka load --) COMP_CWORD=2
+  _duvonka duvonka -- load
+  judge "completion of an option of two commands" "${COMPREPLY[*]}" "--dir --stream-fields"
+  COMP_WORDS=(duvonka query --dir '') COMP_CWORD=3
+  _duvonka duvonka '' --dir
+  judge "the value of an option is not completed" "${COMPREPLY[*]}" ""
 }
 
 make_rt

@@ -1,6 +1,7 @@
 # Starts and stops servers of the program, for scripts that test or time it. A script sets `program`, the path of the
 # program, and `work`, a temporary folder, before it sources this file, and calls stop_servers when it exits.
-servers=()
+# `folders` has, for each server, the directory that is removed with it, or nothing.
+servers=() folders=()
 
 # free_port: sets port to a free port of this machine, below the range that the system hands out itself
 free_port() {
@@ -24,11 +25,19 @@ is_healthy() {
   [ -z "$syslog" ] || (exec 3<> "/dev/tcp/127.0.0.1/$syslog") 2> /dev/null
 }
 
-# start_server WORKERS [syslog]: starts a server with this number of workers at each address, at ports that the system
-# chooses, and waits until it answers. Sets server to its process id, http to its port, and syslog to its syslog port, if
-# it has one
+# start_server WORKERS [syslog|''] [DIRECTORY]: starts a server with this number of workers at each address, at ports
+# that the system chooses, over this directory, or over a new one that is removed when the server is stopped. Waits
+# until it answers. Sets server to its process id, http to its port, syslog to its syslog port, if it has one, and
+# directory to its directory
 start_server() {
-  local line words=(serve --http 127.0.0.1:0 --workers "$1")
+  local line words
+  directory=${3:-}
+  folders+=('')
+  if [ -z "$directory" ]; then
+    directory=$(mktemp -d "$work/logs.XXXXXX") || return 1
+    folders[-1]=$directory
+  fi
+  words=(serve --dir "$directory" --http 127.0.0.1:0 --workers "$1")
   [ -z "${2:-}" ] || words+=(--syslog 127.0.0.1:0)
   http='' syslog=''
   : > "$work/server_err"   # the line of an earlier server is not taken for that of this one
@@ -48,12 +57,16 @@ start_server() {
   return 1
 }
 
-# stop_server: stops the server that was started last, and returns its status
+# stop_server [SIGNAL]: stops the server that was started last, by SIGTERM or this signal, and returns its status
 stop_server() {
-  local id=$server
+  local id=$server status
   unset 'servers[-1]'
-  kill "$id" 2> /dev/null
+  kill -s "${1:-TERM}" "$id" 2> /dev/null
   wait "$id" 2> /dev/null
+  status=$?
+  [ -z "${folders[-1]}" ] || rm -rf "${folders[-1]}"
+  unset 'folders[-1]'
+  return "$status"
 }
 
 # stop_servers: stops all servers
@@ -63,7 +76,27 @@ stop_servers() {
     kill "$id" 2> /dev/null
     wait "$id" 2> /dev/null
   done
-  servers=()
+  for id in "${folders[@]}"; do
+    [ -z "$id" ] || rm -rf "$id"
+  done
+  servers=() folders=()
+}
+
+# numbers: prints how many batches the server that was started last holds, and how many of them are settled
+numbers() {
+  exchange "$http" 'GET /status HTTP/1.0\r\n\r\n' |
+    sed -n 's/.*"batches":"\([0-9]*\)","settled":"\([0-9]*\)".*/\1 \2/p'
+}
+
+# settles SECONDS: waits until all batches of the server that was started last are settled, for this long at most
+settles() {
+  local end=$((SECONDS + $1)) batches settled
+  while [ $SECONDS -le $end ]; do
+    read -r batches settled <<< "$(numbers)"
+    [ -n "$batches" ] && [ "$batches" = "$settled" ] && return 0
+    sleep 0.2
+  done
+  return 1
 }
 
 # encoded TEXT: prints the text as a form-encoded value
