@@ -3,17 +3,19 @@ _duvonka() {
   local words command=${COMP_WORDS[1]}
   COMPREPLY=()
   case "${COMP_WORDS[COMP_CWORD - 1]}" in
-    --stream-fields|--http|--syslog|--workers) return ;;
+    --stream-fields|--dir|--http|--syslog|--workers) return ;;
   esac
   [[ $COMP_CWORD != 1 ]] || command=
   case "$command" in
     '')
-      words="pipe serve trial --help --version"
+      words="pipe load query serve trial --help --version"
       # a path is that of the launcher in a clone
       [[ $1 != */* ]] || words="$words --build --clean --unproved"
       ;;
     pipe) words="--stream-fields" ;;
-    serve) words="--http --syslog --workers" ;;
+    load) words="--dir --stream-fields" ;;
+    query) words="--dir" ;;
+    serve) words="--dir --http --syslog --workers" ;;
     trial) words="" ;;
     *) return ;;
   esac
