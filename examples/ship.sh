@@ -4,8 +4,10 @@
 # usage: tail -n 0 -F app.jsonl | ship.sh [ARGUMENTS]     as ship.sh '_stream_fields=host,app&_time_field=ts'
 # The environment variable DUVONKA_URL is the server's address (default: http://127.0.0.1:9428); curl takes a password
 # for it from ~/.netrc. Plain text becomes JSON lines by `jq -Rc --unbuffered '{_msg: .}'`.
-# Each request is a batch, and a server holds 4,096 batches. So for a log that goes on for hours set the environment
-# variable SHIP_SECONDS to 30 or more: that is how long a line waits at most.
+# Each request is a batch. The environment variable SHIP_SECONDS says how long a line waits at most, 2 seconds without
+# it: where many senders ship to one server, a longer time makes fewer and larger batches.
+# A reply of 200 does not say that the lines are on disk (docs/OPERATIONS.md, What a 200 means), and ship.sh does not
+# wait for that: after a crash of the server its last lines may be missing.
 # Where the server cannot be reached or is full, a request is tried again for about a minute. After that ship.sh prints
 # the lines that it could not send, and ends with status 1. If the reply to an accepted request is lost, its lines are
 # sent twice.

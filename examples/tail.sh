@@ -45,8 +45,8 @@ held=$(batches)
 while :; do
   now=$(batches)
   if [ -n "$now" ] && [ "$now" -lt "${held:-0}" ]; then
-    echo "tail.sh: the server was restarted, and its log is another" >&2
-    seen=0
+    echo "tail.sh: the server was restarted, and has lost rows that were not on disk" >&2
+    answer "$filter | stats count() as n" && seen=$(sed 's/[^0-9]//g' "$reply")
   fi
   held=${now:-$held}
   # rows are answered in the order in which they came in, so those after the first `seen` are new
