@@ -2,7 +2,7 @@
 use Rattle.std.proofs.Common.{◌≡◌, ◌≢◌, inl, inr, ℕ, ◌≤◌, List, [], length, Option, refl, sym}
 use Rattle.std.proofs.Common.{subst, arith, append-nil}
 use Rattle.std.specs.List.{AllZip}
-use Rattle.vl_io.specs.Change.{Change, IsTold, Took}
+use Rattle.vl_io.specs.Change.{Change, IsTold, IsUntold, Took}
 use Rattle.vl_io.proofs.Laws.{Appends-nil, Consumes-nil}
 use Rattle.log_model.specs.Row.{Batch}
 use Rattle.log_model.proofs.Lines.{lines_of-none}
@@ -18,7 +18,7 @@ use Rattle.vl_pipe.specs.Flushing.{FindsLoaded, FindsReached}
 use Rattle.vl_pipe.specs.Groups.{Arrival, HasOutcome, batches_of}
 use Rattle.vl_pipe.specs.Interrupt.{limit_of}
 use Rattle.vl_pipe.specs.Opened.{IsOpened}
-use Rattle.vl_pipe.specs.Pipe.{ReportsInterrupt}
+use Rattle.vl_pipe.specs.Pipe.{IsUnread, ReportsInterrupt}
 use Rattle.vl_pipe.specs.Program as model
 use Rattle.vl_pipe.specs.Program.{stop_text}
 use Rattle.vl_pipe.specs.StoredLoad.{EndsLoad, LoadRun, LoadSurvives, StopsFlush, StopsReading, StopsSpent, TookBefore}
@@ -167,17 +167,17 @@ module _ (told : Type 0) (arrival : Arrival) (source output : Change) (vault sin
 -- the store was not opened
 pub load_unopened : (told : Type 0) (run : LoadRun) (status : Status)
     → TellsReopening told run.vault.before run.vault.faults_before run.vault.faults_after run.errors status
-    → EndsLoad told run status
-load_unopened told run statuses.VaultFault tells = inl tells
-load_unopened told run statuses.Damaged tells = tells
-load_unopened told run statuses.NoMemory tells = inl tells
-load_unopened told run statuses.Done tells = absurd tells
-load_unopened told run statuses.QueryRefused tells = absurd tells
-load_unopened told run statuses.Usage tells = absurd tells
-load_unopened told run statuses.ReadFault tells = absurd tells
-load_unopened told run statuses.WriteFault tells = absurd tells
-load_unopened told run statuses.DoorFault tells = absurd tells
-load_unopened told run statuses.Limit tells = absurd tells
+    → IsUnread run.source → IsUntold run.output → EndsLoad told run status
+load_unopened told run statuses.VaultFault tells unread untold = inl (tells, unread, untold)
+load_unopened told run statuses.Damaged tells unread untold = (tells, unread, untold)
+load_unopened told run statuses.NoMemory tells unread untold = inl (tells, unread, untold)
+load_unopened told run statuses.Done tells unread untold = absurd tells
+load_unopened told run statuses.QueryRefused tells unread untold = absurd tells
+load_unopened told run statuses.Usage tells unread untold = absurd tells
+load_unopened told run statuses.ReadFault tells unread untold = absurd tells
+load_unopened told run statuses.WriteFault tells unread untold = absurd tells
+load_unopened told run statuses.DoorFault tells unread untold = absurd tells
+load_unopened told run statuses.Limit tells unread untold = absurd tells
 
 -- ---- what a crash leaves
 

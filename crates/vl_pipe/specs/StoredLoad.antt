@@ -1,7 +1,7 @@
 -- How a load into the store of a vault ends, and what a crash leaves of it.
 use Rattle.std.specs.Prelude.{◌≡◌, ◌≢◌, ◌⊎◌, ℕ, ◌+◌, ◌-◌, ◌≤◌, List, [], ◌∷◌, ◌++◌, length, drop, codes}
 use Rattle.std.specs.List.{AllByRecursion}
-use Rattle.vl_io.specs.Change.{Change, IsCut, IsSpent, IsTold, Took}
+use Rattle.vl_io.specs.Change.{Change, IsCut, IsSpent, IsTold, IsUntold, Took}
 use Rattle.vl_io.specs.Faults.{Rose}
 use Rattle.log_model.specs.Row.{Batch}
 use Rattle.day_model.specs.Days.{DayRows}
@@ -21,6 +21,7 @@ use Rattle.vl_pipe.specs.Ended.{IsNamingFault}
 use Rattle.vl_pipe.specs.Flushing.{FindsLoaded, FindsReached, flush_line, flush_lines, flush_text, flush_text_so_far}
 use Rattle.vl_pipe.specs.Groups.{Arrival, BeginsWith, FitBatches, batches_of, refusals_of}
 use Rattle.vl_pipe.specs.Opened.{IsOpened}
+use Rattle.vl_pipe.specs.Pipe.{IsUnread}
 use Rattle.vl_pipe.specs.Program as model
 use Rattle.vl_pipe.specs.Program.{AreFew, IsCause, stop_text}
 use Rattle.vl_pipe.specs.VaultChange.{VaultChange}
@@ -117,10 +118,11 @@ abbrev pub StopsBy : LoadRun → List Batch → model.Stop → Type 0
 StopsBy run held stop =
     StopsReading run.arrival (length held) run.source run.output (Says run (stop_text stop)) stop
 
--- The store was not opened, which is said.
+-- The store was not opened, which is said. Nothing was read, and nothing was written to the output.
 abbrev pub IsNotOpened : Type 0 → LoadRun → Status → Type 0
 IsNotOpened told run status =
     TellsReopening told run.vault.before run.vault.faults_before run.vault.faults_after run.errors status
+    × IsUnread run.source × IsUntold run.output
 
 -- how a load ends, by its status
 abbrev pub EndsLoad : Type 0 → LoadRun → Status → Type 0

@@ -288,10 +288,10 @@ module _ (told : Type 0) (run : Run) where
     | inr flush ↦ absurd (output flush.flushed.failed)
   ]
   loads_well dir fields now VaultFault e source output errors vault = elim e [
-    | inl tells ↦ absurd (vault.2 tells.0)
+    | inl tells ↦ absurd (vault.2 tells.0.0)
     | inr stopped ↦ absurd (vault.2 stopped.2.0)
   ]
-  loads_well dir fields now Damaged e source output errors vault = absurd (e.0 vault.0 vault.1)
+  loads_well dir fields now Damaged e source output errors vault = absurd (e.0.0 vault.0 vault.1)
   loads_well dir fields now DoorFault e source output errors vault = absurd e
   loads_well dir fields now Limit e source output errors vault = inr (inl refl)
   loads_well dir fields now NoMemory e source output errors vault = inr (inr refl)

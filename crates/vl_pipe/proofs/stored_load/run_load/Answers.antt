@@ -1,4 +1,4 @@
-use Rattle.std.proofs.Common.{ap, arith, length, subst, sym}
+use Rattle.std.proofs.Common.{ap, arith, length, refl, subst, sym}
 use Rattle.log_model.specs.History.{batches_in}
 use Rattle.vl_io.specs.Change.{Took, change_of}
 use Rattle.vl_pipe.specs.StoredLoad.{LoadRun, LoadsAll}
@@ -17,7 +17,7 @@ returns-in-Err-clause-ends g c =
       output = change_of g.O.Sink.written g.O.Sink.faults c.args.out.now c.args.out.now;
       errors = change_of g.E.Sink.written g.E.Sink.faults c.args.err.now c.open_desk.new.err;
     } in
-    load_unopened g.V.Vault.is_told run c.in-Err.refused.0 c.in-Err.ensures.refused
+    load_unopened g.V.Vault.is_told run c.in-Err.refused.0 c.in-Err.ensures.refused (refl, refl) refl
 
 pub returns-in-Err-clause-survives : goal.returns-in-Err-clause-survives
 returns-in-Err-clause-survives g c tells leaves held rows finds =
