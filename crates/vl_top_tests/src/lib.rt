@@ -1,7 +1,7 @@
 //! Tests of `vl_top`: what its commands keep in a vault, through crashes, faults and damage.
 //!
-//! `program_tests` runs the program over a vault in memory, `vaults_tests` makes vaults, `inputs_tests` makes lines, and
-//! `visitors_tests` makes the visitors of a server. The tests stand in modules of their own, by what happens to the
+//! `program_tests` runs the program over a vault in memory, `vaults_tests` makes vaults, `inputs_tests` makes lines,
+//! and `visitors_tests` makes the visitors of a server. The tests stand in modules of their own, by what happens to the
 //! vault.
 #![tactic(auto)]
 
