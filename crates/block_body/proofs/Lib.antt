@@ -4,6 +4,7 @@ pub mod OutlineLaws
 pub mod SpellingLaws
 pub mod SpanLaws
 pub mod StoreLaws
+pub mod TimeLaws
 pub mod BatchLaws
 pub mod WeightLaws
 pub mod PlaceLaws

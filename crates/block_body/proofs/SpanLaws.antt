@@ -20,7 +20,7 @@ not-after a b e = no-later a.row.moment b.row.moment a.batch b.batch a.place b.p
 as-times : (m n : ℕ) → m ≤ n → pos m ≤ℤ pos n
 as-times m n le = omega (arith, ints)
 
-first-least : (a : Numbered) (rows : List Numbered) → list_all (comes_before a) rows ≡ true
+pub first-least : (a : Numbered) (rows : List Numbered) → list_all (comes_before a) rows ≡ true
     → AllByRecursion (λ (n : Numbered). pos a.row.moment ≤ℤ time_of n) rows
 first-least a [] e = tt
 first-least a (n ∷ ns) e =

@@ -1,5 +1,5 @@
 -- What is known of a block of rows that stand in the order of their times.
-use Rattle.std.specs.Prelude.{ℕ, ℤ, ◌≤ℤ◌, List, [], ◌∷◌, length, map, pos, sum_by}
+use Rattle.std.specs.Prelude.{ℕ, ℤ, ◌<◌, ◌≤◌, ◌≤ℤ◌, List, [], ◌∷◌, length, map, pos, slice_index_or, sum_by}
 use Rattle.std.specs.List.{All, Contains}
 use Rattle.log_model.specs.Field.{Field, weight}
 use Rattle.log_model.specs.History.{Numbered}
@@ -55,3 +55,8 @@ pub record IsSpan (rows : List Numbered) (outline : Outline) : Type 0 where
   pub greatest : All (λ numbered. time_of numbered ≤ℤ outline.max) rows
   pub first : Contains (map time_of rows) outline.min
   pub last : Contains (map time_of rows) outline.max
+
+-- No time is above a later one.
+abbrev pub DoNotFall : List ℤ → Type 0
+DoNotFall times =
+    (i j : ℕ) (time : ℤ) → i ≤ j → j < length times → slice_index_or times i time ≤ℤ slice_index_or times j time

@@ -4,10 +4,11 @@ ghost use Rattle.std.specs.Prelude.{◌≡◌, ◌<◌, ◌^◌, ◌++◌, ◌�
 ghost use Rattle.std.specs.Prelude.{slice_index_or, sum_by};
 ghost use Rattle.lent_row.specs.Cells.{value_text};
 ghost use Rattle.word_filter.specs.Words.{filter_of};
+ghost use Rattle.block_column.specs.Lent.{AreCodes, values_lent};
 ghost use Rattle.block_format.specs.Columns.{column_bytes};
 
 use crate::head::ColumnHead;
-use block_column::ValueColumn;
+use block_column::{ColumnValues, ValueColumn};
 use block_format::put_column;
 use col_codec::TextColumn;
 use lent_row::Value;
@@ -83,6 +84,18 @@ impl HeldColumns {
         match &self.columns {
             Columns::Each(columns) => columns[c].value(i),
             Columns::Row(values) => Value::Str(values.get(c)),
+        }
+    }
+
+    /// A column, lent as it is held.
+    pub(crate) fn lent(&self, c: usize) -> ColumnValues<'_>
+        requires { c < length self.now }
+        ensures values { values_lent result ≡ slice_index_or self.now c [] }
+        ensures codes { AreCodes result }
+    {
+        match &self.columns {
+            Columns::Each(columns) => columns[c].lent(),
+            Columns::Row(values) => ColumnValues::Constant(values.get(c), 1),
         }
     }
 

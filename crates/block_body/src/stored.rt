@@ -1,10 +1,11 @@
 //! Rows of a block, held by columns.
 
 ghost use Rattle.std.specs.Prelude.{◌≡◌, ◌<◌, ◌++◌, [], IfOk, OnOk, Some, length, slice_get};
-ghost use Rattle.std.specs.Prelude.{slice_index_or, true};
+ghost use Rattle.std.specs.Prelude.{map, slice_index_or, true};
 ghost use Rattle.std.specs.List.{AllByRecursion, list_all};
 ghost use Rattle.byte_format.specs.Spelling.{HasSpelling};
 ghost use Rattle.lent_row.specs.Cells.{value_text};
+ghost use Rattle.block_column.specs.Lent.{AreCodes, values_lent};
 ghost use Rattle.log_model.specs.History.{AreOfOneBatch, with_batch};
 ghost use Rattle.block_model.specs.Columns.{names_of, values_of};
 ghost use Rattle.block_model.specs.Keys.{IsNumbered, keys_of};
@@ -13,14 +14,14 @@ ghost use Rattle.block_format.specs.Reading.{block_writing};
 ghost use Rattle.block_format.specs.Rows.{IsBlock};
 ghost use Rattle.block_format.specs.Spelling.{block_bytes};
 ghost use Rattle.block_body.specs.Held.{IsHeld, rows_in};
-ghost use Rattle.block_body.specs.Outlines.{IsSpan, outline_of};
+ghost use Rattle.block_body.specs.Outlines.{DoNotFall, IsSpan, outline_of, time_of};
 
 use crate::body::{Batches, Body, batches_of, body_of};
 use crate::columns::columns_of;
 use crate::head::Head;
 use crate::held_columns::HeldColumns;
 use crate::names::ColumnNames;
-use block_column::ValueColumn;
+use block_column::{ColumnValues, ValueColumn};
 use block_model::{Key, NumberedRef, row_keys};
 use lent_row::Value;
 use std::alloc::{AllocError, Global};
@@ -149,6 +150,23 @@ impl StoredRows {
             ≡ Some (value_text result) }
     {
         self.body.columns.value(c, i)
+    }
+
+    /// The times of the rows, in nanoseconds since 1970, which do not fall.
+    pub fn times(&self) -> &[i64]
+        ensures times { result.now ≡ map time_of self.now }
+        ensures order { DoNotFall result.now }
+    {
+        self.body.times.as_slice()
+    }
+
+    /// The values of all rows in a column, lent as they are held.
+    pub fn values(&self, c: usize) -> ColumnValues<'_>
+        requires { c < length (names_of self.now) }
+        ensures values { values_lent result ≡ values_of self.now (slice_index_or (names_of self.now) c []) }
+        ensures codes { AreCodes result }
+    {
+        self.body.columns.lent(c)
     }
 
     /// Appends the one spelling of the rows.

@@ -1,3 +1,4 @@
 pub mod Kinds
 pub mod Cells
 pub mod Body
+pub mod Lent

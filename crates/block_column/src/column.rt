@@ -11,10 +11,12 @@ ghost use Rattle.block_column.specs.Body.{body};
 ghost use Rattle.block_column.specs.Cells.{IsFirst, texts_of};
 ghost use Rattle.block_model.specs.Distinct.{distinct};
 ghost use Rattle.block_column.specs.Kinds.{body_of, code_of_kind, is_held_once, kind_of};
+ghost use Rattle.block_column.specs.Lent.{AreCodes, values_lent};
 
 use crate::cells::{Cells, are_all, kind_of, len_of, value_at};
 use crate::kept::into_first;
 use crate::kinds::first_kind;
+use crate::lent::{ColumnValues, values_of};
 use crate::members::members_of;
 use crate::put::put_cells;
 use crate::row_texts::RowTexts;
@@ -94,6 +96,14 @@ impl ValueColumn {
         ensures { slice_get self.now i ≡ Some (value_text result) }
     {
         value_at(&self.cells, i)
+    }
+
+    /// The values, lent as they are held.
+    pub fn lent(&self) -> ColumnValues<'_>
+        ensures values { values_lent result ≡ self.now }
+        ensures codes { AreCodes result }
+    {
+        values_of(&self.cells)
     }
 
     /// The distinct values, each once and in byte order, if equal values are held once, and else none.

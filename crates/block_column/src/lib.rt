@@ -8,6 +8,7 @@ mod column;
 mod dictionary;
 mod kept;
 mod kinds;
+mod lent;
 mod many;
 mod members;
 mod put;
@@ -15,6 +16,7 @@ mod row_texts;
 mod take;
 
 pub use column::{FoundColumn, ValueColumn, text_len};
+pub use lent::ColumnValues;
 pub use lent_row::Value;
 pub use row_texts::RowTexts;
 pub use take::take_kind;

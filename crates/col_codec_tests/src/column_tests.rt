@@ -2,6 +2,7 @@
 ghost use Rattle.std.specs.Prelude.{◌<◌, ◌^◌, length, sum_by};
 
 use crate::hex_tests::{bytes_of, push_digits};
+use crate::mask_tests;
 use byte_format::Stop;
 use col_codec::{ColumnFault, IntColumn, TextColumn};
 use std::alloc::{AllocError, Global};
@@ -21,6 +22,7 @@ pub fn answer(alloc: Global, line: &str) -> Result<String, AllocError> {
         "read-texts" => read_texts(alloc, rows, digits),
         "take-ints" => take_ints(alloc, rows, digits),
         "take-texts" => take_texts(alloc, rows, digits),
+        "masks" => masks(alloc, rest),
         _ => format!(in alloc; "no call"),
     }
 }
@@ -125,6 +127,16 @@ fn take_texts(alloc: Global, rows: usize, digits: &str) -> Result<String, AllocE
         }
         Err(stop) => stop_text(alloc, stop),
     }
+}
+
+/// What the masks of columns of integers between two are.
+fn masks(alloc: Global, text: &str) -> Result<String, AllocError> {
+    let (least, most) = text.split_once(' ').unwrap_or((text, ""));
+    mask_tests::answer(
+        alloc,
+        least.parse::<i64>().unwrap_or(0),
+        most.parse::<i64>().unwrap_or(0),
+    )
 }
 
 fn stop_text(alloc: Global, stop: Stop) -> Result<String, AllocError> {

@@ -1,12 +1,13 @@
 -- What an opened block lends is that of the rows.
 use Rattle.std.proofs.Common.{◌≡◌, ℕ, zero, suc, ◌+◌, ◌<◌, Bool, true, false, cond, List, [], ◌∷◌, length, map}
 use Rattle.std.proofs.Common.{filter, take, get_or, Option, Some, None, IfSome, subst, refl, sym, ap, ◌∙◌, arith}
-use Rattle.std.proofs.Common.{slice_get, unwrap_or}
+use Rattle.std.proofs.Common.{replicate, slice_get, unwrap_or}
 use Rattle.std.specs.Prelude.{bytes_eq}
-use Rattle.std.specs.List.{AllByRecursion, list_any}
+use Rattle.std.specs.List.{All, AllByRecursion, list_any}
 use Rattle.std.specs.Map.{lookup}
 use Rattle.std.proofs.lemmas.Bool.{false≢true}
 use Rattle.std.proofs.lemmas.List.{length-map, map_more}
+use Rattle.std.proofs.lemmas.List.Elements.{All-from_recursion}
 use Rattle.std.proofs.lemmas.List.Sums.{fold_push}
 use Rattle.std.proofs.lemmas.Option.{slice_get-get_or}
 use Rattle.std.proofs.lemmas.Slice.Eq.{bytes_eq-Decides}
@@ -111,6 +112,18 @@ value-missing rows i name n e none =
     unlisted n.row.fields (names_of rows) name
     (all-at (λ (m : Numbered). AreListed m.row.fields (names_of rows)) rows i n (are-named rows) e) none
 
+missing-all : (rows : List Numbered) (names : List (List ℕ)) (name : List ℕ)
+    → AllByRecursion (λ (m : Numbered). AreListed m.row.fields names) rows → is_among names name ≡ false
+    → replicate (length rows) [] ≡ values_of rows name
+missing-all [] names name listed none = refl
+missing-all (n ∷ ns) names name listed none =
+    ap (λ (value : List ℕ). value ∷ replicate (length ns) []) (sym (unlisted n.row.fields names name listed.0 none))
+    ∙ ap (λ (l : List (List ℕ)). field_value n.row.fields name ∷ l) (missing-all ns names name listed.1 none)
+
+pub values-missing : (rows : List Numbered) (name : List ℕ) → is_among (names_of rows) name ≡ false
+    → replicate (length rows) [] ≡ values_of rows name
+values-missing rows name none = missing-all rows (names_of rows) name (are-named rows) none
+
 pub name-at : (rows : List Numbered) (head : Outline) (c : ℕ) (name : List ℕ) → head ≡ outline_of rows
     → c < length (names_of rows) → slice_get (map (λ (column : NamedFilter). column.0) head.columns) c ≡ Some name
     → name ≡ get_or (names_of rows) c []
@@ -152,6 +165,14 @@ pub labels-at : (rows : List Numbered) (head : Outline) (i : ℕ) (n : Numbered)
 labels-at rows head i n h stream e =
     ap (λ (o : Outline). o.labels) h
     ∙ sym (all-at (λ (m : Numbered). m.row.labels ≡ labels_of rows) rows i n stream e)
+
+pub all-labels : (rows : List Numbered) (head : Outline) (labels : List Field) → head ≡ outline_of rows
+    → labels ≡ head.labels → AllByRecursion (λ (m : Numbered). m.row.labels ≡ labels_of rows) rows
+    → All (λ (m : Numbered). m.row.labels ≡ labels) rows
+all-labels rows head labels h is stream =
+    subst (λ (l : List Field). All (λ (m : Numbered). m.row.labels ≡ l) rows)
+    (sym (is ∙ ap (λ (o : Outline). o.labels) h))
+    (All-from_recursion (λ (m : Numbered). m.row.labels ≡ labels_of rows) rows stream)
 
 -- ---- rows that are lent
 

@@ -1,12 +1,13 @@
 //! Blocks.
 
 ghost use Rattle.std.specs.Prelude.{◌≡◌, ◌+◌, ◌-◌, ◌^◌, ◌++◌, IfErr, IfOk, List, Ok, OnOk, Some};
-ghost use Rattle.std.specs.Prelude.{◌<◌, ◌≤◌, length, min};
-ghost use Rattle.std.specs.List.{AllByRecursion};
+ghost use Rattle.std.specs.Prelude.{◌<◌, ◌≤◌, length, min, true};
+ghost use Rattle.std.specs.List.{AllByRecursion, list_all};
 ghost use Rattle.byte_format.specs.Spelling.{reading};
 ghost use Rattle.log_model.specs.History.{AreOfOneBatch, Numbered as NumberedRow, rows_in, with_batch};
 ghost use Rattle.log_model.specs.Row.{batch_weight};
 ghost use Rattle.block_model.specs.Keys.{IsNumbered};
+ghost use Rattle.block_model.specs.Texts.{is_text_row};
 ghost use Rattle.block_format.specs.Reading.{block, block_writing};
 ghost use Rattle.block_format.specs.Rows.{IsBlock};
 ghost use Rattle.block_format.specs.Spelling.{block_bytes};
@@ -122,6 +123,15 @@ impl Block {
         ensures { result ≡ batch_weight (rows_in self.now) }
     {
         self.stored.head().weight()
+    }
+
+    /// Says what the rows keep. This does nothing.
+    pub fn rules(&self)
+        ensures block { IsBlock self.now }
+        ensures texts { list_all is_text_row self.now ≡ true }
+    {
+        self.stored.rules();
+        self.stored.texts();
     }
 
     /// Opens the block, which counts as one step.

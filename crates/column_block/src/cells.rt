@@ -4,8 +4,10 @@ ghost use Rattle.std.specs.Prelude.{◌≡◌, ◌<◌, IfOk, IfSome, Some, [], 
 ghost use Rattle.lent_row.specs.Cells.{value_text};
 ghost use Rattle.log_model.specs.Field.{field_value};
 ghost use Rattle.block_model.specs.Columns.{names_of, values_of};
+ghost use Rattle.block_column.specs.Lent.{AreCodes, values_lent};
 
 use block_body::StoredRows;
+use block_column::ColumnValues;
 use block_format::set_value;
 use lent_row::Value;
 use std::alloc::{AllocError, Global};
@@ -31,6 +33,18 @@ pub(crate) fn value_named<'a>(stored: &'a StoredRows, i: usize, name: &str) -> V
     match head.column_named(name) {
         Some(c) => value_in(stored, i, c),
         None => Value::Str(""),
+    }
+}
+
+/// The values of all rows in the column of this name, and empty ones if there is none.
+pub(crate) fn values_named<'a>(stored: &'a StoredRows, name: &str) -> ColumnValues<'a>
+    ensures values { values_lent result ≡ values_of stored.now name.now }
+    ensures codes { AreCodes result }
+{
+    let head = stored.head();
+    match head.column_named(name) {
+        Some(c) => stored.values(c),
+        None => ColumnValues::Constant("", head.rows()),
     }
 }
 

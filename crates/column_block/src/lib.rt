@@ -10,6 +10,7 @@ mod steps;
 
 pub use block::Block;
 pub use block_body::{ColumnNames, Head};
+pub use block_column::ColumnValues;
 pub use block_format::is_block;
 pub use block_gather::Pick;
 pub use fault::BlockFault;

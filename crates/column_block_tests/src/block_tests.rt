@@ -5,6 +5,7 @@ ghost use Rattle.log_model.specs.History.{AreOfOneBatch};
 ghost use Rattle.block_model.specs.Columns.{names_of};
 
 use crate::hex_tests::{bytes_of, push_digits};
+use crate::lent_tests::push_lent;
 use crate::plain_tests::plain_text;
 use block_model::lend;
 use column_block::{Block, BlockFault, ColumnNames, Head, Open, Steps, Value, is_block};
@@ -25,6 +26,12 @@ pub fn answer(alloc: Global, line: &str) -> Result<String, AllocError> {
     if let Some(text) = line.strip_prefix("head ") {
         return match rows_of(alloc, text)? {
             Some(rows) => head_text(alloc, rows.as_slice()),
+            None => format!(in alloc; "no row"),
+        };
+    }
+    if let Some(text) = line.strip_prefix("lent ") {
+        return match rows_of(alloc, text)? {
+            Some(rows) => lent_text(alloc, rows.as_slice()),
             None => format!(in alloc; "no row"),
         };
     }
@@ -184,6 +191,19 @@ fn head_text(alloc: Global, rows: &[Numbered]) -> Result<String, AllocError> {
         block.weight()
     )?;
     push_head(&mut text, &head);
+    Ok(text)
+}
+
+/// What the opened block of these rows lends of its columns.
+fn lent_text(alloc: Global, rows: &[Numbered]) -> Result<String, AllocError> {
+    let Some(block) = block_of(alloc, rows)? else {
+        return format!(in alloc; "no block");
+    };
+    block.rules();
+    let mut steps: Steps<Tests> = Steps::new();
+    let opened = block.open(&mut steps);
+    let mut text = String::new(alloc);
+    push_lent(&mut text, &opened, block.head());
     Ok(text)
 }
 
