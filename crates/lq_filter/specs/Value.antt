@@ -50,5 +50,13 @@ condition_on name (Length low high) = is.length_in name low high
 condition_on name (Between low high) = is.text_in name low high
 condition_on name (Number low high) = is.number_in name low high
 
+-- the name of the field
+abbrev pub field_name : FieldTest → List ℕ
+field_name field = field.name
+
+-- The value is as asked of the field.
+abbrev pub field_holds : FieldTest → List ℕ → Bool
+field_holds field value = value_holds field.test value
+
 abbrev pub condition_of_field : FieldTest → is.Condition
 condition_of_field field = condition_on field.name field.test

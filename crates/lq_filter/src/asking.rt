@@ -38,17 +38,23 @@ impl<'p> Slot<'p> {
 /// Where memory is taken from, and the matchers of patterns, each made when its pattern is first asked for. The slot of
 /// a pattern is the one with its number.
 #[derive(Drop)]
-pub(crate) struct Asking<'p> {
+pub struct Asking<'p> {
     pub(crate) alloc: Global,
     slots: Vec<Option<Slot<'p>>>,
 }
 
 impl<'p> Asking<'p> {
-    pub(crate) fn new(alloc: Global) -> Asking<'p> {
+    /// Begins with no matcher made.
+    pub fn new(alloc: Global) -> Asking<'p> {
         Asking {
             alloc,
             slots: Vec::new(alloc),
         }
+    }
+
+    /// Returns where memory is taken from.
+    pub fn alloc(&self) -> Global {
+        self.alloc
     }
 
     /// Returns whether the pattern is found in the value.

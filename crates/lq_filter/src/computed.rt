@@ -10,9 +10,12 @@ use vl_row::Text;
 
 /// A field of a row that is not stored.
 #[derive(Clone, Copy)]
-pub(crate) enum Computed {
+pub enum Computed {
+    /// `_time`, the text of the row's timestamp.
     Time,
+    /// `_stream`, the text of the labels of the row's stream.
     Stream,
+    /// `_stream_id`, the id of the row's stream.
     StreamId,
 }
 

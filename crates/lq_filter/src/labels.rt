@@ -18,7 +18,7 @@ use vl_row::{Stream, Text};
 
 /// A selector of streams, whose patterns are read.
 #[derive(Drop)]
-pub(crate) struct Selector {
+pub struct Selector {
     groups: Vec<PreparedGroup>,
 }
 
@@ -100,7 +100,7 @@ impl Selector {
     }
 
     /// Returns whether some group has all its tests true. Without groups every stream is selected.
-    pub(crate) fn selects<'p>(
+    pub fn selects<'p>(
         &'p self,
         asking: &mut Asking<'p>,
         stream: &Stream,

@@ -16,6 +16,11 @@ mod subject;
 mod tree;
 mod value;
 
+pub use asking::Asking;
+pub use computed::Computed;
 pub use fault::PrepareFault;
 pub use inner::{Inner, RecordScan, prepare_inner, prepare_inner_numbered};
+pub use labels::Selector;
 pub use prepared::{Prepared, Scan, prepare};
+pub use tree::Tree;
+pub use value::FieldTest;

@@ -6,7 +6,7 @@ ghost use Rattle.lq_ast.specs.Question.{question};
 ghost use Rattle.lq_ast.specs.View.{condition, groups_of};
 ghost use Rattle.lq_filter.specs.Labels.{groups_of as prepared_groups};
 ghost use Rattle.lq_filter.specs.Refusal.{IsRefusal};
-ghost use Rattle.lq_filter.specs.Tree.{condition_of, moment_of, scanned};
+ghost use Rattle.lq_filter.specs.Tree.{condition_of, condition_of_tree, moment_of, scanned};
 
 use crate::asking::Asking;
 use crate::fault::PrepareFault;
@@ -59,6 +59,13 @@ impl Prepared {
             Some(selector) => selects_by(selector, alloc, s),
             None => selects_anew(alloc, group, s),
         }
+    }
+
+    /// Lends the filter.
+    pub fn tree(&self) -> &Tree
+        ensures { condition_of_tree result.now ≡ condition_of self.now }
+    {
+        &self.filter
     }
 
     /// Begins a scan of rows, at the moment `now`, which makes the matcher of a pattern once.

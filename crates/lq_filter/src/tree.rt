@@ -26,14 +26,22 @@ use vl_row::{Stream, Text};
 
 /// A filter for which everything that does not depend on a row is done.
 #[derive(Drop)]
-pub(crate) enum Tree {
+pub enum Tree {
+    /// Every row.
     Always,
+    /// The value of a field passes a test.
     Field(FieldTest),
+    /// The row is of the last `span` nanoseconds, and not of the future.
     Last { span: i64 },
+    /// The time of the row is between the ends, both included, in nanoseconds since 1970.
     Times { from: i128, to: i128 },
+    /// The stream of the row is selected.
     Selected(Selector),
+    /// The filter does not hold.
     Not(Box<Tree>),
+    /// All of the filters hold.
     All(Vec<Tree>),
+    /// Some of the filters holds.
     Any(Vec<Tree>),
 }
 

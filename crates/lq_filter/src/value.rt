@@ -93,7 +93,7 @@ impl ValueTest {
 
 /// A field, and what is asked of its value.
 #[derive(Drop)]
-pub(crate) struct FieldTest {
+pub struct FieldTest {
     pub(crate) name: Text,
     pub(crate) computed: Option<Computed>,
     pub(crate) test: ValueTest,
@@ -102,7 +102,7 @@ pub(crate) struct FieldTest {
 
 impl FieldTest {
     ghost use Rattle.lq_filter.specs.Subject.{subject_of};
-    ghost use Rattle.lq_filter.specs.Value.{condition_of_field, condition_on, value_holds};
+    ghost use Rattle.lq_filter.specs.Value.{condition_of_field, condition_on, field_holds, field_name, value_holds};
 
     /// Returns the test of the value of this field.
     pub(crate) fn new(alloc: Global, field: &Text, test: ValueTest) -> Result<FieldTest, AllocError>
@@ -132,14 +132,15 @@ impl FieldTest {
         }
     }
 
+    /// Returns whether the value that the row has in the field is as asked.
     #[tactic(auto, using(crate::proofs::Values::computed_value, crate::proofs::Values::stored_value))]
-    fn holds_of_row<'p, R: LentRow>(
+    pub fn holds_of_row<'p, R: LentRow>(
         &'p self,
         asking: &mut Asking<'p>,
         row: &R,
     ) -> Result<bool, AllocError>
         ensures { IfOk result
-            (λ found. found ≡ value_holds self.now.test (value_of (R.event row.now) self.now.name)) }
+            (λ found. found ≡ field_holds self.now (value_of (R.event row.now) (field_name self.now))) }
     {
         match self.computed {
             Some(computed) => {
@@ -147,6 +148,50 @@ impl FieldTest {
                 self.test.holds(asking, text.as_str())
             }
             None => self.test.holds_of(asking, row.value(self.name.as_str())),
+        }
+    }
+
+    /// Returns the name of the field.
+    pub fn name(&self) -> &str
+        ensures { result.now ≡ field_name self.now }
+    {
+        self.name.as_str()
+    }
+
+    /// Returns how the value of the field is computed, or nothing if it is stored.
+    pub fn computed(&self) -> Option<Computed>
+        ensures { IsTrue (is_source result (field_name self.now)) }
+    {
+        self.computed
+    }
+
+    /// Returns whether this text is as asked of the value of the field.
+    pub fn holds_text<'p>(&'p self, asking: &mut Asking<'p>, text: &str) -> Result<bool, AllocError>
+        ensures { IfOk result (λ found. found ≡ field_holds self.now text.now) }
+    {
+        self.test.holds(asking, text)
+    }
+
+    /// Returns whether the decimal text of this integer is as asked of the value of the field.
+    pub fn holds_integer<'p>(
+        &'p self,
+        asking: &mut Asking<'p>,
+        integer: i64,
+    ) -> Result<bool, AllocError>
+        ensures { IfOk result (λ found. found ≡ field_holds self.now (signed_decimal integer)) }
+    {
+        self.test.holds_of_integer(asking, integer)
+    }
+
+    /// Returns the least and the greatest number that the value may be, if what is asked is that it is a number between
+    /// two ends.
+    pub fn number_bounds(&self) -> Option<(i128, i128)>
+        ensures { IfSome result (λ bounds. (value : List ℕ) → field_holds self.now value
+            ≡ option_map_or (is_within bounds.0 bounds.1) (number_of value) false) }
+    {
+        match &self.test {
+            ValueTest::Number { low, high } => Some((*low, *high)),
+            _ => None,
         }
     }
 }
