@@ -1,0 +1,5 @@
+pub mod WordLaws
+pub mod Lists
+pub mod Known
+pub mod Soundness
+pub mod Pruning
