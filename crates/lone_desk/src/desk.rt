@@ -20,7 +20,7 @@ use std::random::RandomSource;
 use std::sync::Wait;
 use vl_row::Batch;
 use vl_session::{
-    Access, Answer, AnswerFault, Incoming, Insertion, InsertionFault, Search, SearchFault,
+    Access, Answer, AnswerFault, Incoming, Insertion, InsertionFault, Search, SearchFault, Steps,
     answer_query, insert_lines,
 };
 
@@ -154,7 +154,16 @@ impl<R: Wait + RandomSource> LoneDesk<'_, R> {
         ensures same { self.new.history ≡ self.old.history }
         ensures mark { self.new.settled ≡ self.old.settled }
     {
-        answer_query(self.rt, self.alloc, &self.desk, &mut self.pass, text, now)
+        let mut steps: Steps<()> = Steps::new();
+        answer_query(
+            self.rt,
+            self.alloc,
+            &self.desk,
+            &mut self.pass,
+            text,
+            now,
+            &mut steps,
+        )
     }
 
     /// Answers a prepared query over all batches, at the moment `now`.
@@ -169,6 +178,7 @@ impl<R: Wait + RandomSource> LoneDesk<'_, R> {
             alloc: self.alloc,
             desk: &self.desk,
         };
-        access.answer(&mut self.pass, search, now)
+        let mut steps: Steps<()> = Steps::new();
+        access.answer(&mut self.pass, search, now, &mut steps)
     }
 }

@@ -1,10 +1,9 @@
 -- What is found, one row after another.
-use Rattle.std.proofs.Common.{◌≡◌, ℕ, ℤ, zero, suc, ◌+◌, ◌<◌, ◌≤◌, Bool, true, false, cond, List, [], ◌∷◌, ◌++◌}
-use Rattle.std.proofs.Common.{length, map, nat_eq}
-use Rattle.std.proofs.Common.{append-nil, append_assoc, flat_map, get_or, take, drop, Some, refl, sym, ap, ◌∙◌, arith}
+use Rattle.std.proofs.Common.{◌≡◌, ℕ, ℤ, zero, suc, ◌+◌, ◌<◌, Bool, true, false, cond, List, [], ◌∷◌, ◌++◌}
+use Rattle.std.proofs.Common.{length, map}
+use Rattle.std.proofs.Common.{append-nil, append_assoc, flat_map, get_or, take, Some, refl, sym, ap, ◌∙◌}
 use Rattle.std.specs.Prelude.{Result, Ok, Err, IfErr, IsErrAnd}
-use Rattle.std.proofs.lemmas.Bool.Decides.{nat_tests}
-use Rattle.std.proofs.lemmas.List.{length-append, take-append-drop, take_more}
+use Rattle.std.proofs.lemmas.List.{get_or-map, take_more}
 use Rattle.std.proofs.lemmas.List.Concat.{flat_map-append}
 use Rattle.std.proofs.lemmas.List.Elements.{filter-append}
 use Rattle.std.proofs.lemmas.Option.{get_or_from_slice_get, none-some, slice_get_within}
@@ -13,10 +12,7 @@ use Rattle.log_model.specs.History.{Numbered}
 use Rattle.column_block.specs.InColumns.{InColumns, no_row}
 use Rattle.matching_rows.specs.Found.{IsFound, row_there}
 use Rattle.lq_ast.specs.Condition.{Condition}
-use Rattle.lq_ast.specs.Evaluation.{row_limit}
-use Rattle.matching_rows.specs.Matches.{FailsFor, matches_in}
-use Rattle.matching_rows.specs.declared.fault.MatchFault.{MatchFault}
-use Rattle.matching_rows.specs.declared.fault.MatchFault.TheVariants.{ManyRows, Memory}
+use Rattle.matching_rows.specs.Matches.{matches_in}
 use Rattle.matching_rows.specs.declared.found.Found.{Found}
 
 -- ---- a row that is found
@@ -44,6 +40,11 @@ module _ (opened : List (List Numbered)) (f : Found) (x : Numbered) where
         batch = batch ∙ ap (λ (r : Numbered). r.batch) (sym (there is));
         place = place ∙ ap (λ (r : Numbered). r.place) (sym (there is));
       }
+
+-- what is marked of a row
+pub marked : (test : Numbered → Bool) (mask : List Bool) (rows : List Numbered) (i : ℕ) (m : Bool)
+    → mask ≡ map test rows → i < length rows → get_or mask i m ≡ test (get_or rows i no_row)
+marked test mask rows i m is within = ap (λ l. get_or l i m) is ∙ get_or-map test rows i no_row m within
 
 -- ---- the rows that pass, one row more
 
@@ -75,28 +76,6 @@ module _ (test : Numbered → Bool) where
       (sym (more rows i x is ∙ ap (λ b. filter test (take i rows) ++ cond b (x ∷ []) []) fails
       ∙ append-nil (filter test (take i rows))))
 
-  front : (rows : List Numbered) (n : ℕ) → length (filter test (take n rows)) ≤ length (filter test rows)
-  front rows n =
-      omega (
-        arith,
-        ap (λ l. length (filter test l)) (sym (take-append-drop n rows)),
-        ap length (filter-append test (take n rows) (drop n rows)),
-        length-append (filter test (take n rows)) (filter test (drop n rows)),
-      )
-
-  -- the first ones that pass, and one more, are at most all that pass
-  pub too_many : (limit : ℕ) (before : ℕ) (rows : List Numbered) (i : ℕ) (x : Numbered) → slice_get rows i ≡ Some x
-      → test x ≡ true → limit ≤ (before + length (filter test (take i rows))) + 1
-      → limit ≤ before + length (filter test rows)
-  too_many limit before rows i x is passes many =
-      omega (
-        arith,
-        many,
-        front rows (i + 1),
-        ap length (more rows i x is ∙ ap (λ b. filter test (take i rows) ++ cond b (x ∷ []) []) passes),
-        length-append (filter test (take i rows)) (x ∷ []),
-      )
-
   -- ---- one block more
 
   pub block_more : (blocks : List (List Numbered)) (i : ℕ) → i < length blocks
@@ -110,45 +89,13 @@ module _ (test : Numbered → Bool) where
       ∙ ap (λ l. flat_map (λ rows. rows) first ++ l) (append-nil one))
       ∙ filter-append test (flat_map (λ rows. rows) first) one
 
-  -- those of the first blocks and of one more are at most all
-  pub blocks_many : (limit : ℕ) (blocks : List (List Numbered)) (i : ℕ) → i < length blocks
-      → limit
-      ≤ length (filter test (flat_map (λ rows. rows) (take i blocks))) + length (filter test (get_or blocks i []))
-      → limit ≤ length (filter test (flat_map (λ rows. rows) blocks))
-  blocks_many limit blocks i within many =
-      let first = filter test (flat_map (λ rows. rows) (take (i + 1) blocks)) in
-      let last = filter test (flat_map (λ rows. rows) (drop (i + 1) blocks)) in
-      let all : filter test (flat_map (λ rows. rows) blocks) ≡ first ++ last =
-      ap (λ l. filter test (flat_map (λ rows. rows) l)) (sym (take-append-drop (i + 1) blocks))
-      ∙ ap (filter test) (flat_map-append (λ rows. rows) (take (i + 1) blocks) (drop (i + 1) blocks))
-      ∙ filter-append test (flat_map (λ rows. rows) (take (i + 1) blocks))
-      (flat_map (λ rows. rows) (drop (i + 1) blocks)) in
-      omega (
-        arith,
-        many,
-        ap length all,
-        length-append first last,
-        ap length (block_more blocks i within),
-        length-append (filter test (flat_map (λ rows. rows) (take i blocks))) (filter test (get_or blocks i [])),
-      )
-
 -- ---- why rows are not gathered
-
--- too many of some are too many of all
-pub fails_so : (count all : ℕ) → (row_limit ≤ count → row_limit ≤ all) → (fault : MatchFault) → FailsFor count fault
-    → FailsFor all fault
-fails_so count all so ManyRows h = so h
-fails_so count all so Memory h = tt
 
 -- what holds of an error holds of what it became
 pub if_err : {T E : Type 0} (result : Result T E) (Q P : E → Type 0) → IsErrAnd result Q → ((e : E) → Q e → P e)
     → IfErr result P
 if_err (Ok x) P Q is f = tt
 if_err (Err e) Q P is f = f e is
-
--- one more is not too many
-pub few_more : (count : ℕ) → count < row_limit → nat_eq (count + 1) 4_294_967_296 ≡ false → count + 1 < row_limit
-few_more count few other = grind (arith, nat_tests)
 
 -- the same condition at the same moment
 pub matches_same : (condition other : Condition) (now later : ℤ) (rows : List Numbered) → condition ≡ other

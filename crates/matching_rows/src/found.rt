@@ -1,21 +1,19 @@
 //! Where rows stand that match.
-ghost use Rattle.std.specs.Prelude.{◌≡◌, ◌≤◌, ◌<◌, ◌+◌, ◌++◌, ℕ, IfErr, IfOk, OnOk, [], false};
-ghost use Rattle.std.specs.Prelude.{length, map, slice_index_or};
+ghost use Rattle.std.specs.Prelude.{◌≡◌, ◌≤◌, ◌<◌, ◌++◌, ℕ, Bool, IfOk, OnOk, [], false};
+ghost use Rattle.std.specs.Prelude.{filter, length, map, slice_index_or};
 ghost use Rattle.std.specs.List.{All};
 ghost use Rattle.std.specs.List.Sorted.{IsPermutation};
-ghost use Rattle.lq_ast.specs.Evaluation.{row_limit};
-ghost use Rattle.lq_filter.specs.Tree.{moment_of, scanned};
-ghost use Rattle.matching_rows.specs.Found.{IsFound, comes_before, row_there};
-ghost use Rattle.matching_rows.specs.Matches.{FailsFor, matches_in, rows_of_all};
+ghost use Rattle.log_model.specs.History.{Numbered};
+ghost use Rattle.lq_filter.specs.Tree.{condition_of};
+ghost use Rattle.block_scan.specs.Scans.{condition_of_scanner, moment_of_scanner};
+ghost use Rattle.matching_rows.specs.Found.{HasFound, IsFound, comes_before, row_there};
+ghost use Rattle.matching_rows.specs.Matches.{matches_in, rows_of_all};
 ghost use Rattle.matching_rows.specs.declared.found.Found.{Found as TheFound};
 
-use crate::fault::MatchFault;
+use block_scan::Scanner;
 use column_block::Open;
-use lq_filter::Scan;
-use std::alloc::Global;
-
-/// How many rows are too many, if they match.
-const ROW_LIMIT: usize = 4_294_967_296;
+use lq_filter::Prepared;
+use std::alloc::{AllocError, Global};
 
 /// Where a row stands: the number of its batch, its place there, its block, and its index in the block.
 #[derive(Clone, Copy, PartialEq, Eq, PartialOrd, Ord)]
@@ -29,50 +27,57 @@ pub(crate) struct Found {
 /// Returns where the rows stand for which the filter holds, block by block.
 pub(crate) fn all_found(
     alloc: Global,
-    scan: &mut Scan<'_>,
+    filter: &Prepared,
+    now: i64,
     opened: &[Open<'_>],
-) -> Result<Vec<Found>, MatchFault>
-    ensures rows { IfOk result (λ found. map (row_there opened.now) found.items
-        ≡ matches_in (scanned scan.old) (moment_of scan.old) (rows_of_all opened.now)) }
-    ensures each { IfOk result (λ found. All (IsFound opened.now) found.items) }
-    ensures few { IfOk result (λ found. length found.items < row_limit) }
-    ensures fault { IfErr result
-        (FailsFor (length (matches_in (scanned scan.old) (moment_of scan.old) (rows_of_all opened.now)))) }
-    ensures filter { scanned scan.new ≡ scanned scan.old }
-    ensures moment { moment_of scan.new ≡ moment_of scan.old }
+) -> Result<Vec<Found>, AllocError>
+    ensures { IfOk result (λ found. HasFound opened.now
+        (matches_in (condition_of filter.now) now (rows_of_all opened.now)) found.items) }
 {
+    let mut scanner = Scanner::new(alloc, filter, now);
     let mut found = Vec::new(alloc);
     for block in 0..opened.len() {
-        push_found(scan, opened, block, &mut found)?;
+        push_found(&mut scanner, opened, block, &mut found)?;
     }
     Ok(found)
 }
 
 /// Appends where the rows of one block stand for which the filter holds.
 fn push_found(
-    scan: &mut Scan<'_>,
+    scanner: &mut Scanner<'_>,
     opened: &[Open<'_>],
     block: usize,
     found: &mut Vec<Found>,
-) -> Result<(), MatchFault>
+) -> Result<(), AllocError>
     requires block { block < length opened.now }
     requires each { All (IsFound opened.now) found.old.items }
-    requires few { length found.old.items < row_limit }
-    ensures rows { OnOk result (map (row_there opened.now) found.new.items ≡ map (row_there opened.now) found.old.items
-        ++ matches_in (scanned scan.old) (moment_of scan.old) (slice_index_or opened.now block [])) }
-    ensures each { OnOk result (All (IsFound opened.now) found.new.items) }
-    ensures few { OnOk result (length found.new.items < row_limit) }
-    ensures fault { IfErr result (FailsFor (length found.old.items
-        + length (matches_in (scanned scan.old) (moment_of scan.old) (slice_index_or opened.now block [])))) }
-    ensures filter { scanned scan.new ≡ scanned scan.old }
-    ensures moment { moment_of scan.new ≡ moment_of scan.old }
+    ensures found { OnOk result (HasFound opened.now (map (row_there opened.now) found.old.items
+        ++ matches_in (condition_of_scanner scanner.old) (moment_of_scanner scanner.old)
+            (slice_index_or opened.now block [])) found.new.items) }
+    ensures filter { condition_of_scanner scanner.new ≡ condition_of_scanner scanner.old }
+    ensures moment { moment_of_scanner scanner.new ≡ moment_of_scanner scanner.old }
+{
+    let mask = scanner.scan(&opened[block])?;
+    push_marked(mask.as_slice(), opened, block, found)
+}
+
+/// Appends where the rows of one block stand that are marked.
+fn push_marked(
+    mask: &[bool],
+    opened: &[Open<'_>],
+    block: usize,
+    found: &mut Vec<Found>,
+) -> Result<(), AllocError>
+    requires block { block < length opened.now }
+    requires long { length mask.now ≡ length (slice_index_or opened.now block []) }
+    requires each { All (IsFound opened.now) found.old.items }
+    ensures { OnOk result ((test : Numbered → Bool) → mask.now ≡ map test (slice_index_or opened.now block [])
+        → HasFound opened.now (map (row_there opened.now) found.old.items
+            ++ filter test (slice_index_or opened.now block [])) found.new.items) }
 {
     let rows = &opened[block];
-    for row in 0..rows.len() {
-        if scan.holds(&rows.lent(row))? {
-            if found.len() + 1 == ROW_LIMIT {
-                return Err(MatchFault::ManyRows);
-            }
+    for row in 0..mask.len() {
+        if mask[row] {
             let (_, batch, place) = rows.key(row);
             found.push(Found {
                 batch,

@@ -13,6 +13,9 @@ use column_block::{Open, OpenRow};
 use lq_filter::Prepared;
 use std::alloc::{AllocError, Global};
 
+/// How many rows are too many, if they match.
+const ROW_LIMIT: usize = 4_294_967_296;
+
 /// Returns the rows of opened blocks for which the filter holds at the moment `now`, in nanoseconds since 1970, in the
 /// order of the history. No row is made: each is lent by its block.
 pub fn matching_rows<'o>(
@@ -30,8 +33,10 @@ pub fn matching_rows<'o>(
         → HaveMatches (condition_of filter.now) now opened.now history
         → FailsFor (length (rows_that_hold (condition_of filter.now) now (rows_in history))) fault) }
 {
-    let mut scan = filter.scan(alloc, now);
-    let found = in_order(all_found(alloc, &mut scan, opened)?);
+    let found = in_order(all_found(alloc, filter, now, opened)?);
+    if found.len() >= ROW_LIMIT {
+        return Err(MatchFault::ManyRows);
+    }
     let rows = rows_found(alloc, opened, found.as_slice())?;
     Ok(rows)
 }

@@ -1,9 +1,11 @@
 -- The rows of a look that match, and what the pipes make of them.
 use Rattle.std.proofs.Common.{◌≡◌, ℕ, ℤ, suc, ◌<◌, List, [], ◌∷◌, ◌++◌, map, flat_map, length, arith, refl, sym, ap, ◌∙◌}
+use Rattle.std.proofs.Common.{Bool, true, false, cond}
+use Rattle.std.proofs.lemmas.Grind.{flat_map-append}
 use Rattle.std.specs.Prelude.{Result, Ok, Err, IfOk, IfErr, IsErrAnd}
 use denote.Ref.{Bor}
 use Rattle.std.proofs.lemmas.Bool.{le-ltb, lt-ltb}
-use Rattle.std.proofs.lemmas.List.{length-map, map-append}
+use Rattle.std.proofs.lemmas.List.{append_assoc, length-map, map-append}
 use Rattle.std.specs.List.{AllByRecursion}
 use Rattle.log_model.specs.Core.{Contents, Stands, parts_of}
 use Rattle.log_model.specs.History.{History, Numbered, entry_rows, numbered, numbered_after, numbered_in, rows_in, rows_of}
@@ -19,6 +21,10 @@ use Rattle.lq_ast.specs.Records.{Record}
 use Rattle.matching_rows.specs.Matches.{FailsFor as FailsToMatch, HaveMatches, matches_in, rows_of_all}
 use Rattle.matching_rows.specs.declared.fault.MatchFault.{MatchFault}
 use Rattle.matching_rows.specs.declared.fault.MatchFault.TheVariants as matching
+use Rattle.lq_prune.specs.Need.{need_of}
+use Rattle.lq_prune.specs.Pruning.{IsTextBlock, MissesNoneOfAll}
+use Rattle.part_model.specs.Filling.{blocks_of, filled_from, has_room}
+use Rattle.query_run.specs.Opened.{admitted_by}
 use Rattle.query_run.specs.Answer.{FailsMatching, FailsOver, FailsPiped, FailsRun, IsAnswerOver, PrintsPiped}
 use Rattle.query_run.specs.Answer.{gathering_fault, searching_fault}
 use Rattle.query_run.specs.declared.fault.SearchFault.{SearchFault}
@@ -39,16 +45,41 @@ rows_after count (entry ∷ entries) =
 pub rows_numbered : (history : History) → rows_in (numbered history) ≡ rows_of history
 rows_numbered history = rows_after 0 history
 
--- Opened blocks that have all rows of a look have all that match.
+filled_rows : (block rows : List Numbered) → rows_of_all (filled_from block rows) ≡ block ++ rows
+filled_rows block [] = refl
+filled_rows block (row ∷ rows) = go (has_room block row) (λ block. filled_rows block rows)
+  where
+    go : (room : Bool) → ((block : List Numbered) → rows_of_all (filled_from block rows) ≡ block ++ rows)
+        → rows_of_all (cond room (filled_from (block ++ row ∷ []) rows) (block ∷ filled_from (row ∷ []) rows))
+        ≡ block ++ row ∷ rows
+    go true filled = filled (block ++ row ∷ []) ∙ append_assoc block (row ∷ []) rows
+    go false filled = ap (λ l. block ++ l) (filled (row ∷ []))
+
+part_rows : (part : List Numbered) → rows_of_all (blocks_of part) ≡ part
+part_rows [] = refl
+part_rows (row ∷ rows) = filled_rows (row ∷ []) rows
+
+-- The blocks have the rows of the parts.
+blocks_rows : (parts : List (List Numbered)) → rows_of_all (flat_map blocks_of parts) ≡ flat_map (λ rows. rows) parts
+blocks_rows [] = refl
+blocks_rows (part ∷ parts) =
+    flat_map-append (λ rows. rows) (blocks_of part) (flat_map blocks_of parts)
+    ∙ ap (λ l. l ++ rows_of_all (flat_map blocks_of parts)) (part_rows part)
+    ∙ ap (λ l. part ++ l) (blocks_rows parts)
+
+-- The admitted blocks of a look have all rows that match.
 pub have_matches : (condition : Condition) (now : ℤ) (opened : List (List Numbered))
     (held : Contents (List Numbered)) (history : History)
-    → rows_of_all opened ≡ flat_map (λ rows. rows) (parts_of held) → Stands (λ rows. rows) held history
-    → HaveMatches condition now opened (numbered history)
-have_matches condition now opened held history same stands = record {
+    → opened ≡ admitted_by (need_of now condition) (flat_map blocks_of (parts_of held))
+    → AllByRecursion IsTextBlock (flat_map blocks_of (parts_of held)) → MissesNoneOfAll now condition
+    → Stands (λ rows. rows) held history → HaveMatches condition now opened (numbered history)
+have_matches condition now opened held history are texts misses stands = record {
   rows = flat_map (λ rows. rows) (parts_of held);
   same = parts_joined (λ rows. rows) held history stands;
   rising = numbered_rising history;
-  matches = ap (matches_in condition now) same;
+  matches = ap (λ blocks. matches_in condition now (rows_of_all blocks)) are
+      ∙ misses (flat_map blocks_of (parts_of held)) texts
+      ∙ ap (matches_in condition now) (blocks_rows (parts_of held));
 }
 
 -- why they are not gathered
@@ -71,6 +102,15 @@ pub err_so : {T E : Type 0} (result : Result T E) (P Q : E → Type 0) → IfErr
     → IfErr result Q
 err_so (Ok x) P Q h f = tt
 err_so (Err e) P Q h f = f e h
+
+-- what holds anyway
+pub any_ok : {T E : Type 0} (result : Result T E) (P : Type 0) → P → IfOk result (λ _. P)
+any_ok (Ok x) P h = h
+any_ok (Err e) P h = tt
+
+pub any_err : {T E : Type 0} (result : Result T E) (P : E → Type 0) → ((e : E) → P e) → IfErr result P
+any_err (Ok x) P f = tt
+any_err (Err e) P f = f e
 
 -- what holds of an error holds of what it became
 pub if_err : {T E : Type 0} (result : Result T E) (Q P : E → Type 0) → IsErrAnd result Q → ((e : E) → Q e → P e)

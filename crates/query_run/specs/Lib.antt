@@ -1,6 +1,7 @@
 pub mod Answer
 pub mod Asked
 pub mod Opened
+pub mod Prepared
 pub use Rattle.lq_ast.specs.Evaluation
 pub use Rattle.lq_parse.specs.Faults
 pub use Rattle.lq_ast.specs.Patterns

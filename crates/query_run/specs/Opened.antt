@@ -1,15 +1,26 @@
--- How many blocks a look has, and how they are counted when they are opened.
-use Rattle.std.specs.Prelude.{◌≡◌, ℕ, ◌+◌, ◌-◌, ◌^◌, ◌≤◌, List, flat_map, length, min}
+-- Which blocks of a look a query needs, and how they are counted when they are opened.
+use Rattle.std.specs.Prelude.{◌≡◌, ℕ, ℤ, ◌+◌, ◌-◌, ◌^◌, ◌≤◌, List, filter, flat_map, length, min}
 use Rattle.log_model.specs.History.{Numbered}
+use Rattle.block_body.specs.Outlines.{outline_of}
 use Rattle.part_model.specs.Filling.{blocks_of}
+use Rattle.lq_ast.specs.Question.{Question}
+use Rattle.lq_prune.specs.Need.{TheNeed, admits, need_of}
 use Rattle.query_run.specs.declared.fault.RunFault.{RunFault}
 use Rattle.query_run.specs.declared.fault.RunFault.TheVariants as running
 use Rattle.query_run.specs.declared.fault.SearchFault.{SearchFault}
 use Rattle.query_run.specs.declared.fault.SearchFault.TheVariants.{ManyRows, Overflow, Memory}
 
--- the blocks into which the rows of the parts are filled
-abbrev pub block_count : List (List Numbered) → ℕ
-block_count parts = length (flat_map blocks_of parts)
+-- those of the blocks that the need admits
+abbrev pub admitted_by : TheNeed → List (List Numbered) → List (List Numbered)
+admitted_by need blocks = filter (λ rows. admits need (outline_of rows)) blocks
+
+-- The rows of the parts are filled into blocks. These are those that the query needs at the moment `now`.
+abbrev pub admitted_blocks : Question → ℤ → List (List Numbered) → List (List Numbered)
+admitted_blocks query now parts = admitted_by (need_of now query.condition) (flat_map blocks_of parts)
+
+-- how many these are
+abbrev pub admitted : Question → ℤ → List (List Numbered) → ℕ
+admitted query now parts = length (admitted_blocks query now parts)
 
 -- A counter, which has 64 bits, counted this many steps. It stays at its last number.
 abbrev pub Counts : ℕ → ℕ → ℕ → Type 0

@@ -11,8 +11,9 @@ ghost use Rattle.lq_ast.specs.PipeView.{stage};
 ghost use Rattle.lq_ast.specs.Pipes.{all_piped};
 ghost use Rattle.lq_ast.specs.Question.{question};
 ghost use Rattle.query_run.specs.Answer.{FailsOver, FailsPiped, FailsRun, IsAnswerOver, PrintsPiped};
-ghost use Rattle.query_run.specs.Opened.{Counts, CountsUntilFault, block_count};
+ghost use Rattle.query_run.specs.Opened.{Counts, CountsUntil, CountsUntilFault, admitted};
 
+use crate::asked::Asked;
 use crate::fault::{RunFault, SearchFault};
 use crate::matched::rows_matched;
 use crate::search::Search;
@@ -27,12 +28,8 @@ use std::alloc::{AllocError, Global};
 use std::random::RandomSource;
 use vl_row::{Recs, Text};
 
-/// Tells the steps of an answer from others.
-#[derive(Drop)]
-struct Answered;
-
-/// Returns the records that a query finds at the moment `now`, in nanoseconds since 1970, over what a look has. All
-/// blocks are opened, each as one step of the counter. Hashes with a random seed.
+/// Returns the records that a query finds at the moment `now`, in nanoseconds since 1970, over what a look has. Opens
+/// the blocks that the query needs, each as one step of the counter. Hashes with a random seed.
 pub fn run_query<R: RandomSource, L>(
     rt: &R,
     alloc: Global,
@@ -46,35 +43,52 @@ pub fn run_query<R: RandomSource, L>(
     ensures fault { IfErr result (λ fault. (history : History) → Stands (λ rows. rows) snapshot.now history
         → FailsRun (question query.now) now (rows_of history) fault) }
     ensures readable { IfOk result (λ found. AllByRecursion CanBeRead (all_patterns (question query.now))) }
-    ensures steps { OnOk result (Counts steps.old (block_count (parts_of snapshot.now)) steps.new) }
+    ensures steps { OnOk result (Counts steps.old
+        (admitted (question query.now) now (parts_of snapshot.now)) steps.new) }
     ensures fault_steps { IfErr result (λ fault.
-        CountsUntilFault fault steps.old (block_count (parts_of snapshot.now)) steps.new) }
+        CountsUntilFault fault steps.old (admitted (question query.now) now (parts_of snapshot.now)) steps.new) }
 {
     let _ = steps.count();
     let filter = prepare(alloc, query)?;
-    let rows = rows_matched(alloc, &filter, now, snapshot, steps)?;
+    let asked = Asked {
+        query,
+        filter: &filter,
+        moment: now,
+    };
+    let rows = rows_matched(alloc, asked, snapshot, steps)?;
     let lent = lent_rows(alloc, rows.as_slice())?;
     Ok(made_of(alloc, HashSeed::random(rt), query.pipes.as_slice(), lent)?)
 }
 
-/// Returns the answer to the query at the moment `now`, in nanoseconds since 1970: the lines of the records that its
-/// pipes make of those rows that hold, in the order of the history. Hashes with the given seed.
-pub fn answer(
+/// Returns the answer to a query at the moment `now`, in nanoseconds since 1970: the lines of the records that
+/// [`run_query`] finds. Opens the same blocks.
+pub fn answer<R: RandomSource, L>(
+    rt: &R,
     alloc: Global,
-    seed: HashSeed,
+    snapshot: &Snapshot<Part>,
     search: &Search,
     now: i64,
-    snapshot: &Snapshot<Part>,
+    steps: &mut Steps<L>,
 ) -> Result<Text, SearchFault>
     ensures answered { IfOk result (λ text. (history : History) → Stands (λ rows. rows) snapshot.now history
         → IsAnswerOver (question search.now) now (rows_of history) text) }
     ensures fault { IfErr result (λ fault. (history : History) → Stands (λ rows. rows) snapshot.now history
         → FailsOver (question search.now) now (rows_of history) fault) }
+    ensures steps { OnOk result (Counts steps.old
+        (admitted (question search.now) now (parts_of snapshot.now)) steps.new) }
+    ensures fault_steps { IfErr result (λ fault. CountsUntil fault steps.old
+        (admitted (question search.now) now (parts_of snapshot.now)) steps.new) }
 {
-    let mut steps: Steps<Answered> = Steps::new();
-    let rows = rows_matched(alloc, search.filter(), now, snapshot, &mut steps)?;
+    let _ = steps.count();
+    let query = search.query();
+    let asked = Asked {
+        query,
+        filter: search.filter(),
+        moment: now,
+    };
+    let rows = rows_matched(alloc, asked, snapshot, steps)?;
     let lent = lent_rows(alloc, rows.as_slice())?;
-    piped_lines(alloc, seed, search.query().pipes.as_slice(), lent)
+    piped_lines(alloc, HashSeed::random(rt), query.pipes.as_slice(), lent)
 }
 
 /// Returns the rows as they are lent to pipes.

@@ -1,6 +1,7 @@
 //! Prepared queries, and their answers over a look at the shelf.
 #![tactic(auto)]
 
+mod asked;
 mod evaluation;
 mod fault;
 mod matched;
@@ -8,6 +9,7 @@ mod opened;
 mod query;
 mod search;
 
+pub use column_block::Steps;
 pub use evaluation::{answer, run_query};
 pub use fault::{RunFault, SearchFault};
 pub use lq_parse::{QueryFault, query_law};

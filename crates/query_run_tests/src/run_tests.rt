@@ -1,12 +1,11 @@
 //! What `run_query` finds.
 use crate::batch_tests::snapshot_of;
 use crate::search_tests::searched;
-use column_block::Steps;
 use log_core::Snapshot;
 use lq_parse::parse;
 use lq_pipes::lines;
 use part_file::Part;
-use query_run::{RunFault, run_query};
+use query_run::{RunFault, Steps, run_query};
 use std::alloc::{AllocError, AllocGlobal, Global};
 use std::fmt::Write;
 use std::random::RandomSource;
@@ -46,9 +45,10 @@ fn said_of<R: RandomSource>(
     let found = run(rt, alloc, text, snapshot, steps)?;
     let rose = steps.count().saturating_sub(before);
     let searched = searched(rt, alloc, text, snapshot)?;
-    let same = found.as_str() == searched.as_str();
+    let same = found.as_str() == searched.said.as_str();
+    let as_many = rose == searched.steps;
     let mut said = joined(alloc, found.as_str())?;
-    write!(said, "{rose} steps ; {same}")?;
+    write!(said, "{rose} steps ; {same} ; {as_many}")?;
     Ok(said)
 }
 

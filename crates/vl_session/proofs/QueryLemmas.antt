@@ -3,7 +3,8 @@ use Rattle.std.proofs.lemmas.Int.{ints}
 use Rattle.std.proofs.Common.{arith, ◌≡◌, ◌≢◌, ℕ, ℤ, pos, negsuc, unsigned_abs, ◌≤ℤ◌, List, [], ◌∷◌, ◌++◌, Some, refl}
 use Rattle.std.proofs.Common.{sym, ap, subst, ◌∙◌}
 use Rattle.std.specs.List.{AllByRecursion}
-use Rattle.log_model.specs.History.{History, batches_in, entry_rows, rows_of}
+use Rattle.log_model.specs.Core.{Contents, parts_of}
+use Rattle.log_model.specs.History.{History, Numbered, batches_in, entry_rows, rows_of}
 use Rattle.log_model.specs.Row.{Batch}
 use Rattle.query_run.specs.Patterns.{CanBeRead, all_patterns}
 use Rattle.query_run.specs.Question.{Question}
@@ -11,11 +12,12 @@ use Rattle.query_run.specs.Query.{IsQueryText}
 use Rattle.query_run.specs.QueryFault.TheVariants as spelling
 use Rattle.query_run.specs.Answer.{FailsOver}
 use Rattle.query_run.specs.Asked.{ForReadableQuery, Refuses}
+use Rattle.query_run.specs.Opened.{Counts, admitted}
 use Rattle.query_run.specs.declared.fault.SearchFault.{SearchFault}
 use Rattle.query_run.specs.declared.fault.SearchFault.TheVariants.{ManyRows, Overflow, Memory}
 use Rattle.query_run.specs.declared.query.QueryRefusal.{QueryRefusal}
 use Rattle.query_run.specs.declared.query.QueryRefusal.TheVariants as refusals
-use Rattle.vl_session.specs.Answer.{FailsQuery, IsQueryAnswer, IsSearchAnswer}
+use Rattle.vl_session.specs.Answer.{FailsQuery, IsQueryAnswer, IsSearchAnswer, OpensAdmitted}
 use Rattle.vl_session.specs.Answer.{fault_of_refusal, fault_of_run, query_outcome_of}
 use Rattle.vl_session.specs.Query.{HasQueryOutcome, QueryOutcome, batch_list_rows, many_rows, overflows, unreadable}
 use Rattle.vl_session.specs.Query.{unspelled}
@@ -86,6 +88,13 @@ pub answered_as : (text : List ℕ) (now : ℤ) (query : Question) (history : Hi
     → IsQueryAnswer text (unsigned_abs now) history answer
 answered_as text now query history answer from spelled readable found =
     asks text now query (λ query now. IsSearchAnswer query now history answer) from spelled readable found
+
+-- the blocks that were opened for it
+pub opened_as : (text : List ℕ) (now : ℤ) (query : Question) (held : Contents (List Numbered)) (old new : ℕ)
+    → pos 0 ≤ℤ now → IsQueryText text query → AllByRecursion CanBeRead (all_patterns query)
+    → Counts old (admitted query now (parts_of held)) new → OpensAdmitted text (unsigned_abs now) held old new
+opened_as text now query held old new from spelled readable counted =
+    asks text now query (λ query now. Counts old (admitted query now (parts_of held)) new) from spelled readable counted
 
 -- what comes of it for a session
 pub outcome_has : (text : List ℕ) (now : ℕ) (history : History) (fault : AnswerFault) (outcome : QueryOutcome)

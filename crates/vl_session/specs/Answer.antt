@@ -1,8 +1,10 @@
 -- The answer to a query over the shared state, and why there is none.
 use Rattle.std.specs.Prelude.{◌≡◌, ◌≢◌, ℕ, ℤ, pos, List, length, Option, None, Some}
-use Rattle.log_model.specs.History.{History, rows_of}
+use Rattle.log_model.specs.Core.{Contents, Stands, parts_of}
+use Rattle.log_model.specs.History.{History, Numbered, rows_of}
 pub use Rattle.query_run.specs.Answer.{FailsOver, IsAnswerOver}
 use Rattle.query_run.specs.Asked.{ForReadableQuery, HasUnreadablePattern, IsUnspelled}
+use Rattle.query_run.specs.Opened.{Counts, admitted}
 use Rattle.query_run.specs.Question.{Question}
 use Rattle.query_run.specs.Records.{Record}
 use Rattle.query_run.specs.QueryFault.TheVariants as spelling
@@ -21,10 +23,17 @@ use Rattle.vl_session.specs.declared.answer.AnswerFault.TheVariants.{Query, Rege
 pub record IsSearchAnswer (query : Question) (now : ℤ) (history : History) (answer : Answer) : Type 0 where
   pub over : IsAnswerOver query now (rows_of history) answer.lines
   pub front : answer.front ≡ length history
+  pub stands : Stands (λ rows. rows) answer.snapshot history
 
 -- The text spells a query that can be asked, and the answer is that to it.
 abbrev pub IsQueryAnswer : List ℕ → ℕ → History → Answer → Type 0
 IsQueryAnswer text now history answer = ForReadableQuery text (λ query. IsSearchAnswer query (pos now) history answer)
+
+-- The text spells a query, and a counter of opened blocks, which has 64 bits, counted those that the query needs of
+-- what the parts of the shelf hold.
+abbrev pub OpensAdmitted : List ℕ → ℕ → Contents (List Numbered) → ℕ → ℕ → Type 0
+OpensAdmitted text now held old new =
+    ForReadableQuery text (λ query. Counts old (admitted query (pos now) (parts_of held)) new)
 
 -- Why there is none. `Memory` may always be returned.
 abbrev pub FailsQuery : List ℕ → ℕ → History → AnswerFault → Type 0

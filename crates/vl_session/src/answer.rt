@@ -2,18 +2,22 @@
 ghost use Rattle.std.specs.Prelude.{◌≡◌, ◌≤ℤ◌, IfErr, IfOk, OnOk, pos, unsigned_abs};
 ghost use Rattle.log_desk.specs.Passes.{IsPassOf};
 ghost use Rattle.log_desk.specs.Seen.{caller_of, seen_of};
+ghost use Rattle.log_model.specs.Core.{parts_of};
 ghost use Rattle.log_model.specs.History.{rows_of};
 ghost use Rattle.query_run.specs.Answer.{FailsOver};
 ghost use Rattle.query_run.specs.Asked.{IsReadableQuery};
+ghost use Rattle.query_run.specs.Opened.{Counts, admitted};
 ghost use Rattle.query_run.specs.Question.{question};
 ghost use Rattle.vl_session.specs.Answer.{FailsQuery, HasRecords, IsOfEvaluation, IsQueryAnswer, IsSearchAnswer};
-ghost use Rattle.vl_session.specs.Answer.{fault_effect};
+ghost use Rattle.vl_session.specs.Answer.{OpensAdmitted, fault_effect};
 ghost use Rattle.vl_session.specs.Seen.{Has, Looks};
 
 use crate::access::Access;
 use crate::law::select_law;
+use log_core::Snapshot;
 use log_desk::{Desk, Pass};
-use query_run::{HashSeed, QueryFault, QueryRefusal, Search, SearchFault, answer, read_query};
+use part_file::Part;
+use query_run::{QueryFault, QueryRefusal, Search, SearchFault, Steps, answer, read_query};
 use std::alloc::{AllocError, Global};
 use std::random::RandomSource;
 use std::sync::Wait;
@@ -26,6 +30,8 @@ pub struct Answer {
     pub front: u64,
     /// Its records, each as a JSON object on a line.
     pub lines: Text,
+    /// What the desk held then, which the answer is over.
+    pub snapshot: Snapshot<Part>,
 }
 
 /// Why a query has no answer.
@@ -75,19 +81,23 @@ impl From<SearchFault> for AnswerFault {
 /// Answers a query at the moment `now`, in nanoseconds since the start of 1970, over all batches of the history that
 /// the pass has then seen.
 ///
-/// A text that spells no query, or has a pattern that cannot be read, is refused without a look at the log.
-pub fn answer_query<R: Wait + RandomSource>(
+/// A text that spells no query, or has a pattern that cannot be read, is refused without a look at the log. Of the
+/// blocks that the desk held, those are opened that the query needs, each as one step of the counter.
+pub fn answer_query<R: Wait + RandomSource, L>(
     rt: &R,
     alloc: Global,
     desk: &Desk,
     pass: &mut Pass,
     text: &str,
     now: i64,
+    steps: &mut Steps<L>,
 ) -> Result<Answer, AnswerFault>
     requires pass { IsPassOf desk.now pass.old }
     requires moment { pos 0 ≤ℤ now }
     ensures answered { IfOk result (IsQueryAnswer text.now (unsigned_abs now) (seen_of pass.new).history) }
     ensures refused { IfErr result (FailsQuery text.now (unsigned_abs now) (seen_of pass.new).history) }
+    ensures opened { IfOk result (λ answer.
+        OpensAdmitted text.now (unsigned_abs now) answer.snapshot steps.old steps.new) }
 
     // A query that can be asked fails in its evaluation only, and not there where that has records, unless memory runs
     // out.
@@ -108,7 +118,7 @@ pub fn answer_query<R: Wait + RandomSource>(
         Err(refusal) => return Err(AnswerFault::from(refusal)),
     };
     let access = Access { rt, alloc, desk };
-    match access.answer(pass, &search, now) {
+    match access.answer(pass, &search, now, steps) {
         Ok(answer) => Ok(answer),
         Err(fault) => Err(AnswerFault::from(fault)),
     }
@@ -117,10 +127,18 @@ pub fn answer_query<R: Wait + RandomSource>(
 impl<R: Wait + RandomSource> Access<'_, R> {
     /// Answers a prepared query, as [`answer_query`] does. Hashes with a new seed, where the system gives one. A look
     /// at the log takes one turn.
-    pub fn answer(&self, pass: &mut Pass, search: &Search, now: i64) -> Result<Answer, SearchFault>
+    pub fn answer<L>(
+        &self,
+        pass: &mut Pass,
+        search: &Search,
+        now: i64,
+        steps: &mut Steps<L>,
+    ) -> Result<Answer, SearchFault>
         requires { IsPassOf self.now.desk.now pass.old }
         ensures answered { IfOk result (IsSearchAnswer (question search.now) now (seen_of pass.new).history) }
         ensures refused { IfErr result (FailsOver (question search.now) now (rows_of (seen_of pass.new).history)) }
+        ensures opened { IfOk result (λ answer. Counts steps.old
+            (admitted (question search.now) now (parts_of answer.snapshot)) steps.new) }
         ensures looks { Looks (caller_of pass.old) (seen_of pass.old) (seen_of pass.new) }
         ensures pass { IsPassOf self.now.desk.now pass.new }
         ensures caller { caller_of pass.new ≡ caller_of pass.old }
@@ -130,9 +148,12 @@ impl<R: Wait + RandomSource> Access<'_, R> {
             Err(AllocError) => return Err(SearchFault::Memory),
         };
         let front = snapshot.front();
-        let seed = HashSeed::random(self.rt);
-        match answer(self.alloc, seed, search, now, &snapshot) {
-            Ok(lines) => Ok(Answer { front, lines }),
+        match answer(self.rt, self.alloc, &snapshot, search, now, steps) {
+            Ok(lines) => Ok(Answer {
+                front,
+                lines,
+                snapshot,
+            }),
             Err(fault) => Err(fault),
         }
     }

@@ -19,6 +19,7 @@ use http_in::Request;
 use http_reply::{Delivery, no_memory};
 use http_route::{WantFault, Wanted, delivery_to};
 use log_desk::Pass;
+use query_run::Steps;
 use std::alloc::AllocError;
 use std::random::RandomSource;
 use std::sync::Wait;
@@ -143,7 +144,17 @@ fn query_reply<R: Wait + RandomSource>(
     ensures pass { IsPassOf access.now.desk.now pass.new }
     ensures caller { caller_of pass.new ≡ caller_of pass.old }
 {
-    match answer_query(access.rt, access.alloc, access.desk, pass, text, now) {
+    let mut steps: Steps<()> = Steps::new();
+    let asked = answer_query(
+        access.rt,
+        access.alloc,
+        access.desk,
+        pass,
+        text,
+        now,
+        &mut steps,
+    );
+    match asked {
         Ok(answer) => {
             let reply = lines_reply(access.alloc, answer.lines, delivery)?;
             Ok(reply)

@@ -26,7 +26,7 @@ pub use access::Access;
 pub use answer::{Answer, AnswerFault, answer_query};
 pub use insert::{Incoming, Insertion, InsertionFault, insert_lines};
 pub use law::{alone_law, insert_law, select_law, session_law, syslog_law};
-pub use query_run::{QueryFault, QueryRefusal, Search, SearchFault, read_query};
+pub use query_run::{QueryFault, QueryRefusal, Search, SearchFault, Steps, read_query};
 pub use report::{Done, End, Report};
 pub use serve::serve_session;
 pub use syslog_report::{SyslogEnd, SyslogReport};

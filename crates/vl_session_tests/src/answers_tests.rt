@@ -2,6 +2,7 @@
 use crate::desk_tests::push_desks;
 use crate::endless_tests::push_endless;
 use crate::limits_tests::push_limits;
+use crate::opened_tests::push_opened;
 use crate::{http_answers_tests, syslog_answers_tests};
 use std::alloc::{AllocError, AllocGlobal};
 use std::io;
@@ -21,6 +22,7 @@ pub(crate) fn answer_all<R: AllocGlobal + Threads + Wait + RandomSource + Sync>(
     let mut checks = String::new(rt.alloc());
     push_endless(handle, &mut checks)?;
     push_limits(handle, &mut checks)?;
+    push_opened(handle, &mut checks)?;
     push_desks(handle, &mut checks)?;
     print!(rt; "{checks}")
 }

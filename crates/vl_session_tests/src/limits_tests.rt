@@ -10,7 +10,11 @@ use std::alloc::{AllocError, AllocGlobal, Global};
 use std::fmt::Write;
 use std::random::RandomSource;
 use std::sync::Wait;
-use vl_session::{AnswerFault, InsertionFault, answer_query, insert_lines};
+use vl_session::{AnswerFault, InsertionFault, Steps, answer_query, insert_lines};
+
+/// Tells the counter of these queries from others.
+#[derive(Drop)]
+struct Queries;
 
 /// Makes each check, and adds its line.
 pub fn push_limits<R: AllocGlobal + Wait + RandomSource>(
@@ -45,7 +49,7 @@ fn insert<R: AllocGlobal + Wait>(
 }
 
 /// Inserts these lines, and returns what came of it as a text.
-fn inserted<R: AllocGlobal + Wait>(
+pub(crate) fn inserted<R: AllocGlobal + Wait>(
     rt: &R,
     desk: &Desk,
     pass: &mut Pass,
@@ -86,7 +90,8 @@ fn asked<R: AllocGlobal + Wait + RandomSource>(
     ensures { IsPassOf desk.now pass.new }
 {
     let alloc = rt.alloc();
-    match answer_query(rt, alloc, desk, pass, query, 5) {
+    let mut steps = Steps::<Queries>::new();
+    match answer_query(rt, alloc, desk, pass, query, 5, &mut steps) {
         Ok(answer) => {
             let mut text = format!(in alloc; "{} batches ", answer.front)?;
             push_spelled(answer.lines.as_str().as_bytes(), &mut text)?;

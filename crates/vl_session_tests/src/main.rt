@@ -15,8 +15,8 @@
 //! A byte that is not visible ASCII is written as `\0a;`, and n of the same as `\61x65536;`.
 //!
 //! After the cases it writes a line for each check that has no case: an input of syslog without an end, lines that are
-//! inserted and queries that are asked without a session, the limits of what is held, and sessions of several callers
-//! of one desk.
+//! inserted and queries that are asked without a session, the limits of what is held, how many blocks queries open, and
+//! sessions of several callers of one desk.
 //!
 //! The answers in `stdout` are not the program's own: they come from a second reading of the same rules in Python.
 //!
@@ -34,6 +34,7 @@ mod http_sessions_tests;
 mod inserts_tests;
 mod limits_tests;
 mod measured_tests;
+mod opened_tests;
 mod scripted_tests;
 mod spelling_tests;
 mod syslog_answers_tests;

@@ -8,7 +8,11 @@ use std::fmt::Write;
 use std::random::RandomSource;
 use std::sync::Wait;
 use vl_io::{MemClock, MemSource};
-use vl_session::{SyslogReport, answer_query, syslog_session};
+use vl_session::{Steps, SyslogReport, answer_query, syslog_session};
+
+/// Tells the counter of the query from others.
+#[derive(Drop)]
+struct Queries;
 
 /// How the input comes.
 #[derive(Clone, Copy)]
@@ -58,7 +62,8 @@ fn push_lines<R: AllocGlobal + Wait + RandomSource>(
 ) -> Result<(), AllocError>
     requires { IsPassOf desk.now pass.old }
 {
-    let Ok(answer) = answer_query(rt, rt.alloc(), desk, pass, query, 9) else {
+    let mut steps = Steps::<Queries>::new();
+    let Ok(answer) = answer_query(rt, rt.alloc(), desk, pass, query, 9, &mut steps) else {
         return out.push_str(" no answer");
     };
     for line in answer.lines.as_str().lines() {

@@ -1,13 +1,15 @@
 use Rattle.std.proofs.Common.{◌≡◌, Err, ap, sym, subst, unsigned_abs, FitsSigned, w64, to_z, of_z}
 use Rattle.std.proofs.lemmas.Int.{to_z-of_z}
+use Rattle.log_model.specs.Core.{parts_of}
 use Rattle.log_model.specs.History.{rows_of}
 use Rattle.log_desk.specs.Seen.{caller_of, seen_of}
 use Rattle.query_run.specs.Answer.{FailsOver}
+use Rattle.query_run.specs.Opened.{Counts, admitted}
 use Rattle.query_run.specs.Question.{question}
 use Rattle.vl_session.specs.Answer.{IsSearchAnswer, fault_effect}
 use Rattle.vl_session.specs.Seen.{Has}
 use Rattle.vl_session.proofs.EffectLemmas.{failed_has, unasked_has}
-use Rattle.vl_session.proofs.QueryLemmas.{answered_as, failed_as, refused_as}
+use Rattle.vl_session.proofs.QueryLemmas.{answered_as, failed_as, opened_as, refused_as}
 use Rattle.vl_session.proofs.SelectLemmas.{only_memory}
 use Rattle.vl_session.proofs.answer.answer_query.Goals as goal
 
@@ -45,6 +47,17 @@ returns-in-Ok-answer-clause-answered g c =
     c.in-Ok-answer.ensures.answered in
     answered_as c.args.text.now c.args.now (question c.in-Ok.search) history c.in-Ok-answer.answer c.requires.moment
     c.in-Ok.ensures.read c.in-Ok.ensures.patterns found
+
+pub returns-in-Ok-answer-clause-opened : goal.returns-in-Ok-answer-clause-opened
+returns-in-Ok-answer-clause-opened g c =
+    let fits : FitsSigned w64 c.args.now = c.ranges.now in
+    let moment : to_z w64 (of_z w64 c.args.now) ≡ c.args.now = to_z-of_z w64 c.args.now fits in
+    let held = c.in-Ok-answer.answer.snapshot in
+    let opened = subst (λ now. Counts c.args.steps.now
+    (admitted (question c.in-Ok.search) now (parts_of held)) c.answer.new.steps) moment
+    c.in-Ok-answer.ensures.opened in
+    opened_as c.args.text.now c.args.now (question c.in-Ok.search) held c.args.steps.now c.answer.new.steps
+    c.requires.moment c.in-Ok.ensures.read c.in-Ok.ensures.patterns opened
 
 pub returns-clause-refused : goal.returns-clause-refused
 returns-clause-refused g c =

@@ -13,7 +13,7 @@ use Rattle.vl_session.proofs.desk_log.query_reply.Goals as goal
 
 pub returns-in_ok-reply-in-Ok-clause-said : goal.returns-in_ok-reply-in-Ok-clause-said
 returns-in_ok-reply-in-Ok-clause-said g c =
-    let history = (seen_of c.answer_query.new.pass).history in
+    let history = (seen_of c.answer_query-asked.new.pass).history in
     let fits : FitsSigned w64 c.args.now = c.ranges.now in
     let moment : to_z w64 (of_z w64 c.args.now) ≡ c.args.now = to_z-of_z w64 c.args.now fits in
     let answered = subst (λ now. IsQueryAnswer c.args.text.now (unsigned_abs now) history c.in-Ok.answer) moment
@@ -35,7 +35,7 @@ returns-in_ok-reply-in-Ok-clause-said g c =
 pub returns-in_ok-text-in-Err-clause-said : goal.returns-in_ok-text-in-Err-clause-said
 returns-in_ok-text-in-Err-clause-said g c =
     let old = seen_of c.args.pass.now in
-    let new = seen_of c.answer_query.new.pass in
+    let new = seen_of c.answer_query-asked.new.pass in
     let fits : FitsSigned w64 c.args.now = c.ranges.now in
     let moment : to_z w64 (of_z w64 c.args.now) ≡ c.args.now = to_z-of_z w64 c.args.now fits in
     let fails = subst (λ now. FailsQuery c.args.text.now (unsigned_abs now) new.history c.in-Err.fault) moment
@@ -51,5 +51,5 @@ returns-in_ok-text-in-Err-clause-said g c =
 pub returns-in_err-text-in-Err-clause-unsaid : goal.returns-in_err-text-in-Err-clause-unsaid
 returns-in_err-text-in-Err-clause-unsaid g c =
     on_err c.from_residual-in_err-text-in-Err.result _
-    (effect_follows (caller_of c.args.pass.now) (seen_of c.args.pass.now) (seen_of c.answer_query.new.pass)
+    (effect_follows (caller_of c.args.pass.now) (seen_of c.args.pass.now) (seen_of c.answer_query-asked.new.pass)
     c.in-Err.fault c.in-Err.ensures.effect)

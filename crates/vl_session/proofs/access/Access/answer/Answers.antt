@@ -16,10 +16,15 @@ returns-in-Ok-answer-clause-answered g c =
       over = subst (λ now. IsAnswerOver (question c.args.search.now) now (rows_of history) c.in-Ok-answer.lines) moment
           (c.in-Ok-answer.ensures.answered history stands);
       front = c.front-front.ensures.value ∙ stands.counted;
+      stands = stands;
     }
 
-pub returns-clause-refused : goal.returns-clause-refused
-returns-clause-refused g c =
+pub returns-in-Ok-answer-clause-opened : goal.returns-in-Ok-answer-clause-opened
+returns-in-Ok-answer-clause-opened g c =
+    let fits : FitsSigned w64 c.args.now = c.ranges.now in simp to_z-of_z at c.in-Ok-answer.ensures.steps
+
+pub returns-in-Err-answer-clause-refused : goal.returns-in-Err-answer-clause-refused
+returns-in-Err-answer-clause-refused g c =
     let history = (seen_of c.look.new.pass).history in
     let fits : FitsSigned w64 c.args.now = c.ranges.now in
     let moment : to_z w64 (of_z w64 c.args.now) ≡ c.args.now = to_z-of_z w64 c.args.now fits in
