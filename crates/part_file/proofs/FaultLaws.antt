@@ -11,7 +11,6 @@ use Rattle.part_file.specs.Format.{part, part_writing}
 use Rattle.part_file.specs.Version.{HasOtherVersion}
 use Rattle.part_file.proofs.VersionLaws.{other-version}
 use Rattle.part_file.specs.Answers.{FaultOf, IsFaultOf, part_fault}
-use Rattle.part_file.specs.declared.fault.PartFault.TheVariants as faults
 
 pub fault-as : {Y : Type 0} (fault : Fault) (bytes : List ℕ) (read : Result Y ℕ) → ReadFaultOf fault bytes read
     → FaultOf (part_fault fault) bytes read

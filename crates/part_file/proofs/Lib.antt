@@ -5,3 +5,4 @@ mod FaultLaws
 mod HoldLaws
 mod ReadLaws
 mod BatchLaws
+mod FollowedLaws

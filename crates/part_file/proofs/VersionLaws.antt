@@ -1,5 +1,5 @@
 -- Parts of another version are none.
-use Rattle.std.proofs.Common.{◌≡◌, ℕ, ◌-◌, false, List, length, take, drop, sym, ap, ◌∙◌}
+use Rattle.std.proofs.Common.{◌≡◌, ℕ, false, List, length, take, drop, sym, ap, ◌∙◌}
 use Rattle.std.proofs.Common.{arith, eqb, Ok, Err, Result}
 use Rattle.std.specs.Prelude.{bytes_eq}
 use Rattle.std.specs.Int.{w16, from_le_bytes}

@@ -6,3 +6,4 @@ pub mod TestLaws
 pub mod Again
 pub mod Answers
 pub mod Holds
+pub mod Followed

@@ -2,9 +2,12 @@
 #![tactic(auto)]
 
 mod block_rows;
+mod by_blocks;
 mod fault;
 mod filled;
+mod followed;
 mod held;
+mod numbers;
 mod part;
 mod put;
 mod read;

@@ -10,13 +10,12 @@ ghost use Rattle.part_file.specs.Format.{part, part_bytes, part_writing};
 ghost use Rattle.part_file.specs.Version.{HasOtherVersion};
 ghost use Rattle.part_file.specs.Answers.{AnswersAs, IsFaultOf};
 
+use crate::by_blocks::read_part;
 use crate::fault::{PartFault, fault_of};
 use crate::filled::{batch_rows, count_of, filled, shared, weight_of};
 use crate::put::{put_blocks, put_head};
-use crate::read::PartItems;
 use crate::take::version_of;
 use block_model::{NumberedRef, lend};
-use byte_format::read_exactly;
 use column_block::Block;
 use part_model::sorted;
 use std::alloc::{AllocError, Global};
@@ -169,7 +168,7 @@ impl Part {
         if let Some(found) = version_of(bytes) {
             return Err(PartFault::Version { found });
         }
-        match read_exactly::<PartItems>(alloc, (), bytes) {
+        match read_part(alloc, bytes) {
             Ok(part) => Ok(part),
             Err(fault) => Err(fault_of(fault)),
         }

@@ -1,7 +1,7 @@
 //! Reading parts.
 
-ghost use Rattle.std.specs.Prelude.{◌≡◌, ◌-◌, ◌^◌, ◌↔◌, IfNone, IfOk, IfSome, IsTrue, MatchOption, None, false, map, min};
-ghost use Rattle.std.specs.Prelude.{true};
+ghost use Rattle.std.specs.Prelude.{◌≡◌, ◌-◌, ◌^◌, ◌↔◌, IfNone, IfOk, IfSome, IsTrue, MatchOption, None, false, map};
+ghost use Rattle.std.specs.Prelude.{min, true};
 ghost use Rattle.std.specs.List.{All, list_all};
 ghost use Rattle.std.specs.List.Sorted.{IsPermutation, IsSorted};
 ghost use Rattle.byte_format.specs.Spelling.{HasSpelling};
@@ -21,7 +21,7 @@ use std::alloc::{AllocError, Global};
 use vl_row::Numbered;
 
 /// The largest weight of a part.
-const MAX_WEIGHT: u64 = 67_108_864;
+pub(crate) const MAX_WEIGHT: u64 = 67_108_864;
 
 /// The items of a part. They may still be no part.
 #[derive(Drop)]
