@@ -104,7 +104,7 @@ impl<W: Write> Sink for OutputSink<W> {
 }
 
 /// How long `pause` of the system's clock waits, in milliseconds.
-const PAUSE: u64 = 1;
+const PAUSE: u64 = 10;
 
 /// The system's clock. Where it can't be read, or stands before 1970, it gives 0, and after the last
 /// moment of an `i64` that moment.

@@ -108,17 +108,10 @@ pub(crate) fn keep_on<R: Wait, V: Vault, C: Clock>(
             rewritten = weight_from(keeper.store(), next_file);
             pauses = 0;
         }
-        wait(clock);
+        clock.pause();
         pauses = pauses.saturating_add(1);
     }
     unreachable!()
-}
-
-/// Waits between two questions how many batches wait: ten milliseconds by the system's clock.
-fn wait<C: Clock>(clock: &mut C) {
-    for _ in 0..10 {
-        clock.pause();
-    }
 }
 
 /// Returns how many bytes the rows of those parts have that stand in this file or a later one.

@@ -113,7 +113,7 @@ pub fn failing<
     let alloc = rt.alloc();
     let replies: Counter = Arc::new(alloc, AtomicU64::new(0))?;
     let pauses: Counter = Arc::new(alloc, AtomicU64::new(0))?;
-    let further = Awaited::Further(10_000);
+    let further = Awaited::Further(1_000);
     let mut visits = Vec::new(alloc);
     let none = Awaited::Count(0);
     visits.push(visit_of(*rt, alloc, Asks::Insert, &replies, &pauses, none)?)?;
@@ -125,7 +125,7 @@ pub fn failing<
     serve_all(rt, alloc, 2, FAILING, &replies, &mut doors, &mut clock)
 }
 
-/// A round runs while a door is open: its second visitor comes 10,000 pauses of the keeper's clock after the first, and
+/// A round runs while a door is open: its second visitor comes 1,000 pauses of the keeper's clock after the first, and
 /// is told that its batch is settled.
 pub fn meanwhile<
     R: AllocGlobal + Threads + Wait + RandomSource + Sync + SystemTimer + Copy + Drop + Send,
@@ -133,7 +133,7 @@ pub fn meanwhile<
     let alloc = rt.alloc();
     let replies: Counter = Arc::new(alloc, AtomicU64::new(0))?;
     let pauses: Counter = Arc::new(alloc, AtomicU64::new(0))?;
-    let further = Awaited::Further(10_000);
+    let further = Awaited::Further(1_000);
     let mut visits = Vec::new(alloc);
     let none = Awaited::Count(0);
     visits.push(visit_of(*rt, alloc, Asks::Insert, &replies, &pauses, none)?)?;

@@ -12,8 +12,8 @@ use vl_io::{Clock, Failed, Sink, Source, SystemClock};
 /// A number that visitors and the keeper share.
 pub type Counter = Arc<AtomicU64, Global>;
 
-/// The most waits for a counter. One takes a millisecond.
-const MOST_WAITS: u64 = 10_000;
+/// The most waits for a counter. One takes ten milliseconds.
+const MOST_WAITS: u64 = 1_000;
 
 /// What a counter has to come to.
 #[derive(Clone, Copy, Debug, PartialEq, Eq)]

@@ -17,7 +17,7 @@ pub type Replies = Arc<AtomicU64, Global>;
 /// Doors of such visitors.
 pub type TestDoors<R> = MemDoors<PacedSource<R>, ReplySink, MemClock>;
 
-/// It waits for some milliseconds before each read, so that rounds of the keeper run between the visits.
+/// It pauses before each read, so that rounds of the keeper run between the visits.
 #[derive(Drop)]
 pub struct PacedSource<R> {
     source: MemSource,
@@ -25,7 +25,7 @@ pub struct PacedSource<R> {
     pauses: u64,
 }
 
-/// Pauses this often, for a millisecond each.
+/// Pauses this often, for ten milliseconds each.
 fn pause_for<R: SystemTimer>(clock: &mut SystemClock<R>, pauses: u64) {
     for _ in 0..pauses {
         clock.pause();
