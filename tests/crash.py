@@ -1,7 +1,8 @@
 #!/usr/bin/env python3
 """Crashes, damage and full disks: what the program finds in a directory after them is what it promised to keep.
 
-- kills: a server is killed within the rounds that write batches to disk, and started again
+- kills: a server is killed within the rounds that write batches to disk, from the first write of a part to the last
+  sync of the list, and started again
 - bytes: each byte of a small directory is changed, and each file cut, lengthened, missing and exchanged
 - disks: files may not pass a size, or a file system is full
 - cuts: the calls of a run are replayed, and what a power cut may leave at each of them is opened

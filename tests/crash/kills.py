@@ -19,6 +19,7 @@ LIVES = 10  # of a directory
 SHARE = 40  # percent of the kills that fall within a round, at least
 STEPS = {"part": "while a part was written", "list": "while the list was", "removal": "before old parts were removed",
          None: "after a round"}
+WITHIN = ("part", "list")  # between the first write of a part and the last sync of the list
 PATIENCE = 60
 FIRST_DAY = 1_700_006_400  # a midnight
 DAY = 86_400
@@ -143,7 +144,9 @@ class Seen:
         return {file for file in self.files if file not in directory.SLOTS and file not in named}
 
     def step(self, before):
-        """Returns the step of a round that had begun and not ended, or None. What earlier kills left does not count."""
+        """Returns the step of a round that had begun and not ended, or None. What earlier kills left does not count.
+        Once the gate of the new list is open the step is the removal, also before the gate is synced: of that the files
+        tell nothing."""
         old = before.unnamed()
         fresh = {file for file in self.unnamed() if file not in old or self.is_written_after(before, file)}
         slot = (self.live.generation + 1) % 2 if self.live else 1
@@ -167,7 +170,7 @@ class Kills:
     def run(self):
         for n in range(0, self.count, LIVES):
             self.run_directory(os.path.join(self.work, f"kills{n}"), min(LIVES, self.count - n))
-        within = self.count - self.steps[None]
+        within = sum(self.steps[step] for step in WITHIN)
         want(f"only {within} of {self.count} kills fell within a round", 100 * within >= SHARE * self.count)
         places = ", ".join(f"{self.steps[step]} {text}" for step, text in STEPS.items())
         return (f"{self.count} kills: {places}; rows of up to {self.days} days; {self.inserts} inserts accepted, "
@@ -214,7 +217,7 @@ class Kills:
     def judge(self, step):
         """Counts a kill. Where it came too late the next ones come earlier, and the rounds have more parts to write."""
         self.steps[step] += 1
-        if step is None:
+        if step not in WITHIN:
             self.longest, self.days = self.longest / 2, min(MOST_DAYS, 2 * self.days)
         else:
             self.longest = min(LONGEST, self.longest * 1.3)

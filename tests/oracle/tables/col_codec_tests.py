@@ -1,10 +1,16 @@
 """Columns of integers and of texts (docs/BYTES.md): their bytes, what bytes say, and what a column at the front of
-other bytes says. A column that is taken from the front may have another spelling, and is written in the one."""
+other bytes says. A column that is taken from the front may have another spelling, and is written in the one.
+
+For a line `masks` the program compares the masks of its own columns with a plain comparison, and says so. What is
+computed is how many integers it has between the two of the line.
+"""
 from byte_items import Damaged, Items, bytes_of, check_spelling, cut_once, damaged_copies, number_or
 from chance import lines_of, table
 from columns import fitting, put_integers, put_texts, take_integers, take_texts
 
 ROOM = 1048576  # more bytes of texts are left out
+# integers at the ends of what 1, 2, 4 and 8 bytes hold
+EDGES = (0, 2**8 - 1, 2**8, 2**16 - 1, 2**16, 2**32 - 1, 2**32, -(2**63), 2**63 - 1)
 
 
 def answers(stdin):
@@ -14,6 +20,8 @@ def answers(stdin):
 def answer(line):
     call, rest = cut_once(line, " ")
     rest = rest or ""
+    if call == "masks":
+        return masks(*map(int, rest.split(" ")))
     rows, digits = cut_once(rest, " ")
     rows, data = number_or(rows, 0), bytes_of(digits or "")
     if call == "ints":
@@ -26,6 +34,12 @@ def answer(line):
         return "no call"
     take, put = (take_integers, put_integers) if call.endswith("ints") else (take_texts, put_texts)
     return (read if call.startswith("read") else taken)(data, rows, take, put)
+
+
+def masks(least, most):
+    """Counts the edges and the integers beside them that lie between these two."""
+    beside = (max(-(2**63), min(edge + step, 2**63 - 1)) for edge in EDGES for step in (-1, 0, 1))
+    return f"alike with {sum(least <= value <= most for value in beside)} edges"
 
 
 def read(data, rows, take, put):
@@ -66,6 +80,8 @@ def listed(values):
 
 def cases(random):
     lines = ["ints ", "texts ", "read-ints 0 ", "read-texts 0 ", "take-texts 4294967295 00000000", "take-ints 2 0300"]
+    ends = [edge + step for edge in EDGES for step in (-1, 0, 1) if -(2**63) <= edge + step < 2**63]
+    lines += [f"masks {least} {most}" for least, most in (sorted(random.sample(ends, 2)) for _ in range(20))]
     integers = [[], [0], [-(2**63), 2**63 - 1], [2**63 - 1] * 3]
     for width in (1, 2, 4, 8):
         least = random.randrange(-(2**63), 2**63 - 256**width + 1) if width < 8 else -(2**63)

@@ -6,7 +6,8 @@ The first number of an answer says how often the block was opened, which the pro
 from blocks import Numbered, is_block, names_of, numbered_of, put_block, put_keys, read_block, values_of
 from byte_items import Damaged, bytes_of, cut_once, damaged_copies, number_or, text, unsigned
 from chance import lines_of, table
-from columns import DICTIONARY, INTEGERS, TEXTS, column_filter, kind_of, put_body, put_filter, put_texts
+from columns import CONSTANT, DICTIONARY, INTEGERS, TEXTS
+from columns import column_filter, distinct, kind_of, put_body, put_filter, put_texts
 from faults import Fault
 from rows import Row
 from tables.block_format_tests import some_rows
@@ -24,8 +25,8 @@ def answer(line):
     if call in ("made", "wide") and rest is not None:
         one, other = cut_once(rest, " ")
         return {"made": made, "wide": wide}[call](one, other or "")
-    if call == "head" and rest is not None:
-        return of_rows(rest, head)
+    if call in ("head", "lent") and rest is not None:
+        return of_rows(rest, {"head": head, "lent": lent}[call])
     if call == "batch" and rest is not None:
         number, line = cut_once(rest, " ")
         return of_rows(line or "", lambda rows: in_batch(rows, number_or(number, 0, 2**64)))
@@ -73,6 +74,29 @@ def shown(rows):
 def head(rows):
     size = sum(len(text.encode("utf-8")) for numbered in rows for pair in numbered.row.fields.items() for text in pair)
     return f"{outline(rows)} {size}{filters(rows)}"
+
+
+def lent(rows):
+    """Returns what an opened block lends: its labels, the times, and of each column, and of none, its values."""
+    found = "".join(f"{name}={value} " for name, value in in_order(rows[0].row.labels))
+    found += "at" + "".join(f" {numbered.row.time}" for numbered in rows)
+    for name in names_of(rows):
+        values = values_of(rows, name)
+        found += f"; {name}{lent_values(values)}"
+        found += f", {len(values)} integers" if kind_of(values) == INTEGERS else ""
+    return f"{found}; nobody {len(rows)} times []"
+
+
+def lent_values(values):
+    """Returns the values of a column as they are held, and of texts their lengths."""
+    kind, members = kind_of(values), distinct(values)
+    if kind == CONSTANT:
+        return f" {len(values)} times [{values[0]}]"
+    if kind == INTEGERS:
+        return "".join(f" {value}" for value in values)
+    if kind == DICTIONARY:
+        return "".join(f" {members.index(value)} [{value}]" for value in values)
+    return "".join(f" {len(value.encode('utf-8'))} bytes" for value in values)
 
 
 def in_batch(rows, number):
@@ -209,8 +233,8 @@ def cases(random):
     for _ in range(12):
         rows = some_rows(random)
         lines += [";".join(map(row_line, rows)), ";".join(map(row_line, random.sample(rows, len(rows))))]
-        lines.append("head " + lines[-2])
-        lines.append(f"batch {random.choice([0, 7, 2**64 - 1])} {lines[-3]}")
+        lines += [f"head {lines[-2]}", f"lent {lines[-2]}"]
+        lines.append(f"batch {random.choice([0, 7, 2**64 - 1])} {lines[-4]}")
         lines += [f"= {copy.hex()}" for copy in [put_block(rows), *damaged_copies(put_block(rows)[:200], random, 20)]]
         for _ in range(12):
             draft = Draft(rows)

@@ -4,6 +4,7 @@ from chance import lines_of, table
 from filters import holds, of_row, patterns_of
 from patterns import first_refused
 from queries import parse
+from shelves import Shelf
 from tables.column_block_tests import row_of
 
 
@@ -56,4 +57,7 @@ def cases(random):
         numbers = {}
         blocks = [block(random, app, (1, 2, 3), numbers) for app in "abab"[: random.randint(0, 4)]]
         lines.append("\t".join([random.choice(QUERIES), *(text for text in blocks if text)]))
+    for _ in range(100):
+        shelf = Shelf(random)
+        lines += ["\t".join([shelf.filter(3), *shelf.blocks()]) for _ in range(5)]
     return table(lines)

@@ -7,8 +7,9 @@ here is what the log then says.
 from chance import lines_of, table
 import connections
 from faults import Fault
+from needs import admitted, heads_of
 from rows import Options
-from sessions import UNSETTLED, HttpSession, Log, rows_of_body
+from sessions import UNSETTLED, HttpSession, Log, parsed, rows_of_body
 from spelling import spelled
 import streams
 from values import json_line
@@ -31,7 +32,8 @@ def cases(random):
 
 
 def checks():
-    return [streams.endless(), batches(), queries(), refusals(), full(), heavy(), two_sessions(), eight_sessions()]
+    alone = [streams.endless(), batches(), queries(), refusals(), full(), heavy(), opened()]
+    return [*alone, two_sessions(), eight_sessions()]
 
 
 def inserted(log, lines):
@@ -96,6 +98,18 @@ def heavy():
     body = b'{"bc":1}\n\n' * 5000
     told = served(log, insert(body, b"?extra_fields=a=" + b"x" * 14000))
     return f"rows that are too heavy are not taken in: {told}; front {len(log.batches)}"
+
+
+def opened():
+    """Of two blocks one has no `error` and no `x`, the other both."""
+    log, told = Log(), []
+    for lines in (b'{"_msg":"ok"}\n{"_msg":"fine"}\n', b'{"_msg":"an error","x":"1"}\n'):
+        told.append(inserted(log, lines))
+        for query in ("!error", "error", "ok", "ok or x:*"):
+            steps = admitted(parsed(query)[0], heads_of(log.batches), TIMES[0])
+            found = "".join(f" {json_line(record)[:-1]}" for record in log.records(query, TIMES[0]))
+            told.append(f"{query}: {steps} steps, {len(log.batches)} batches true{found}")
+    return f"a query opens the blocks that it needs: {'; '.join(told)}"
 
 
 def insert(body, arguments=b""):
