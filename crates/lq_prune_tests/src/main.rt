@@ -2,8 +2,8 @@
 //!
 //! A line is a moment in nanoseconds, a query and blocks, with tabs between them. A block is its rows, cut at
 //! semicolons: of each its time, its batch and its place, the names of its labels, and its fields. The program writes
-//! of each block whether the query may have rows in it, and how many of its rows hold at that moment. The answers were
-//! worked out by hand from the rules on what a query needs of a block.
+//! of each block whether the query may have rows in it, and how many of its rows hold at that moment. The answers are
+//! those of a plain program in Python.
 #![tactic(auto)]
 
 mod block_tests;
