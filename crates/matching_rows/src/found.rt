@@ -53,7 +53,7 @@ fn push_found(
     requires each { All (IsFound opened.now) found.old.items }
     ensures found { OnOk result (HasFound opened.now (map (row_there opened.now) found.old.items
         ++ matches_in (condition_of_scanner scanner.old) (moment_of_scanner scanner.old)
-            (slice_index_or opened.now block [])) found.new.items) }
+        (slice_index_or opened.now block [])) found.new.items) }
     ensures filter { condition_of_scanner scanner.new ≡ condition_of_scanner scanner.old }
     ensures moment { moment_of_scanner scanner.new ≡ moment_of_scanner scanner.old }
 {
@@ -73,7 +73,7 @@ fn push_marked(
     requires each { All (IsFound opened.now) found.old.items }
     ensures { OnOk result ((test : Numbered → Bool) → mask.now ≡ map test (slice_index_or opened.now block [])
         → HasFound opened.now (map (row_there opened.now) found.old.items
-            ++ filter test (slice_index_or opened.now block [])) found.new.items) }
+        ++ filter test (slice_index_or opened.now block [])) found.new.items) }
 {
     let rows = &opened[block];
     for row in 0..mask.len() {

@@ -113,13 +113,12 @@ AreChained (a ∷ b ∷ blocks) = IsFollowedBy a b × AreChained (b ∷ blocks)
 chained : (blocks : List (List Numbered)) → AreFollowed blocks → AreChained blocks
 chained [] h = tt
 chained (a ∷ []) h = tt
-chained (a ∷ b ∷ blocks) h =
-    (
-      h 0 [] (omega arith),
-      chained (b ∷ blocks) (λ k d lt.
-          let next : suc k + 1 ≡ suc (k + 1) = omega arith in
-          subst (λ (n : ℕ). IsFollowedBy (get_or (b ∷ blocks) k d) (get_or (a ∷ b ∷ blocks) n d)) next (h (suc k) d (omega (arith, lt)))),
-    )
+chained (a ∷ b ∷ blocks) h = (
+  h 0 [] (omega arith),
+  chained (b ∷ blocks) (λ k d lt.
+      let next : suc k + 1 ≡ suc (k + 1) = omega arith in
+      subst (λ (n : ℕ). IsFollowedBy (get_or (b ∷ blocks) k d) (get_or (a ∷ b ∷ blocks) n d)) next (h (suc k) d (omega (arith, lt)))),
+)
 
 begins-with : (x : Numbered) (rows : List Numbered) (first : Numbered) → slice_get (x ∷ rows) 0 ≡ Some first → x ≡ first
 begins-with x rows first e = cc

@@ -172,7 +172,7 @@ module _ (need : TheNeed) where
           part_count,
           ap (λ l. length (admitted_by need (flat_map blocks_of l))) (sym (take-append-drop (i + 1) parts)),
           ap (λ l. length (admitted_by need l))
-          (flat_map-append blocks_of (take (i + 1) parts) (drop (i + 1) parts)),
+              (flat_map-append blocks_of (take (i + 1) parts) (drop (i + 1) parts)),
           ap length (admitted_joined (flat_map blocks_of (take (i + 1) parts)) (flat_map blocks_of (drop (i + 1) parts))),
           length-append (admitted_by need (flat_map blocks_of (take (i + 1) parts))) rest,
         )

@@ -34,7 +34,7 @@ pub(crate) fn rows_matched<'s, L>(
     ensures few { IfOk result (λ rows. length rows.items < row_limit) }
     ensures fault { IfErr result (λ fault. (history : History) → Stands (λ rows. rows) snapshot.now history
         → FailsMatching (rows_that_hold (condition asked.entry.query.now.filter) asked.entry.moment (rows_of history))
-            fault) }
+        fault) }
     ensures steps { OnOk result (Counts steps.old
         (admitted (question asked.entry.query.now) asked.entry.moment (parts_of snapshot.now)) steps.new) }
     ensures fault_steps { IfErr result (λ fault. CountsUntil fault steps.old
