@@ -116,6 +116,22 @@ printf '{"n":"9223372036854775807"}\n{"n":"1"}\n' | "$program" pipe '* | stats s
 status=$?; wants "" $'query: Overflow in total\n'
 judge "a sum that does not fit 64 bits" $status 1
 
+printf '{"n":"9223372036854775807"}\n' | "$program" pipe '* | math n + 1 as total' > "$work/out" 2> "$work/err"
+status=$?; wants "" $'query: Overflow in total\n'
+judge "a number of math that does not fit 64 bits" $status 1
+
+"$program" pipe '* | extract "GET <path> HTTP" | top 2 by (path)' < "$top/examples/access.jsonl" > "$work/out" 2> "$work/err"
+status=$?; wants $'{"hits":"4","path":"/index.html"}\n{"hits":"2","path":"/static/site.css"}\n' $'line 24: NotJson\n'
+judge "the paths that were asked for most" $status 0
+
+"$program" pipe '* | stats sum(bytes) as sum, count(bytes) as n | math sum div n as mean' < "$top/examples/access.jsonl" > "$work/out" 2> "$work/err"
+status=$?; wants $'{"mean":"16998","n":"25","sum":"424955"}\n' $'line 24: NotJson\n'
+judge "the mean of bytes" $status 0
+
+"$program" pipe 'a | extract "<a><b>"' < "$work/three" > "$work/out" 2> "$work/err"
+status=$?; wants "" $'query: BadPattern at 12\n'
+judge "a pattern that cannot be read" $status 1
+
 "$program" pipe 'a | filter ~"("' < "$work/three" > "$work/out" 2> "$work/err"
 status=$?; wants "" $'query: RegexRefused number 0\n'
 judge "an invalid regular expression" $status 1

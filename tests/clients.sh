@@ -248,6 +248,9 @@ refusals_by_curl() {
     $'{"n":"9223372036854775807","part":"total"}\n{"n":"1","part":"total"}'
   is_refused "a sum that does not fit 64 bits" '422 Unprocessable Content' 'Overflow in total' \
     "$select" --data-urlencode 'query=part:total | stats sum(n) as total'
+  is_refused "a number of math that does not fit 64 bits" '422 Unprocessable Content' 'Overflow in twice' \
+    "$select" --data-urlencode 'query=part:total | math n * 2 as twice'
+  is_refused "a pattern that cannot be read" "$bad" 'BadPattern at 12' "$select" --data-urlencode 'query=* | extract "id="'
   # 7,000 rows of 10,003 bytes: a, b, x and 10,000 bytes
   many=$(printf 'y%.0s' {1..10000})
   printf '{"a":"b"}\n%.0s' {1..7000} > "$work/heavy"

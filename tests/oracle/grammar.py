@@ -63,7 +63,9 @@ def name(reserved=(), role=None, but=()):
 BEGIN = Step("begin")
 NAME = [name(), Step("name")]
 LISTED = [name(("asc", "desc", "as")), Step("name")]
+SET = [name(("as", "div", "mod")), Step("name")]
 BARE = Test(lambda token: token.kind == "Bare")
+QUOTED = Test(lambda token: token.kind == "Quoted")
 OPEN, CLOSE, COMMA, COLON, EQUALS = mark("("), mark(")"), mark(","), mark(":"), mark("=")
 GLUED_OPEN = mark("(", glued=True)
 STAR_AFTER = mark("*", glued=True)
@@ -142,9 +144,8 @@ def add_times_and_streams(rules):
         [mark("[("), Step("bracket"), "bound", COMMA, "bound", mark("])"), Step("bracket"), Step("times")],
     ]
     for kind in ("span", "bound"):
-        quoted_time = Test(lambda token: token.kind == "Quoted")
         bare_time = Test(lambda token: token.kind == "Bare", role="time")
-        rules[kind] = [[BEGIN, quoted_time, Step(kind)], [BEGIN, bare_time, "time more", Step(kind)]]
+        rules[kind] = [[BEGIN, QUOTED, Step(kind)], [BEGIN, bare_time, "time more", Step(kind)]]
     glued_bare = Test(lambda token: token.kind == "Bare", glued=True, role="time")
     rules["time more"] = [[glued_bare, "time more"], [mark(":-+", True, "time"), "time more"], []]
     rules["selector"] = [
@@ -196,7 +197,36 @@ def add_pipes(rules):
         [keyword("filter", "where"), "or inside", Step("pipe", ("Keep", 1))],
         [keyword("stats"), *by, OPEN, "stats keys", CLOSE, "functions", Step("pipe", ("Stats", 2))],
         [keyword("stats"), Step("constant", []), "functions", Step("pipe", ("Stats", 2))],
+        ["row pipe"],
     ]
+
+
+def add_row_pipes(rules):
+    """Adds the pipes that set fields. In them `as`, `div` and `mod` are keywords wherever a name may stand."""
+    for kind in ("extracting pattern", "pattern"):
+        rules[kind] = [[BEGIN, QUOTED, Step("text"), Step("item", kind)]]
+    rules["source"] = [[keyword("from"), *SET], [Step("constant", "_msg")]]
+    rules["target"] = [[keyword("as"), *SET], SET]
+    add_list(rules, "math items", ["expression", "target", Step("pair")])
+    rules["row pipe"] = [
+        [keyword("extract"), "extracting pattern", "source", Step("pipe", ("Extract", 2))],
+        [keyword("format"), "pattern", "target", Step("pipe", ("Format", 2))],
+        [keyword("len"), OPEN, *SET, CLOSE, "target", Step("pipe", ("Len", 2))],
+        [keyword("math"), "math items", Step("pipe", ("Math", 1))],
+    ]
+    operand = Test(lambda token: token.kind == "Bare" and token.keyword not in ("as", "div", "mod"))
+    parentheses = [OPEN, Step("enter"), "expression", CLOSE, Step("leave")]
+    rules["atom"] = [[operand, Step("operand")], [QUOTED, Step("operand")], parentheses]
+    add_operations(rules, "term", "atom", {"*": mark("*"), "div": keyword("div"), "mod": keyword("mod")})
+    add_operations(rules, "expression", "term", {"+": mark("+"), "-": mark("-")})
+
+
+def add_operations(rules, kind, operand, operators):
+    """Adds the rule of operands with operators between them, which are done from left to right."""
+    rules[kind] = [[operand, kind + " more"]]
+    rules[kind + " more"] = [
+        [token, operand, Step("operation", operator), kind + " more"] for operator, token in operators.items()
+    ] + [[]]
 
 
 def add_statistics(rules):
@@ -226,6 +256,7 @@ def all_rules():
     add_leaves(rules)
     add_times_and_streams(rules)
     add_pipes(rules)
+    add_row_pipes(rules)
     add_statistics(rules)
     return rules
 

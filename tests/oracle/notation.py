@@ -1,5 +1,6 @@
 """The small notation for records and pipes in which tables are written."""
-from values import in_order, record_of
+from making import OPERATIONS, extracting_pattern_of, pattern_of
+from values import in_order, number, record_of
 
 
 def pairs(text, between="&"):
@@ -86,6 +87,42 @@ def filter_of(test):
     return "Regex", field, pattern
 
 
+def extract(field, text):
+    """Returns the pipe, or None where the text is no pattern of it."""
+    pattern = extracting_pattern_of(text)
+    return pattern and ("Extract", pattern, field)
+
+
+def format_(name, text):
+    """Returns the pipe, or None where the text is no pattern."""
+    pattern = pattern_of(text)
+    return None if pattern is None else ("Format", pattern, name)
+
+
+def math(words):
+    """Returns the pipe of words `expression>name`. One that has no `>`, or is no expression, is left out."""
+    items = []
+    for word in words.split(" "):
+        parts, arrow, name = word.partition(">")
+        expression = expression_of(parts.split(","))
+        if arrow and expression:
+            items.append((expression, name))
+    return "Math", items
+
+
+def expression_of(parts):
+    """Returns the expression of operands and operators, each operator after its two operands. None if it is none."""
+    operands = []
+    for part in parts:
+        if part not in OPERATIONS:
+            operands.append(("Named", part) if number(part) is None else ("Whole", number(part)))
+        elif len(operands) < 2:
+            return None
+        else:
+            operands[-2:] = [("Two", part, *operands[-2:])]
+    return operands[-1]
+
+
 def pairs_of_names(text):
     return [tuple(pair.split(">", 1)) if ">" in pair else (pair, pair) for pair in text.split(",")]
 
@@ -99,6 +136,13 @@ def pipe(text):
         return word.capitalize(), pairs_of_names(rest)
     if word in ("limit", "offset"):
         return word.capitalize(), whole(rest, 0)
+    if word in ("extract", "format"):
+        name, _, text = rest.partition(" ")
+        return extract(name, text) if word == "extract" else format_(name, text)
+    if word == "len":
+        return "Len", *pairs_of_names(rest)[0]
+    if word == "math":
+        return math(rest)
     if word == "sort":
         return sort(rest)
     if word == "uniq":

@@ -77,6 +77,38 @@ def stats(random):
     return " ".join(keys + [function(random, place) for place in range(random.randint(1, 4))])
 
 
+PATTERNS = (
+    "<a>", "x=<a>", "<a>1", "<a> <b>", "1<a>2<b>", "<b>é<c>", "<_>-<a>", "<>b<a>", "a<a>b<a>", "<_msg>.<_time>",
+    "-<none>-<a>-", "<a>0<b>0<c>0",
+)  # fmt: skip
+FORMATS = (*PATTERNS, "", "x", "<a><b>", "<none>", "<a>:<_>", "<>", "<_time> <_stream>")
+OPERANDS = (*NAMES, *NAMES, "0", "1", "-1", "2", "10", "-7", str(2**63 - 1), str(-(2**63)), "007", "1.5")
+
+
+def row_pipe(random):
+    """Returns a pipe that sets fields."""
+    from_, name = random.choice(NAMES), random.choice(NAMES)
+    return random.choice((
+        lambda: f"extract {from_} {random.choice(PATTERNS)}",
+        lambda: f"format {name} {random.choice(FORMATS)}",
+        lambda: f"len {from_}>{name}",
+        lambda: math(random),
+        lambda: math(random),
+    ))()  # fmt: skip
+
+
+def math(random):
+    items = [f"{expression(random, 2)}>{random.choice(NAMES)}" for _ in range(random.choice((1, 1, 2, 3)))]
+    return "math " + " ".join(items)
+
+
+def expression(random, depth):
+    if depth == 0 or random.random() < 0.3:
+        return random.choice(OPERANDS)
+    left, right = expression(random, depth - 1), expression(random, depth - 1)
+    return f"{left},{right},{random.choice(('+', '-', '*', 'div', 'mod'))}"
+
+
 # those that make a pipe which is compared with a slow one
 COMPARED = (sort, uniq, top, lambda random: "stats " + stats(random))
 
@@ -96,6 +128,8 @@ def pipe(random):
         lambda: top(random),
         lambda: "stats " + stats(random),
         lambda: "filter " + test(random),
+        lambda: row_pipe(random),
+        lambda: row_pipe(random),
     ))()  # fmt: skip
 
 

@@ -3,6 +3,7 @@ from functools import cmp_to_key
 
 from faults import Fault
 from filters import holds, of_record, patterns_of
+from making import MAKINGS, made
 import moments
 from patterns import first_refused
 from values import number, quoted, record_of, set_field, tuple_key, value_key
@@ -14,7 +15,10 @@ def apply(pipes, records):
     if refused is not None:
         raise Fault("RegexRefused", refused)
     for kind, *parts in pipes:
-        records = PIPES[kind](records, *parts)
+        if kind in MAKINGS:
+            records = [made(record, kind, parts) for record in records]
+        else:
+            records = PIPES[kind](records, *parts)
     return records
 
 

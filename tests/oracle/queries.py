@@ -3,18 +3,21 @@
 A pipe is its kind and its parts, as `("Fields", names)`, `("Rename", pairs)`, `("Limit", n)`, `("Keep", filter)`,
 `("Sort", keys, limit, offset)` with keys of a name and whether it goes down, `("Uniq", names, hits, limit)`,
 `("Top", n, names)`, and `("Stats", keys, functions)` with keys of a name and a step or None. A function is its call,
-its names, its filter or None, and the name of its value. The module `filters` says what a filter is.
+its names, its filter or None, and the name of its value. A pipe that sets fields is `("Extract", pattern, field)`,
+`("Format", pattern, name)`, `("Len", field, name)`, or `("Math", items)` with items of an expression and a name. The
+module `filters` says what a filter is, and `making` what patterns and expressions are.
 """
 from derivations import derive, listed
 from faults import Fault, result_of
 from filters import GREATEST, LEAST
+from making import extracting_pattern_of, pattern_of
 import moments
 from tokens import Token, tokens_of
 from values import number
 from words import size
 
 DEPTH = 64
-RANKS = ("Syntax", "TooDeep", "BadNumber", "BadTime", "BadDuration")
+RANKS = ("Syntax", "TooDeep", "BadNumber", "BadTime", "BadDuration", "BadPattern")
 NO_FAULT = (float("inf"), 0)
 INFINITE = {"inf": GREATEST, "-inf": LEAST}
 
@@ -44,6 +47,8 @@ ITEMS = {
     "size": (count_of, "BadNumber"),
     "high": (lambda text: 2**64 - 1 if text == "inf" else count_of(text), "BadNumber"),
     "step": (step_of, "BadDuration"),
+    "pattern": (pattern_of, "BadPattern"),
+    "extracting pattern": (extracting_pattern_of, "BadPattern"),
 }
 
 
@@ -229,6 +234,14 @@ class Reader:
         """`desc` after the list turns every key around."""
         keys, turned, limit, offset = self.pop(4)
         self.pipes.append(("Sort", [(name, down != turned) for name, down in keys], limit, offset or 0))
+
+    def on_operand(self, _):
+        """A text without quotes that is a number stands for it, and any other for the field of this name."""
+        whole = number(self.last.text) if self.last.kind == "Bare" else None
+        self.values.append(("Named", self.last.text or "_msg") if whole is None else ("Whole", whole))
+
+    def on_operation(self, operator):
+        self.values.append(("Two", operator, *self.pop(2)))
 
     def on_call(self, call):
         self.values.append((call, *self.pop(1)))

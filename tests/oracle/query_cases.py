@@ -4,7 +4,8 @@ from chance import mutated
 BARE = (
     "a", "b", "error", "é", "日本", "a.b", "/x", "x-1", "_msg", "_time", "_stream", "_stream_id", "and", "OR", "not",
     "in", "i", "seq", "range", "len_range", "string_range", "by", "as", "asc", "desc", "limit", "offset", "if", "inf",
-    "with", "hits", "count", "5m", "10", "2024-05-01", "T10", "٣",
+    "with", "hits", "count", "5m", "10", "2024-05-01", "T10", "٣", "from", "extract", "format", "len", "math", "div",
+    "MOD", "a-b", "a/b",
 )  # fmt: skip
 QUOTED = (
     '""', '"a b"', "'x'", "`y`", '"and"', '"_time"', '"\\n"', '"\\""', "'it\\'s'", "`\\`", '"␊"', '"␀␉"', '"é🙂"',
@@ -31,6 +32,12 @@ COUNTS = (
     "0", "1", "2", "3", "10", "9223372036854775807", "9223372036854775808", "18446744073709551615", "-1", "x", "007",
     '"5"', "1.5",
 )  # fmt: skip
+EXTRACTED = (
+    '"<a>"', '"x=<a> y"', "'<a>, <b>: <a>'", "`<_> <>-`", '"é<é>é"', '"<a><b>"', '""', '"none"', '"<a"', '"a>b<c>"',
+    '"<a<b>>"', '"x<"', '"<a> <"', '"\\n<a>"', "name",
+)  # fmt: skip
+FORMATTED = (*EXTRACTED, '"<>"', '"<a><b>, <_>"', "`>`")
+OPERATORS = ("+", "-", "*", "div", "mod", "Div", "MOD")
 NOTS = ("!", "-", "not", "NOT", "Not")
 LETTERS = "ab01é:|()[]{},=!~*<>-+ \"'`\\␊#"
 
@@ -141,8 +148,33 @@ class Queries:
         limit, offset = ["limit", self.often(COUNTS)], ["offset", self.often(COUNTS)]
         return self.one(([], [], limit, offset, limit + offset, offset + limit, limit + limit))
 
+    def target(self):
+        return [*self.one((["as"], ["As"], [])), self.name()]
+
+    def operand(self, depth):
+        if depth and self.random.random() < 0.25:
+            return ["(", *self.expression(depth - 1), ")"]
+        return [self.one((self.name(), self.name(), self.often(("0", "1", "10", *NUMBERS))))]
+
+    def expression(self, depth=3):
+        pieces = self.operand(depth)
+        while self.random.random() < 0.4:
+            pieces = [*pieces, self.one(OPERATORS), *self.operand(depth)]
+        return pieces
+
+    def row_pipe(self):
+        """Returns a pipe that sets fields."""
+        form = self.random.randint(0, 4)
+        if form == 0:
+            return ["extract", self.one(EXTRACTED), *self.one(([], ["from", self.name()]))]
+        if form == 1:
+            return ["format", self.one(FORMATTED), *self.target()]
+        if form == 2:
+            return [self.one(("len", "LEN")), "(", self.name(), ")", *self.target()]
+        return [self.one(("math", "Math")), *self.list_of(lambda: [*self.expression(), *self.target()])]
+
     def pipe(self):
-        form, by = self.random.randint(0, 8), self.one((["by"], []))
+        form, by = self.random.randint(0, 10), self.one((["by"], []))
         if form == 0:
             return [self.one(("fields", "keep", "delete", "DEL", "rm", "drop")), *self.names()]
         if form == 1:
@@ -159,6 +191,8 @@ class Queries:
             return ["top", *self.one(([], [self.often(COUNTS)])), *by, "(", *self.names(), ")"]
         if form == 6:
             return [self.one(("filter", "where")), *self.filter(3, inside=True)]
+        if form < 9:
+            return self.row_pipe()
         keys = self.one(([], [*by, "(", *self.list_of(self.key), ")"]))
         return [self.one(("stats", "Stats")), *keys, *self.list_of(self.function)]
 
@@ -189,6 +223,8 @@ def deep_queries():
         lines += ["!" * depth + "a", "not " * depth + "a", "a:" + "-" * depth + "b", "!(" * half + "a" + ")" * half]
         lines += [f"* | stats count() if {opened}a{closed}", "* | filter " + "!" * depth + "a", "(a) " * depth, "!a " * depth]
         lines += [f"{opened[1:]}a{closed[1:]} | stats count() if (!a)"]
+        lines += [f"* | math {opened}a{closed} as b", f"* | math {'(' * half}a + {'(' * half}b"]
+        lines += [f"(a) | math {opened[1:]}1{closed[1:]} b, (2) c"]
     return lines
 
 

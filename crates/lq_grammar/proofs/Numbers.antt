@@ -1,14 +1,15 @@
 -- The numbers of roles are small.
 use Rattle.std.proofs.Common.{◌<◌, lit<}
 use Rattle.lq_grammar.specs.declared.role.Role.{Role}
-use Rattle.lq_grammar.specs.declared.role.Role.TheVariants.{And, Or, Not, Asc, Desc, As, If, Fields, Delete, Rename}
-use Rattle.lq_grammar.specs.declared.role.Role.TheVariants.{Copy, Limit, Head, Offset, Skip, Sort, Uniq, Stats}
-use Rattle.lq_grammar.specs.declared.role.Role.TheVariants.{Filter, Top, By, With, Hits, Count, CountEmpty, CountUniq}
-use Rattle.lq_grammar.specs.declared.role.Role.TheVariants.{Sum, Min, Max, UniqValues, Bare, In, I, Seq, LenRange}
-use Rattle.lq_grammar.specs.declared.role.Role.TheVariants.{StringRange, Range, Time, Stream, QuotedTime, Quoted, Bar}
-use Rattle.lq_grammar.specs.declared.role.Role.TheVariants.{Open, Close, SquareOpen, SquareClose, CurlyOpen}
-use Rattle.lq_grammar.specs.declared.role.Role.TheVariants.{CurlyClose, Comma, Colon, Equals, Bang, Tilde, Star, Less}
-use Rattle.lq_grammar.specs.declared.role.Role.TheVariants.{Greater, Minus, Plus}
+use Rattle.lq_grammar.specs.declared.role.Role.TheVariants.{And, Or, Not, Asc, Desc, As, Div, Mod, If, Fields, Delete}
+use Rattle.lq_grammar.specs.declared.role.Role.TheVariants.{Rename, Copy, Limit, Head, Offset, Skip, Sort, Uniq, Stats}
+use Rattle.lq_grammar.specs.declared.role.Role.TheVariants.{Filter, Top, Extract, Format, Len, Math, By, From, With}
+use Rattle.lq_grammar.specs.declared.role.Role.TheVariants.{Hits, Count, CountEmpty, CountUniq, Sum, Min, Max}
+use Rattle.lq_grammar.specs.declared.role.Role.TheVariants.{UniqValues, Bare, In, I, Seq, LenRange, StringRange, Range}
+use Rattle.lq_grammar.specs.declared.role.Role.TheVariants.{Time, Stream, QuotedTime, Quoted, Bar, Open, Close}
+use Rattle.lq_grammar.specs.declared.role.Role.TheVariants.{SquareOpen, SquareClose, CurlyOpen, CurlyClose, Comma}
+use Rattle.lq_grammar.specs.declared.role.Role.TheVariants.{Colon, Equals, Bang, Tilde, Star, Less, Greater, Minus}
+use Rattle.lq_grammar.specs.declared.role.Role.TheVariants.{Plus}
 use Rattle.lq_grammar.specs.Roles.{number, apart_by}
 
 pub number_bound : (role : Role) → number role < apart_by
@@ -18,6 +19,8 @@ number_bound Not = lit< tt
 number_bound Asc = lit< tt
 number_bound Desc = lit< tt
 number_bound As = lit< tt
+number_bound Div = lit< tt
+number_bound Mod = lit< tt
 number_bound If = lit< tt
 number_bound Fields = lit< tt
 number_bound Delete = lit< tt
@@ -32,7 +35,12 @@ number_bound Uniq = lit< tt
 number_bound Stats = lit< tt
 number_bound Filter = lit< tt
 number_bound Top = lit< tt
+number_bound Extract = lit< tt
+number_bound Format = lit< tt
+number_bound Len = lit< tt
+number_bound Math = lit< tt
 number_bound By = lit< tt
+number_bound From = lit< tt
 number_bound With = lit< tt
 number_bound Hits = lit< tt
 number_bound Count = lit< tt

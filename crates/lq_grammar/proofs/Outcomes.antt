@@ -16,8 +16,8 @@ use Rattle.lq_lex.specs.declared.fault.LexFault.{LexFault}
 use Rattle.lq_lex.proofs.Chains.{lexed_same}
 use Rattle.lq_grammar.specs.declared.fault.QueryFault.{QueryFault}
 use Rattle.lq_grammar.specs.declared.fault.QueryFault.TheVariants.{Lex, Syntax, TooDeep, BadNumber, BadTime}
-use Rattle.lq_grammar.specs.declared.fault.QueryFault.TheVariants.{BadDuration, Memory}
-use Rattle.lq_grammar.specs.Values.{Bytes, Reason, bad_number, bad_time, bad_duration}
+use Rattle.lq_grammar.specs.declared.fault.QueryFault.TheVariants.{BadDuration, BadPattern, Memory}
+use Rattle.lq_grammar.specs.Values.{Bytes, Reason, bad_number, bad_time, bad_duration, bad_pattern}
 use Rattle.lq_grammar.specs.Items.{item_of}
 use Rattle.lq_grammar.specs.Query.{Items, HasItems, IsQuery, IsFlawed, HasFault, ComesFirst, IsFirstFault, place_or_end}
 use Rattle.lq_grammar.specs.Query.{place_of, rank, flaw_fault, QueryOf}
@@ -59,6 +59,7 @@ flaw_has text items too_deep at h = h
 flaw_has text items (refused bad_number) at h = h
 flaw_has text items (refused bad_time) at h = h
 flaw_has text items (refused bad_duration) at h = h
+flaw_has text items (refused bad_pattern) at h = h
 
 -- each fault is the place where no query goes on, or a flaw
 data Kinds (text : Bytes) (items : Items) (fault : QueryFault) : Type 0 where
@@ -74,6 +75,7 @@ kinds text items (TooDeep at) h = flaw_at too_deep at refl h
 kinds text items (BadNumber at) h = flaw_at (refused bad_number) at refl h
 kinds text items (BadTime at) h = flaw_at (refused bad_time) at refl h
 kinds text items (BadDuration at) h = flaw_at (refused bad_duration) at refl h
+kinds text items (BadPattern at) h = flaw_at (refused bad_pattern) at refl h
 kinds text items Memory h = absurd h
 
 flaw_place : (flaw : Flaw Reason) (at : ℕ) → place_of (flaw_fault flaw at) ≡ at
@@ -81,6 +83,7 @@ flaw_place too_deep at = refl
 flaw_place (refused bad_number) at = refl
 flaw_place (refused bad_time) at = refl
 flaw_place (refused bad_duration) at = refl
+flaw_place (refused bad_pattern) at = refl
 
 same_first : (one other : QueryFault) → one ≡ other → ComesFirst one other
 same_first one other e = inr (ap place_of e, omega (arith, ap rank e))
@@ -185,7 +188,8 @@ ranked n at =
     if n == 2 then Syntax at
     else (if n == 3 then TooDeep at
     else (if n == 4 then BadNumber at
-    else (if n == 5 then BadTime at else BadDuration at)))
+    else (if n == 5 then BadTime at
+    else (if n == 6 then BadDuration at else BadPattern at))))
 
 is_ranked : (text : Bytes) (items : Items) (fault : QueryFault) → HasFault text items fault
     → fault ≡ ranked (rank fault) (place_of fault)
@@ -195,6 +199,7 @@ is_ranked text items (TooDeep at) h = refl
 is_ranked text items (BadNumber at) h = refl
 is_ranked text items (BadTime at) h = refl
 is_ranked text items (BadDuration at) h = refl
+is_ranked text items (BadPattern at) h = refl
 is_ranked text items Memory h = absurd h
 
 both_first : (one other : QueryFault) → ComesFirst one other → ComesFirst other one
@@ -248,6 +253,7 @@ found text (Err (TooDeep at)) h = inr h
 found text (Err (BadNumber at)) h = inr h
 found text (Err (BadTime at)) h = inr h
 found text (Err (BadDuration at)) h = inr h
+found text (Err (BadPattern at)) h = inr h
 found text (Err Memory) h = inr h
 
 same_items : (text : Bytes) (one other : Items) → HasItems text one → HasItems text other → one ≡ other
@@ -294,6 +300,7 @@ outcome_found text items has (Err (TooDeep at)) h = (items, has, h)
 outcome_found text items has (Err (BadNumber at)) h = (items, has, h)
 outcome_found text items has (Err (BadTime at)) h = (items, has, h)
 outcome_found text items has (Err (BadDuration at)) h = (items, has, h)
+outcome_found text items has (Err (BadPattern at)) h = (items, has, h)
 outcome_found text items has (Err Memory) h = (items, has, h)
 
 -- of a text with tokens

@@ -6,10 +6,11 @@ use Rattle.grammar.specs.Spelling.{too_deep, refused}
 use Rattle.grammar.specs.Reading.{Stop, stuck, flawed, Answer, read_name, read_at, items_at}
 use Rattle.lq_grammar.specs.declared.role.Role.TheVariants.{Colon}
 use Rattle.lq_grammar.specs.Roles.{any}
-use Rattle.lq_grammar.specs.Values.{Bytes, Reason, Filtering, bad_number, bad_time, bad_duration}
-use Rattle.lq_grammar.specs.LogsQL.{Parse, Name, heads, rules, logsql}
+use Rattle.lq_grammar.specs.Values.{Bytes, Reason, bad_number, bad_time, bad_duration, bad_pattern}
+use Rattle.lq_grammar.specs.LogsQL.{Parse, Name, Value, heads, rules, logsql}
 use Rattle.lq_grammar.specs.declared.fault.Stop.{Stop as Halt}
-use Rattle.lq_grammar.specs.declared.fault.Stop.TheVariants.{Stuck, TooDeep, BadNumber, BadTime, BadDuration, Memory}
+use Rattle.lq_grammar.specs.declared.fault.Stop.TheVariants.{Stuck, TooDeep, BadNumber, BadTime, BadDuration, BadPattern}
+use Rattle.lq_grammar.specs.declared.fault.Stop.TheVariants.{Memory}
 use Rattle.lq_lex.specs.declared.fault.LexFault.{LexFault}
 use Rattle.lq_lex.specs.declared.fault.LexFault.TheVariants.{Memory as LexMemory}
 use Rattle.lq_grammar.specs.declared.fault.QueryFault.{QueryFault}
@@ -22,6 +23,7 @@ Fails (TooDeep at) r = r ≡ Err (flawed too_deep at)
 Fails (BadNumber at) r = r ≡ Err (flawed (refused bad_number) at)
 Fails (BadTime at) r = r ≡ Err (flawed (refused bad_time) at)
 Fails (BadDuration at) r = r ≡ Err (flawed (refused bad_duration) at)
+Fails (BadPattern at) r = r ≡ Err (flawed (refused bad_pattern) at)
 Fails Memory r = Unit {0}
 
 -- What was returned, seen by view, is what reading gives, unless memory ran out.
@@ -34,7 +36,7 @@ abbrev pub at : {A : Type 0} → ℕ → Parse A → List (Token Bytes) → Answ
 at depth rule u = read_at logsql depth rule u
 
 -- what a name reads
-abbrev pub name_at : ℕ → Name → List (Token Bytes) → Answer Bytes Reason Filtering
+abbrev pub name_at : ℕ → Name → List (Token Bytes) → Answer Bytes Reason Value
 name_at depth n u = read_name heads rules depth n u
 
 -- as long as the rule goes on

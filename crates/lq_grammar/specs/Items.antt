@@ -1,5 +1,5 @@
 -- What each token of a text is to the grammar.
-use Rattle.std.specs.Prelude.{ℕ, ◌+◌, ◌==◌, List, [], ◌∷◌, bytes_eq, codes, if◌then◌else◌}
+use Rattle.std.specs.Prelude.{ℕ, ◌+◌, ◌==◌, List, [], ◌∷◌, map, bytes_eq, codes, if◌then◌else◌}
 use Rattle.std.specs.Str.{str_to_ascii_lowercase}
 use denote.Ref.{Bor}
 use Rattle.grammar.specs.Rule.{Token}
@@ -7,32 +7,18 @@ use Rattle.lq_lex.specs.Token.{Token as Piece}
 use Rattle.lq_lex.specs.Texts.{text_of}
 use Rattle.lq_lex.specs.declared.token.Kind.{Kind}
 use Rattle.lq_lex.specs.declared.token.Kind.TheVariants.{Bare as BareKind, Quoted as QuotedKind, Mark}
+use Rattle.lq_grammar.specs.declared.classify.TheConstants.{KEYWORDS}
 use Rattle.lq_grammar.specs.declared.role.Role.{Role}
-use Rattle.lq_grammar.specs.declared.role.Role.TheVariants.{And, Or, Not, Asc, Desc, As, If, Fields, Delete, Rename}
-use Rattle.lq_grammar.specs.declared.role.Role.TheVariants.{Copy, Limit, Head, Offset, Skip, Sort, Uniq, Stats}
-use Rattle.lq_grammar.specs.declared.role.Role.TheVariants.{Filter, Top, By, With, Hits, Count, CountEmpty, CountUniq}
-use Rattle.lq_grammar.specs.declared.role.Role.TheVariants.{Sum, Min, Max, UniqValues, Bare, In, I, Seq, LenRange}
-use Rattle.lq_grammar.specs.declared.role.Role.TheVariants.{StringRange, Range, Time, Stream, QuotedTime, Quoted, Bar}
-use Rattle.lq_grammar.specs.declared.role.Role.TheVariants.{Open, Close, SquareOpen, SquareClose, CurlyOpen}
-use Rattle.lq_grammar.specs.declared.role.Role.TheVariants.{CurlyClose, Comma, Colon, Equals, Bang, Tilde, Star, Less}
-use Rattle.lq_grammar.specs.declared.role.Role.TheVariants.{Greater, Minus, Plus}
+use Rattle.lq_grammar.specs.declared.role.Role.TheVariants.{Bare, Time, Stream, QuotedTime, Quoted, Bar, Open, Close}
+use Rattle.lq_grammar.specs.declared.role.Role.TheVariants.{SquareOpen, SquareClose, CurlyOpen, CurlyClose, Comma}
+use Rattle.lq_grammar.specs.declared.role.Role.TheVariants.{Colon, Equals, Bang, Tilde, Star, Less, Greater, Minus}
+use Rattle.lq_grammar.specs.declared.role.Role.TheVariants.{Plus}
 use Rattle.lq_grammar.specs.Roles.{number, apart_by}
 use Rattle.lq_grammar.specs.Values.{Bytes}
 
 -- words in lower case, and what each is
 abbrev pub keywords : List (Bytes × Role)
-keywords =
-    (codes "and", And) ∷ (codes "or", Or) ∷ (codes "not", Not) ∷ (codes "in", In) ∷ (codes "i", I) ∷
-    (codes "seq", Seq) ∷ (codes "len_range", LenRange) ∷ (codes "string_range", StringRange) ∷
-    (codes "range", Range) ∷ (codes "fields", Fields) ∷ (codes "keep", Fields) ∷ (codes "delete", Delete) ∷
-    (codes "del", Delete) ∷ (codes "rm", Delete) ∷ (codes "drop", Delete) ∷ (codes "rename", Rename) ∷
-    (codes "mv", Rename) ∷ (codes "copy", Copy) ∷ (codes "cp", Copy) ∷ (codes "limit", Limit) ∷
-    (codes "head", Head) ∷ (codes "offset", Offset) ∷ (codes "skip", Skip) ∷ (codes "sort", Sort) ∷
-    (codes "order", Sort) ∷ (codes "uniq", Uniq) ∷ (codes "stats", Stats) ∷ (codes "filter", Filter) ∷
-    (codes "where", Filter) ∷ (codes "top", Top) ∷ (codes "by", By) ∷ (codes "asc", Asc) ∷ (codes "desc", Desc) ∷
-    (codes "as", As) ∷ (codes "with", With) ∷ (codes "hits", Hits) ∷ (codes "if", If) ∷ (codes "count", Count) ∷
-    (codes "count_empty", CountEmpty) ∷ (codes "count_uniq", CountUniq) ∷ (codes "sum", Sum) ∷ (codes "min", Min) ∷
-    (codes "max", Max) ∷ (codes "uniq_values", UniqValues) ∷ []
+keywords = map (λ entry. (entry.0.now, entry.1)) KEYWORDS.now
 
 -- an entry with its word in lower case
 abbrev pub entry_of : Bor Bytes × Role → Bytes × Role

@@ -1,48 +1,75 @@
 -- The grammar of LogsQL ("Query syntax"), a rule for each line of its EBNF, which stands above the rule.
 -- Words in capitals are Bare tokens in any case of their letters, and `^` says that a token is glued to the one before
 -- it.
-use Rattle.std.specs.Prelude.{ℕ, Bool, true, false, List, [], ◌∷◌, ◌++◌, flat_map, ℤ, Option, Some, None}
+use Rattle.std.specs.Prelude.{ℕ, Bool, true, false, List, [], ◌∷◌, ◌++◌, flat_map, codes, ℤ, pos}
+use Rattle.std.specs.Prelude.{Option, Some, None}
 use Rattle.grammar.specs.Rule.{Class, Rule, empty, one, unless, both, either, many, checked, deeper, Grammar}
 use Rattle.lq_ast.specs.declared.pipe.Call.{Call}
 use Rattle.lq_ast.specs.declared.pipe.Call.TheVariants as is_call
 use Rattle.lq_ast.specs.declared.select.How.{How}
 use Rattle.lq_ast.specs.declared.select.How.TheVariants.{Is, IsNot, Matches, MatchesNot}
+use Rattle.lq_ast.specs.declared.row_pipe.Op.{Op}
+use Rattle.lq_ast.specs.declared.row_pipe.Op.TheVariants as is_op
 use Rattle.lq_ast.specs.Condition.{Condition, Test, Tests}
+use Rattle.lq_ast.specs.Making.{Expression, MathItem, whole}
+use Rattle.lq_ast.specs.Making as making
+use Rattle.lq_ast.specs.PatternText.{Pieces}
 use Rattle.lq_ast.specs.Question.{Question}
 use Rattle.lq_ast.specs.Stage.{GroupBy, NamePair, SortBy, Stage, Statistic}
 use Rattle.lq_ast.specs.Stage as is
 use Rattle.lq_grammar.specs.declared.scope.Scope.{Scope}
 use Rattle.lq_grammar.specs.declared.scope.Scope.TheVariants.{Rows, Records}
 use Rattle.lq_grammar.specs.declared.role.Role.{Role}
-use Rattle.lq_grammar.specs.declared.role.Role.TheVariants.{And, Or, Not, Asc, Desc, As, If, Fields, Delete, Rename}
-use Rattle.lq_grammar.specs.declared.role.Role.TheVariants.{Copy, Limit, Head, Offset, Skip, Sort, Uniq, Stats}
-use Rattle.lq_grammar.specs.declared.role.Role.TheVariants.{Filter, Top, By, With, Hits, Count, CountEmpty, CountUniq}
-use Rattle.lq_grammar.specs.declared.role.Role.TheVariants.{Sum, Min, Max, UniqValues, Bare, In, I, Seq, LenRange}
-use Rattle.lq_grammar.specs.declared.role.Role.TheVariants.{StringRange, Range, Time, Stream, QuotedTime, Quoted, Bar}
-use Rattle.lq_grammar.specs.declared.role.Role.TheVariants.{Open, Close, SquareOpen, SquareClose, CurlyOpen}
-use Rattle.lq_grammar.specs.declared.role.Role.TheVariants.{CurlyClose, Comma, Colon, Equals, Bang, Tilde, Star, Less}
-use Rattle.lq_grammar.specs.declared.role.Role.TheVariants.{Greater, Minus, Plus}
+use Rattle.lq_grammar.specs.declared.role.Role.TheVariants.{And, Or, Asc, Desc, As, Div, Mod, If, Fields, Delete}
+use Rattle.lq_grammar.specs.declared.role.Role.TheVariants.{Rename, Copy, Limit, Head, Offset, Skip, Sort, Uniq, Stats}
+use Rattle.lq_grammar.specs.declared.role.Role.TheVariants.{Filter, Top, Extract, Format, Len, Math, By, From, With}
+use Rattle.lq_grammar.specs.declared.role.Role.TheVariants.{Hits, Count, CountEmpty, CountUniq, Sum, Min, Max}
+use Rattle.lq_grammar.specs.declared.role.Role.TheVariants.{UniqValues, In, I, Seq, LenRange, StringRange, Range, Time}
+use Rattle.lq_grammar.specs.declared.role.Role.TheVariants.{Stream, QuotedTime, Quoted, Bar, Open, Close, SquareOpen}
+use Rattle.lq_grammar.specs.declared.role.Role.TheVariants.{SquareClose, CurlyOpen, CurlyClose, Comma, Colon, Equals}
+use Rattle.lq_grammar.specs.declared.role.Role.TheVariants.{Bang, Tilde, Star, Less, Greater, Minus, Plus}
 use Rattle.lq_grammar.specs.Roles.{glued, any, bares, quoted, words, texts as text_roles, plain_words, negations}
-use Rattle.lq_grammar.specs.Roles.{run_parts, list_names, value_names, key_names, other_bares}
+use Rattle.lq_grammar.specs.Roles.{run_parts, list_names, value_names, key_names, other_bares, set_names, atom_bares}
 use Rattle.lq_grammar.specs.Values.{Bytes, Reason, Filtering, End as RangeEnd, field_named, named, everything, phrased}
 use Rattle.lq_grammar.specs.Values.{prefixed, exactly, exactly_prefixed, matching, one_of_texts, in_any_case}
 use Rattle.lq_grammar.specs.Values.{in_sequence, of_length, text_between, denied, on_streams, all_hold, any_holds}
 use Rattle.lq_grammar.specs.Values.{number_value, size_value, high_size_value, end_value, in_range}
 use Rattle.lq_grammar.specs.Values.{above, at_least, below, at_most}
+use Rattle.lq_grammar.specs.Values.{extract_pattern, format_pattern, Operand, bare_value, field_value, operated}
 use Rattle.lq_grammar.specs.Moments.{run_value, bound_value, in_interval}
 use Rattle.lq_grammar.specs.Stages.{Calling, Cut, asked, by_value, distinct, grouped, ranked, sorted, statistic_of}
 use Rattle.lq_grammar.specs.Stages.{step_value}
 
 -- ---- words for rules
 
--- the rules that lead back to themselves: parentheses, and negations of a unary and of an inner filter
+-- the rules that lead back to themselves: parentheses of filters, negations of a unary and of an inner filter, and
+-- parentheses of expressions
 pub data Name : Type 0 where
   group : Scope → Name
   negation : Scope → Name
   inner_negation : Scope → Name
+  parenthesized : Name
+
+-- what such a rule says: what a filter asks, or what an expression computes
+pub data Value : Type 0 where
+  filtered : Filtering → Value
+  computed : Expression → Value
+
+-- the filter, which is the value of each name but `parenthesized`
+abbrev pub filter_of : Value → Filtering
+filter_of (filtered filter) = filter
+filter_of (computed expression) = everything
+
+-- the expression, which is the value of `parenthesized`
+abbrev pub expression_of : Value → Expression
+expression_of (computed expression) = expression
+expression_of (filtered filter) = whole (pos 0)
+
+abbrev pub denied_of : Value → Filtering
+denied_of value = denied (filter_of value)
 
 abbrev pub Parse : Type 0 → Type 1
-Parse A = Rule Bytes Reason Name Filtering A
+Parse A = Rule Bytes Reason Name Value A
 
 infixr 15 ◌|||◌
 abbrev pub ◌|||◌ : {A : Type 0} → Parse A → Parse A → Parse A
@@ -297,7 +324,7 @@ time =
 
 -- inner = neg inner | "(" or ")" | leaf
 unfoldable pub inner : Scope → Parse Filtering
-inner scope = deeper (inner_negation scope) denied ||| deeper (group scope) (λ filter. filter) ||| leaf
+inner scope = deeper (inner_negation scope) denied_of ||| deeper (group scope) filter_of ||| leaf
 
 -- ":" inner, or what else may stand after a word
 abbrev pub colon : Scope → End
@@ -346,11 +373,11 @@ other_unit Records = record_unit
 
 -- unit = "(" or ")" | selector | "_time" ":" time | "_stream" ":" selector | name ":" inner | leaf
 unfoldable pub unit : Scope → Parse Filtering
-unit scope = deeper (group scope) (λ filter. filter) ||| other_unit scope
+unit scope = deeper (group scope) filter_of ||| other_unit scope
 
 -- unary = neg unary | unit      neg = NOT | "!" | "-"
 unfoldable pub unary : Scope → Parse Filtering
-unary scope = deeper (negation scope) denied ||| unit scope
+unary scope = deeper (negation scope) denied_of ||| unit scope
 
 -- [AND] unary
 unfoldable pub next_unary : Scope → Parse Filtering
@@ -538,7 +565,7 @@ naming roles =
 -- "(" or ")" [[AS] name], after IF, or the word as a name
 unfoldable pub if_end : Parse (Bytes → Option Condition × Option Bytes)
 if_end =
-    both (λ filter name word. (Some (filter None), name)) (deeper (group Records) (λ filter. filter))
+    both (λ filter name word. (Some (filter None), name)) (deeper (group Records) filter_of)
     (naming list_names)
     ||| empty (λ word. (None, Some word))
 
@@ -558,6 +585,93 @@ funcs = listed Comma func
 unfoldable pub stats_pipe : Parse Stage
 stats_pipe = both grouped groups_by funcs
 
+-- ---- EXTRACT, FORMAT and LEN
+
+-- A name where a Bare `as`, `div` and `mod` are keywords.
+unfoldable pub set_name : Parse Bytes
+set_name = one (any set_names) (λ t. field_named t.content)
+
+-- [AS] name
+unfoldable pub target : Parse Bytes
+target = behind (any (As ∷ [])) set_name ||| set_name
+
+-- [FROM name]
+unfoldable pub source : Parse Bytes
+source = behind (any (From ∷ [])) set_name ||| empty (codes "_msg")
+
+-- Quoted, a pattern by which values are taken out
+unfoldable pub extract_pieces : Parse Pieces
+extract_pieces = checked extract_pattern (text (any quoted))
+
+-- Quoted, a pattern by which a value is put together
+unfoldable pub format_pieces : Parse Pieces
+format_pieces = checked format_pattern (text (any quoted))
+
+-- Quoted [FROM name]
+unfoldable pub extract_pipe : Parse Stage
+extract_pipe = both (λ pieces from. is.make (making.extract pieces from)) extract_pieces source
+
+-- Quoted [AS] name
+unfoldable pub format_pipe : Parse Stage
+format_pipe = both (λ pieces name. is.make (making.format pieces name)) format_pieces target
+
+-- "(" name ")" [AS] name
+unfoldable pub len_pipe : Parse Stage
+len_pipe = both (λ from name. is.make (making.len from name)) (enclosed set_name) target
+
+-- ---- MATH
+
+-- atom = Bare | Quoted | "(" expr ")"
+unfoldable pub atom : Parse Expression
+atom =
+    one (any atom_bares) (λ t. bare_value t.content)
+    ||| deeper parenthesized expression_of
+    ||| one (any quoted) (λ t. field_value t.content)
+
+-- "*" | DIV | MOD
+unfoldable pub factor_op : Parse Op
+factor_op =
+    one (any (Star ∷ [])) (λ _. is_op.Mul)
+    ||| one (any (Div ∷ [])) (λ _. is_op.Div)
+    ||| one (any (Mod ∷ [])) (λ _. is_op.Mod)
+
+-- ("*" | DIV | MOD) atom
+unfoldable pub next_factor : Parse Operand
+next_factor = both (λ op right. (op, right)) factor_op atom
+
+-- term = atom { ("*" | DIV | MOD) atom }
+unfoldable pub term : Parse Expression
+term = both operated atom (many (λ factors. factors) next_factor)
+
+-- "+" | "-"
+unfoldable pub sum_op : Parse Op
+sum_op = one (any (Plus ∷ [])) (λ _. is_op.Add) ||| one (any (Minus ∷ [])) (λ _. is_op.Sub)
+
+-- ("+" | "-") term
+unfoldable pub next_term : Parse Operand
+next_term = both (λ op right. (op, right)) sum_op term
+
+-- expr = term { ("+" | "-") term }
+unfoldable pub expr : Parse Expression
+expr = both operated term (many (λ terms. terms) next_term)
+
+-- expr [AS] name
+unfoldable pub math_item : Parse MathItem
+math_item = both (λ expression name. (expression, name)) expr target
+
+-- expr [AS] name {"," expr [AS] name}
+unfoldable pub math_items : Parse (List MathItem)
+math_items = listed Comma math_item
+
+-- rowpipe = EXTRACT Quoted [FROM name] | FORMAT Quoted [AS] name | LEN "(" name ")" [AS] name
+--         | MATH expr [AS] name {"," expr [AS] name}
+unfoldable pub row_pipe : Parse Stage
+row_pipe =
+    behind (any (Extract ∷ [])) extract_pipe
+    ||| behind (any (Format ∷ [])) format_pipe
+    ||| behind (any (Len ∷ [])) len_pipe
+    ||| behind (any (Math ∷ [])) (made (λ items. is.make (making.math items)) math_items)
+
 -- ---- pipes
 
 -- (SORT|ORDER) .. | UNIQ .. | STATS .. | TOP ..
@@ -568,16 +682,17 @@ group_pipe =
     ||| behind (any (Stats ∷ [])) stats_pipe
     ||| behind (any (Top ∷ [])) top_pipe
 
--- (LIMIT|HEAD) N | (OFFSET|SKIP) N | (FILTER|WHERE) or
+-- (LIMIT|HEAD) N | (OFFSET|SKIP) N | (FILTER|WHERE) or | rowpipe
 unfoldable pub record_pipe : Parse Stage
 record_pipe =
     behind (any (Limit ∷ Head ∷ [])) (made is.limit count)
     ||| behind (any (Offset ∷ Skip ∷ [])) (made is.offset count)
     ||| behind (any (Filter ∷ [])) (made (λ filter. is.keep (filter None)) (or Records))
+    ||| row_pipe
     ||| group_pipe
 
 -- pipe = (FIELDS|KEEP) names | (DELETE|DEL|RM|DROP) names | (RENAME|MV) pairs | (COPY|CP) pairs | (LIMIT|HEAD) N
---      | (OFFSET|SKIP) N | (SORT|ORDER) .. | UNIQ .. | STATS .. | (FILTER|WHERE) or | TOP ..
+--      | (OFFSET|SKIP) N | (SORT|ORDER) .. | UNIQ .. | STATS .. | (FILTER|WHERE) or | TOP .. | rowpipe
 unfoldable pub pipe : Parse Stage
 pipe =
     behind (any (Fields ∷ [])) (made is.fields names)
@@ -600,11 +715,13 @@ abbrev pub heads : Name → Class
 heads (group scope) = any (Open ∷ [])
 heads (negation scope) = any negations
 heads (inner_negation scope) = any negations
+heads parenthesized = any (Open ∷ [])
 
-abbrev pub rules : Name → Parse Filtering
-rules (group scope) = closed (or scope) (any (Close ∷ []))
-rules (negation scope) = unary scope
-rules (inner_negation scope) = inner scope
+abbrev pub rules : Name → Parse Value
+rules (group scope) = made filtered (closed (or scope) (any (Close ∷ [])))
+rules (negation scope) = made filtered (unary scope)
+rules (inner_negation scope) = made filtered (inner scope)
+rules parenthesized = made computed (closed expr (any (Close ∷ [])))
 
-abbrev pub logsql : Grammar Bytes Reason Name Filtering
+abbrev pub logsql : Grammar Bytes Reason Name Value
 logsql = record { heads = heads; rules = rules }

@@ -7,8 +7,8 @@ use Rattle.lq_lex.specs.Token.{Token as Piece}
 use Rattle.lq_lex.specs.Lexing.{HasLexed, IsTokens}
 use Rattle.lq_grammar.specs.declared.fault.QueryFault.{QueryFault}
 use Rattle.lq_grammar.specs.declared.fault.QueryFault.TheVariants.{Lex, Syntax, TooDeep, BadNumber, BadTime}
-use Rattle.lq_grammar.specs.declared.fault.QueryFault.TheVariants.{BadDuration, Memory}
-use Rattle.lq_grammar.specs.Values.{Bytes, Reason, bad_number, bad_time, bad_duration}
+use Rattle.lq_grammar.specs.declared.fault.QueryFault.TheVariants.{BadDuration, BadPattern, Memory}
+use Rattle.lq_grammar.specs.Values.{Bytes, Reason, bad_number, bad_time, bad_duration, bad_pattern}
 use Rattle.lq_grammar.specs.LogsQL.{query, logsql}
 use Rattle.lq_grammar.specs.Items.{item_of}
 
@@ -66,6 +66,7 @@ HasFault text items (TooDeep at) = IsFlawed items too_deep at
 HasFault text items (BadNumber at) = IsFlawed items (refused bad_number) at
 HasFault text items (BadTime at) = IsFlawed items (refused bad_time) at
 HasFault text items (BadDuration at) = IsFlawed items (refused bad_duration) at
+HasFault text items (BadPattern at) = IsFlawed items (refused bad_pattern) at
 HasFault text items Memory = ⊥
 
 -- the fault that a flaw is
@@ -74,6 +75,7 @@ flaw_fault too_deep at = TooDeep at
 flaw_fault (refused bad_number) at = BadNumber at
 flaw_fault (refused bad_time) at = BadTime at
 flaw_fault (refused bad_duration) at = BadDuration at
+flaw_fault (refused bad_pattern) at = BadPattern at
 
 abbrev pub place_of : QueryFault → ℕ
 place_of (Lex fault) = 0
@@ -82,6 +84,7 @@ place_of (TooDeep at) = at
 place_of (BadNumber at) = at
 place_of (BadTime at) = at
 place_of (BadDuration at) = at
+place_of (BadPattern at) = at
 place_of Memory = 0
 
 -- which of two faults at one place comes first
@@ -92,7 +95,8 @@ rank (TooDeep at) = 3
 rank (BadNumber at) = 4
 rank (BadTime at) = 5
 rank (BadDuration at) = 6
-rank Memory = 7
+rank (BadPattern at) = 7
+rank Memory = 8
 
 -- The first stands to the left of the other, or at one place with it and has no greater rank.
 abbrev pub ComesFirst : QueryFault → QueryFault → Type 0

@@ -2,14 +2,15 @@
 use Rattle.std.specs.Prelude.{ℕ, ◌+◌, List, [], ◌∷◌, ◌++◌, map}
 use Rattle.grammar.specs.Rule.{Class}
 use Rattle.lq_grammar.specs.declared.role.Role.{Role}
-use Rattle.lq_grammar.specs.declared.role.Role.TheVariants.{And, Or, Not, Asc, Desc, As, If, Fields, Delete, Rename}
-use Rattle.lq_grammar.specs.declared.role.Role.TheVariants.{Copy, Limit, Head, Offset, Skip, Sort, Uniq, Stats}
-use Rattle.lq_grammar.specs.declared.role.Role.TheVariants.{Filter, Top, By, With, Hits, Count, CountEmpty, CountUniq}
-use Rattle.lq_grammar.specs.declared.role.Role.TheVariants.{Sum, Min, Max, UniqValues, Bare, In, I, Seq, LenRange}
-use Rattle.lq_grammar.specs.declared.role.Role.TheVariants.{StringRange, Range, Time, Stream, QuotedTime, Quoted, Bar}
-use Rattle.lq_grammar.specs.declared.role.Role.TheVariants.{Open, Close, SquareOpen, SquareClose, CurlyOpen}
-use Rattle.lq_grammar.specs.declared.role.Role.TheVariants.{CurlyClose, Comma, Colon, Equals, Bang, Tilde, Star, Less}
-use Rattle.lq_grammar.specs.declared.role.Role.TheVariants.{Greater, Minus, Plus}
+use Rattle.lq_grammar.specs.declared.role.Role.TheVariants.{And, Or, Not, Asc, Desc, As, Div, Mod, If, Fields, Delete}
+use Rattle.lq_grammar.specs.declared.role.Role.TheVariants.{Rename, Copy, Limit, Head, Offset, Skip, Sort, Uniq, Stats}
+use Rattle.lq_grammar.specs.declared.role.Role.TheVariants.{Filter, Top, Extract, Format, Len, Math, By, From, With}
+use Rattle.lq_grammar.specs.declared.role.Role.TheVariants.{Hits, Count, CountEmpty, CountUniq, Sum, Min, Max}
+use Rattle.lq_grammar.specs.declared.role.Role.TheVariants.{UniqValues, Bare, In, I, Seq, LenRange, StringRange, Range}
+use Rattle.lq_grammar.specs.declared.role.Role.TheVariants.{Time, Stream, QuotedTime, Quoted, Bar, Open, Close}
+use Rattle.lq_grammar.specs.declared.role.Role.TheVariants.{SquareOpen, SquareClose, CurlyOpen, CurlyClose, Comma}
+use Rattle.lq_grammar.specs.declared.role.Role.TheVariants.{Colon, Equals, Bang, Tilde, Star, Less, Greater, Minus}
+use Rattle.lq_grammar.specs.declared.role.Role.TheVariants.{Plus}
 
 -- the number of each role, and so of the kind of a token that is not glued
 abbrev pub number : Role → ℕ
@@ -19,58 +20,65 @@ number Not = 2
 number Asc = 3
 number Desc = 4
 number As = 5
-number If = 6
-number Fields = 7
-number Delete = 8
-number Rename = 9
-number Copy = 10
-number Limit = 11
-number Head = 12
-number Offset = 13
-number Skip = 14
-number Sort = 15
-number Uniq = 16
-number Stats = 17
-number Filter = 18
-number Top = 19
-number By = 20
-number With = 21
-number Hits = 22
-number Count = 23
-number CountEmpty = 24
-number CountUniq = 25
-number Sum = 26
-number Min = 27
-number Max = 28
-number UniqValues = 29
-number Bare = 30
-number In = 31
-number I = 32
-number Seq = 33
-number LenRange = 34
-number StringRange = 35
-number Range = 36
-number Time = 37
-number Stream = 38
-number QuotedTime = 39
-number Quoted = 40
-number Bar = 41
-number Open = 42
-number Close = 43
-number SquareOpen = 44
-number SquareClose = 45
-number CurlyOpen = 46
-number CurlyClose = 47
-number Comma = 48
-number Colon = 49
-number Equals = 50
-number Bang = 51
-number Tilde = 52
-number Star = 53
-number Less = 54
-number Greater = 55
-number Minus = 56
-number Plus = 57
+number Div = 6
+number Mod = 7
+number If = 8
+number Fields = 9
+number Delete = 10
+number Rename = 11
+number Copy = 12
+number Limit = 13
+number Head = 14
+number Offset = 15
+number Skip = 16
+number Sort = 17
+number Uniq = 18
+number Stats = 19
+number Filter = 20
+number Top = 21
+number Extract = 22
+number Format = 23
+number Len = 24
+number Math = 25
+number By = 26
+number From = 27
+number With = 28
+number Hits = 29
+number Count = 30
+number CountEmpty = 31
+number CountUniq = 32
+number Sum = 33
+number Min = 34
+number Max = 35
+number UniqValues = 36
+number Bare = 37
+number In = 38
+number I = 39
+number Seq = 40
+number LenRange = 41
+number StringRange = 42
+number Range = 43
+number Time = 44
+number Stream = 45
+number QuotedTime = 46
+number Quoted = 47
+number Bar = 48
+number Open = 49
+number Close = 50
+number SquareOpen = 51
+number SquareClose = 52
+number CurlyOpen = 53
+number CurlyClose = 54
+number Comma = 55
+number Colon = 56
+number Equals = 57
+number Bang = 58
+number Tilde = 59
+number Star = 60
+number Less = 61
+number Greater = 62
+number Minus = 63
+number Plus = 64
 
 -- how far the kinds of glued tokens are from those of the others
 abbrev pub apart_by : ℕ
@@ -93,15 +101,17 @@ any roles = loose roles ++ glued roles
 abbrev pub calls : List Role
 calls = In ∷ I ∷ Seq ∷ LenRange ∷ StringRange ∷ Range ∷ []
 
--- words that are names wherever a name may stand, but for BY, the words that call a filter, `_time` and `_stream`
+-- words that are names wherever a name may stand, but for BY, DIV, MOD, the words that call a filter, `_time` and
+-- `_stream`
 abbrev pub other_names : List Role
 other_names =
-    Fields ∷ Delete ∷ Rename ∷ Copy ∷ Limit ∷ Head ∷ Offset ∷ Skip ∷ Sort ∷ Uniq ∷ Stats ∷ Filter ∷ Top ∷ With ∷ Hits
-    ∷ Count ∷ CountEmpty ∷ CountUniq ∷ Sum ∷ Min ∷ Max ∷ UniqValues ∷ Bare ∷ []
+    Fields ∷ Delete ∷ Rename ∷ Copy ∷ Limit ∷ Head ∷ Offset ∷ Skip ∷ Sort ∷ Uniq ∷ Stats ∷ Filter ∷ Top
+    ∷ Extract ∷ Format ∷ Len ∷ Math ∷ From ∷ With ∷ Hits ∷ Count ∷ CountEmpty ∷ CountUniq ∷ Sum ∷ Min ∷ Max ∷ UniqValues
+    ∷ Bare ∷ []
 
--- the same with BY
+-- the same with BY, DIV and MOD
 abbrev pub plain_names : List Role
-plain_names = By ∷ other_names
+plain_names = By ∷ Div ∷ Mod ∷ other_names
 
 -- words that call nothing in a filter, but for `_time` and `_stream`
 abbrev pub plain_words : List Role
@@ -121,7 +131,7 @@ bares = And ∷ Or ∷ Not ∷ plain_words ++ calls ++ Time ∷ Stream ∷ []
 
 -- Bare, but for BY
 abbrev pub other_bares : List Role
-other_bares = And ∷ Or ∷ Not ∷ Asc ∷ Desc ∷ As ∷ If ∷ other_names ++ calls ++ Time ∷ Stream ∷ []
+other_bares = And ∷ Or ∷ Not ∷ Asc ∷ Desc ∷ As ∷ If ∷ Div ∷ Mod ∷ other_names ++ calls ++ Time ∷ Stream ∷ []
 
 -- names but for `_time` and `_stream`
 abbrev pub common_names : List Role
@@ -138,6 +148,14 @@ list_names = If ∷ plain_names ++ calls ++ Time ∷ Stream ∷ quoted
 -- the same where `if` may be a keyword, too
 abbrev pub value_names : List Role
 value_names = plain_names ++ calls ++ Time ∷ Stream ∷ quoted
+
+-- names in a pipe that sets fields, in which `as`, `div` and `mod` are keywords
+abbrev pub set_names : List Role
+set_names = Asc ∷ Desc ∷ If ∷ By ∷ other_names ++ calls ++ Time ∷ Stream ∷ quoted
+
+-- Bare operands in an expression, in which `as`, `div` and `mod` are keywords
+abbrev pub atom_bares : List Role
+atom_bares = And ∷ Or ∷ Not ∷ Asc ∷ Desc ∷ If ∷ By ∷ other_names ++ calls ++ Time ∷ Stream ∷ []
 
 -- names but for `_time`
 abbrev pub key_names : List Role

@@ -1,17 +1,21 @@
 -- The values of what the grammar of LogsQL spells. A text is the list of its bytes.
-use Rattle.std.specs.Prelude.{ℕ, ◌-◌, ◌^◌, Bool, true, false, List, [], ◌∷◌, map, bytes_eq, codes, ℤ, pos, neg_ℤ, ◌+ℤ◌}
-use Rattle.std.specs.Prelude.{◌-ℤ◌, Option, Some, None, Result, Ok, Err, if◌then◌else◌}
+use Rattle.std.specs.Prelude.{ℕ, ◌-◌, ◌^◌, Bool, true, false, List, [], ◌∷◌, map, fold, bytes_eq, codes, ℤ, pos, neg_ℤ}
+use Rattle.std.specs.Prelude.{◌+ℤ◌, ◌-ℤ◌, Option, Some, None, Result, Ok, Err, if◌then◌else◌}
 use Rattle.std.specs.Str.{str_to_ascii_lowercase}
 use Rattle.vl_row.specs.Field.{is_empty}
 use Rattle.vl_row.specs.Order.{number_of}
 use Rattle.lq_ast.specs.Condition.{Condition, Conditions, conditions, Test, Tests}
 use Rattle.lq_ast.specs.Condition as is
+use Rattle.lq_ast.specs.Making.{Expression, whole, value_of, two}
+use Rattle.lq_ast.specs.PatternText.{Pieces, pattern_of}
+use Rattle.lq_ast.specs.declared.row_pipe.Op.{Op}
 
 -- why a value is refused
 pub data Reason : Type 0 where
   bad_number : Reason
   bad_time : Reason
   bad_duration : Reason
+  bad_pattern : Reason
 
 abbrev pub Bytes : Type 0
 Bytes = List ℕ
@@ -168,3 +172,30 @@ end_value text =
     if bytes_eq (str_to_ascii_lowercase text) (codes "inf") then Ok infinite
     else (if bytes_eq (str_to_ascii_lowercase text) (codes "-inf") then Ok minus_infinite
     else number_end (number_of text))
+
+-- ---- patterns and expressions
+
+abbrev pub extract_pattern : Bytes → Result Pieces Reason
+extract_pattern text = from_option bad_pattern (pattern_of true text)
+
+abbrev pub format_pattern : Bytes → Result Pieces Reason
+format_pattern text = from_option bad_pattern (pattern_of false text)
+
+abbrev pub field_value : Bytes → Expression
+field_value name = value_of (field_named name)
+
+abbrev pub number_or_field : Option ℤ → Bytes → Expression
+number_or_field None text = field_value text
+number_or_field (Some n) text = whole n
+
+-- A word that is a number is this number, and any other one names a field.
+abbrev pub bare_value : Bytes → Expression
+bare_value text = number_or_field (number_of text) text
+
+-- an operation, and its right side
+abbrev pub Operand : Type 0
+Operand = Op × Expression
+
+-- Operations of one precedence group to the left.
+abbrev pub operated : Expression → List Operand → Expression
+operated first others = fold (λ left next. two next.0 left next.1) first others

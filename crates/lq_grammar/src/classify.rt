@@ -31,7 +31,7 @@ fn word_role(span: &str) -> Role
     }
 }
 
-/// Words in any case, and what each is.
+/// Words in lower case, and what each is.
 const KEYWORDS: &[(&str, Role)] = &[
     ("and", Role::And),
     ("or", Role::Or),
@@ -77,6 +77,13 @@ const KEYWORDS: &[(&str, Role)] = &[
     ("min", Role::Min),
     ("max", Role::Max),
     ("uniq_values", Role::UniqValues),
+    ("extract", Role::Extract),
+    ("format", Role::Format),
+    ("from", Role::From),
+    ("len", Role::Len),
+    ("math", Role::Math),
+    ("div", Role::Div),
+    ("mod", Role::Mod),
 ];
 
 /// Returns what a word is that is not `_time` or `_stream`.

@@ -26,6 +26,8 @@ pub enum QueryFault {
     BadTime { at: usize },
     /// The duration there is too long or stands inside brackets, or the step of a key there is zero or no duration.
     BadDuration { at: usize },
+    /// The text there is not a pattern.
+    BadPattern { at: usize },
     /// Memory ran out.
     Memory,
 }
@@ -44,6 +46,7 @@ impl fmt::Display for QueryFault {
             QueryFault::BadNumber { at } => write!(f, "BadNumber at {at}"),
             QueryFault::BadTime { at } => write!(f, "BadTime at {at}"),
             QueryFault::BadDuration { at } => write!(f, "BadDuration at {at}"),
+            QueryFault::BadPattern { at } => write!(f, "BadPattern at {at}"),
             QueryFault::Memory => f.write_str("no memory"),
         }
     }
@@ -83,6 +86,8 @@ pub enum Stop {
     BadTime { at: usize },
     /// The duration at this place is too long or stands inside brackets, or the step of a key is zero or no duration.
     BadDuration { at: usize },
+    /// The text at this place is not a pattern.
+    BadPattern { at: usize },
     /// Memory ran out.
     Memory,
 }

@@ -23,8 +23,8 @@ mod scope;
 pub use fault::{QueryFault, Stop};
 pub use item::{Item, items};
 pub use role::{
-    BARES, COMMON_NAMES, KEY_NAMES, LIST_NAMES, NEGATIONS, OTHER_BARES, PLAIN_WORDS, QUOTED,
-    RUN_PARTS, Role, TEXTS, UNARY, VALUE_NAMES, WORDS,
+    ATOM_BARES, BARES, COMMON_NAMES, KEY_NAMES, LIST_NAMES, NEGATIONS, OTHER_BARES, PLAIN_WORDS,
+    QUOTED, RUN_PARTS, Role, SET_NAMES, TEXTS, UNARY, VALUE_NAMES, WORDS,
 };
 pub use scope::Scope;
 

@@ -11,10 +11,12 @@ pub enum Role {
     And,
     Or,
     Not,
-    // Words that are not names in the lists of some pipes.
+    // Words that are not names in some pipes.
     Asc,
     Desc,
     As,
+    Div,
+    Mod,
     /// The word `if`, which is not a name before a parenthesis.
     If,
     // Words that begin pipes.
@@ -37,8 +39,13 @@ pub enum Role {
     /// `filter` or `where`.
     Filter,
     Top,
+    Extract,
+    Format,
+    Len,
+    Math,
     // Words inside pipes.
     By,
+    From,
     With,
     Hits,
     // Functions of `stats`.
@@ -93,7 +100,7 @@ pub(crate) fn number(role: Role) -> u8
     role as u8
 }
 
-/// A list of roles in which the words stand that are names wherever a name may, but for BY.
+/// A list of roles in which the words stand that are names wherever a name may, but for BY, DIV and MOD.
 macro_rules! with_other_names {
     ($($before:ident)*; $($behind:ident)*) => {
         &[
@@ -111,6 +118,11 @@ macro_rules! with_other_names {
             Role::Stats,
             Role::Filter,
             Role::Top,
+            Role::Extract,
+            Role::Format,
+            Role::Len,
+            Role::Math,
+            Role::From,
             Role::With,
             Role::Hits,
             Role::Count,
@@ -127,53 +139,65 @@ macro_rules! with_other_names {
 }
 
 /// Words that call nothing in a filter, but for `_time` and `_stream`.
-pub const PLAIN_WORDS: &[Role] = with_other_names!(Asc Desc As If By;);
+pub const PLAIN_WORDS: &[Role] = with_other_names!(Asc Desc As If By Div Mod;);
 
 /// What may be a word, a name or an argument.
 pub const WORDS: &[Role] = with_other_names!(
-    Asc Desc As If By;
+    Asc Desc As If By Div Mod;
     In I Seq LenRange StringRange Range Time Stream QuotedTime Quoted
 );
 
 /// Bare tokens.
 pub const BARES: &[Role] = with_other_names!(
-    And Or Not Asc Desc As If By;
+    And Or Not Asc Desc As If By Div Mod;
     In I Seq LenRange StringRange Range Time Stream
 );
 
 /// Bare tokens, but for BY.
 pub const OTHER_BARES: &[Role] = with_other_names!(
-    And Or Not Asc Desc As If;
+    And Or Not Asc Desc As If Div Mod;
     In I Seq LenRange StringRange Range Time Stream
 );
 
 /// Any Bare or Quoted token.
 pub const TEXTS: &[Role] = with_other_names!(
-    And Or Not Asc Desc As If By;
+    And Or Not Asc Desc As If By Div Mod;
     In I Seq LenRange StringRange Range Time Stream QuotedTime Quoted
 );
 
 /// Names in a list in which `asc`, `desc` and `as` are keywords.
 pub const LIST_NAMES: &[Role] = with_other_names!(
-    If By;
+    If By Div Mod;
     In I Seq LenRange StringRange Range Time Stream QuotedTime Quoted
 );
 
 /// The same where `if` may be a keyword, too.
 pub const VALUE_NAMES: &[Role] = with_other_names!(
-    By;
+    By Div Mod;
     In I Seq LenRange StringRange Range Time Stream QuotedTime Quoted
+);
+
+/// Names in a pipe that sets fields.
+pub const SET_NAMES: &[Role] = with_other_names!(
+    Asc Desc If By;
+    In I Seq LenRange StringRange Range Time Stream QuotedTime Quoted
+);
+
+/// Bare tokens that are operands in an expression.
+pub const ATOM_BARES: &[Role] = with_other_names!(
+    And Or Not Asc Desc If By;
+    In I Seq LenRange StringRange Range Time Stream
 );
 
 /// Names but for `_time`.
 pub const KEY_NAMES: &[Role] = with_other_names!(
-    Asc Desc As If By;
+    Asc Desc As If By Div Mod;
     In I Seq LenRange StringRange Range Stream QuotedTime Quoted
 );
 
 /// Names but for `_time` and `_stream`.
 pub const COMMON_NAMES: &[Role] = with_other_names!(
-    Asc Desc As If By;
+    Asc Desc As If By Div Mod;
     In I Seq LenRange StringRange Range Quoted
 );
 
@@ -182,7 +206,7 @@ pub const QUOTED: &[Role] = &[Role::QuotedTime, Role::Quoted];
 
 /// What a run goes on with.
 pub const RUN_PARTS: &[Role] = with_other_names!(
-    Colon Minus Plus And Or Not Asc Desc As If By;
+    Colon Minus Plus And Or Not Asc Desc As If By Div Mod;
     In I Seq LenRange StringRange Range Time Stream
 );
 
@@ -191,6 +215,6 @@ pub const NEGATIONS: &[Role] = &[Role::Not, Role::Bang, Role::Minus];
 
 /// What begins a filter after another one, but for the bracket of a selector.
 pub const UNARY: &[Role] = with_other_names!(
-    And Not Bang Minus Open Asc Desc As If By;
+    And Not Bang Minus Open Asc Desc As If By Div Mod;
     In I Seq LenRange StringRange Range Time Stream QuotedTime Quoted Equals Tilde Greater Less Star
 );

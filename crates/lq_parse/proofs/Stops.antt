@@ -15,7 +15,7 @@ use Rattle.lq_lex.specs.declared.fault.LexFault.TheVariants.{Memory as LexMemory
 use Rattle.lq_grammar.specs.declared.fault.Stop.{Stop as Halt}
 use Rattle.lq_grammar.specs.declared.fault.QueryFault.{QueryFault}
 use Rattle.lq_grammar.specs.declared.fault.QueryFault.TheVariants.{Lex, Syntax, TooDeep, BadNumber, BadTime}
-use Rattle.lq_grammar.specs.declared.fault.QueryFault.TheVariants.{BadDuration, Memory}
+use Rattle.lq_grammar.specs.declared.fault.QueryFault.TheVariants.{BadDuration, BadPattern, Memory}
 use Rattle.lq_grammar.specs.Values.{Bytes, Reason}
 use Rattle.lq_grammar.specs.Clauses.{Fails, lex_fault}
 use Rattle.lq_grammar.specs.Query.{Items, HasItems, IsQuery, IsQueryText, QueryOf}
@@ -80,6 +80,7 @@ stop_found text items (TooDeep at) has out some = (items, has, out)
 stop_found text items (BadNumber at) has out some = (items, has, out)
 stop_found text items (BadTime at) has out some = (items, has, out)
 stop_found text items (BadDuration at) has out some = (items, has, out)
+stop_found text items (BadPattern at) has out some = (items, has, out)
 stop_found text items Memory has out some = absurd (some refl)
 
 pub spelled_when : (text : Bytes) (r : Result Query QueryFault) → (r ≢ refused Memory → QueryOf text (outcome r))

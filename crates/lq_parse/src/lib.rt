@@ -2,9 +2,11 @@
 #![tactic(auto)]
 
 mod call;
+mod expression;
 mod names;
 mod pipes;
 mod query;
+mod row_pipe;
 mod sort;
 mod stats;
 mod uniq;

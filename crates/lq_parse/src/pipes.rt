@@ -6,6 +6,7 @@ ghost use Rattle.lq_grammar.specs.Query.{most_open};
 ghost use Rattle.lq_grammar.specs.Clauses.{Gives, at as at_of};
 
 use crate::names::{count, names, pairs};
+use crate::row_pipe::{at_row_pipe, row_pipe};
 use crate::sort::sort_pipe;
 use crate::stats::stats_pipe;
 use crate::uniq::{top_pipe, uniq_pipe};
@@ -37,7 +38,7 @@ fn group_pipe<'t>(alloc: Global, tokens: &'t [Item], depth: u32) -> Result<(Pipe
     top_pipe(alloc, rest)
 }
 
-/// Parses LIMIT, OFFSET, FILTER or a pipe that makes other records.
+/// Parses LIMIT, OFFSET, FILTER, a pipe that sets fields, or one that makes other records.
 #[tactic(auto, unfolding(lq_grammar::specs::LogsQL::record_pipe))]
 fn record_pipe<'t>(
     alloc: Global,
@@ -57,6 +58,9 @@ fn record_pipe<'t>(
     if let Some(rest) = past(tokens, &[Role::Filter]) {
         let (filter, rest) = or(alloc, rest, depth, Scope::Records, None)?;
         return Ok((Pipe::Keep(filter), rest));
+    }
+    if at_row_pipe(tokens) {
+        return row_pipe(alloc, tokens, depth);
     }
     group_pipe(alloc, tokens, depth)
 }

@@ -68,6 +68,7 @@ fn fault_of(stop: Stop, tokens: &[Item], text: &str) -> QueryFault
         Stop::BadNumber { at } => QueryFault::BadNumber { at },
         Stop::BadTime { at } => QueryFault::BadTime { at },
         Stop::BadDuration { at } => QueryFault::BadDuration { at },
+        Stop::BadPattern { at } => QueryFault::BadPattern { at },
         Stop::Memory => QueryFault::Memory,
     }
 }

@@ -4,14 +4,13 @@ use Rattle.std.proofs.Common.{◌||◌, Option, Ok, Err, refl, sym, ap, ◌∙�
 use Rattle.std.proofs.lemmas.Bool.{cond-true, cond-false, false_from_ne_true}
 use Rattle.grammar.specs.Rule.{Token, Class, has, next, both}
 use Rattle.grammar.specs.Spelling.{◌>>=◌}
-use Rattle.grammar.specs.Reading.{Answer, stuck, mapped, first}
+use Rattle.grammar.specs.Reading.{Answer, stuck, mapped}
 use Rattle.grammar.proofs.Sets.{inside, inside_next, not_both}
-use Rattle.lq_ast.specs.Condition.{Condition}
 use Rattle.lq_grammar.specs.declared.role.Role.TheVariants.{In, I, Seq, LenRange, StringRange, Range, Quoted, Colon}
 use Rattle.lq_grammar.specs.declared.scope.Scope.{Scope}
 use Rattle.lq_grammar.specs.Roles.{any, plain_words, common_names}
 use Rattle.lq_grammar.specs.Values.{Bytes, Reason, Filtering, named, field_named}
-use Rattle.lq_grammar.specs.LogsQL.{Parse, End, heads, mark, text, ended, colon, alone, inner, led, range_led, word_led}
+use Rattle.lq_grammar.specs.LogsQL.{Parse, End, mark, text, ended, colon, alone, inner, led, range_led, word_led}
 use Rattle.lq_grammar.specs.LogsQL.{mark_leaf, bare_end, quoted_end, in_end, i_end, seq_end, len_range_end}
 use Rattle.lq_grammar.specs.LogsQL.{string_range_end, range_end, word_unit, ◌|||◌}
 use Rattle.lq_grammar.specs.Clauses.{at}

@@ -11,13 +11,14 @@ use Rattle.grammar.proofs.Sound.{rest_is}
 use Rattle.lq_ast.specs.Condition.{Condition, Conditions}
 use Rattle.lq_ast.specs.Condition as is
 use Rattle.lq_grammar.specs.declared.fault.Stop.{Stop as Halt}
-use Rattle.lq_grammar.specs.declared.fault.Stop.TheVariants.{Stuck, TooDeep, BadNumber, BadTime, BadDuration, Memory}
-use Rattle.lq_grammar.specs.Values.{Bytes, Reason, Filtering, denied, of_list}
+use Rattle.lq_grammar.specs.declared.fault.Stop.TheVariants.{Stuck, TooDeep, BadNumber, BadTime, BadDuration}
+use Rattle.lq_grammar.specs.declared.fault.Stop.TheVariants.{BadPattern, Memory}
+use Rattle.lq_grammar.specs.Values.{Bytes, Reason, Filtering, of_list}
 use Rattle.lq_grammar.specs.declared.scope.Scope.{Scope}
 use Rattle.lq_grammar.specs.declared.scope.Scope.TheVariants.{Rows, Records}
 use Rattle.lq_grammar.specs.LogsQL.{Name, heads, rules, logsql, Parse, next_unary, unary, unit, row_unit, record_unit}
 use Rattle.lq_grammar.specs.LogsQL.{selector, word_unit, led, range_led, word_led, mark_leaf, exact, regex, greater}
-use Rattle.lq_grammar.specs.LogsQL.{less, star}
+use Rattle.lq_grammar.specs.LogsQL.{less, star, filtered, denied_of}
 use Rattle.lq_grammar.specs.Clauses.{Fails, at, all_at, name_at}
 
 pub named_none : (depth : ℕ) (n : Name) (u : List (Token Bytes)) → next (heads n) u ≡ false
@@ -124,25 +125,31 @@ name_read depth n (t ∷ ts) rest some e = by_test (has (heads n) t) refl e
         named_more depth n t ts some h ∙ ap (at (depth - 1) (rules n)) (rest_is (tt {0}) (tt {0}) ts rest e)
     by_test false h e = absurd cc
 
+-- the negation of the filter that a name holds
+abbrev pub denied_in : Option Bytes → Answer Bytes Reason Filtering → Answer Bytes Reason Condition
+denied_in field r = mapped (λ value. denied_of value field) (mapped filtered r)
+
 pub deny_ok : (field : Option Bytes) (r : Answer Bytes Reason Filtering) (c : Condition) (w : List (Token Bytes))
-    → mapped (λ made. made field) r ≡ Ok (c, w) → mapped (λ made. denied made field) r ≡ Ok (is.negated c, w)
+    → mapped (λ made. made field) r ≡ Ok (c, w) → denied_in field r ≡ Ok (is.negated c, w)
 deny_ok field r c w e =
     let p = unmapped (λ made. made field) r c w e in
-    ap (mapped (λ made. denied made field)) p.1 ∙ ap (λ (x : Condition). found (is.negated x) w) p.2
+    ap (denied_in field) p.1 ∙ ap (λ (x : Condition). found (is.negated x) w) p.2
 
 pub fails_so : (halt : Halt) (field : Option Bytes) (r : Answer Bytes Reason Filtering)
-    → Fails halt (mapped (λ made. made field) r) → Fails halt (mapped (λ made. denied made field) r)
+    → Fails halt (mapped (λ made. made field) r) → Fails halt (denied_in field r)
 fails_so (Stuck left) field (Ok x) e = absurd cc
 fails_so (TooDeep at) field (Ok x) e = absurd cc
 fails_so (BadNumber at) field (Ok x) e = absurd cc
 fails_so (BadTime at) field (Ok x) e = absurd cc
 fails_so (BadDuration at) field (Ok x) e = absurd cc
+fails_so (BadPattern at) field (Ok x) e = absurd cc
 fails_so Memory field (Ok x) e = tt
 fails_so (Stuck left) field (Err stop) e = e
 fails_so (TooDeep at) field (Err stop) e = e
 fails_so (BadNumber at) field (Err stop) e = e
 fails_so (BadTime at) field (Err stop) e = e
 fails_so (BadDuration at) field (Err stop) e = e
+fails_so (BadPattern at) field (Err stop) e = e
 fails_so Memory field (Err stop) e = tt
 
 pub next_some : (scope : Scope) → nullable (next_unary scope) ≡ false

@@ -7,8 +7,9 @@ ghost use Rattle.lq_ast.specs.Condition.{all_of, any_of};
 ghost use Rattle.lq_ast.specs.View.{condition};
 ghost use Rattle.lq_grammar.specs.LogsQL.{heads, group, negation, inner_negation, inner, unit, row_unit, record_unit};
 ghost use Rattle.lq_grammar.specs.LogsQL.{word_unit, stream_end, stream_value, unary, next_unary, and, or};
+ghost use Rattle.lq_grammar.specs.LogsQL.{filter_of, denied_of};
 ghost use Rattle.lq_grammar.specs.declared.scope.Scope.TheVariants.{Rows};
-ghost use Rattle.lq_grammar.specs.Values.{denied, field_named, of_list};
+ghost use Rattle.lq_grammar.specs.Values.{field_named, of_list};
 ghost use Rattle.lq_grammar.specs.Clauses.{Gives, at as at_of, name_at};
 
 use crate::label::selector;
@@ -31,7 +32,7 @@ pub fn group<'t>(
     field: Option<&str>,
 ) -> Result<(Filter, &'t [Item]), Stop>
     ensures { Gives (λ x. (condition x.0, x.1.now)) result
-        (mapped (λ made. made (option_copied field.entry)) (name_at depth (group scope) tokens.now)) }
+        (mapped (λ value. filter_of value (option_copied field.entry)) (name_at depth (group scope) tokens.now)) }
 {
     let rest = expect(tokens, &[Role::Open])?;
     if depth == 0 {
@@ -53,7 +54,7 @@ fn negation<'t>(
     field: Option<&str>,
 ) -> Result<(Filter, &'t [Item]), Stop>
     ensures { Gives (λ x. (condition x.0, x.1.now)) result
-        (mapped (λ made. denied made (option_copied field.entry)) (name_at depth (negation scope) tokens.now)) }
+        (mapped (λ value. denied_of value (option_copied field.entry)) (name_at depth (negation scope) tokens.now)) }
 {
     let rest = expect(tokens, NEGATIONS)?;
     if depth == 0 {
@@ -74,7 +75,8 @@ fn inner_negation<'t>(
     field: Option<&str>,
 ) -> Result<(Filter, &'t [Item]), Stop>
     ensures { Gives (λ x. (condition x.0, x.1.now)) result
-        (mapped (λ made. denied made (option_copied field.entry)) (name_at depth (inner_negation scope) tokens.now)) }
+        (mapped (λ value. denied_of value (option_copied field.entry))
+        (name_at depth (inner_negation scope) tokens.now)) }
 {
     let rest = expect(tokens, NEGATIONS)?;
     if depth == 0 {

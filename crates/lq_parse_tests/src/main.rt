@@ -11,6 +11,7 @@
 
 mod answers_tests;
 mod pipes_tests;
+mod row_pipes_tests;
 mod shown_tests;
 mod tokens_tests;
 

@@ -1,4 +1,5 @@
 // Pipes as texts.
+use crate::row_pipes_tests::push_row_pipe;
 use crate::shown_tests::{DEPTH, push_filter, push_number, push_text, push_texts};
 use lq_ast::{Call, Func, Pair, Pipe, SortPipe, StatsPipe, UniqPipe};
 use std::alloc::AllocError;
@@ -25,6 +26,7 @@ fn word_of(pipe: &Pipe) -> &'static str {
         Pipe::Stats(_) => " | stats",
         Pipe::Keep(_) => " | keep ",
         Pipe::Top(_) => " | top",
+        Pipe::Make(_) => " | ",
     }
 }
 
@@ -42,6 +44,7 @@ fn push_pipe(pipe: &Pipe, out: &mut String) -> Result<(), AllocError> {
             push_number(i128::from(top.n), out)?;
             push_texts(top.names.as_slice(), out)
         }
+        Pipe::Make(pipe) => push_row_pipe(pipe, out),
     }
 }
 

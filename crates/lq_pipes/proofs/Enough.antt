@@ -1,15 +1,16 @@
 -- Pipes make of the fields that they need what they make of whole records.
 use Rattle.std.proofs.Common.{◌≡◌, ℕ, zero, suc, Bool, true, false, cond, List, [], ◌∷◌, ◌++◌, Option, Some, None}
-use Rattle.std.proofs.Common.{option_map}
+use Rattle.std.proofs.Common.{Result, Ok, Err, option_map}
 use Rattle.std.proofs.Common.{◌+◌, ◌<◌, ◌≤◌, refl, sym, ap, ◌∙◌, drop, filter, get_or, length, map, take}
 use Rattle.std.proofs.lemmas.List.{drop_all}
 use Rattle.std.specs.List.{AllByRecursion, drop-map, take-map}
 use Rattle.std.specs.Ordering.{ordering_reverse, ordering_then}
-use Rattle.std.specs.Prelude.{if◌then◌else◌}
+use Rattle.std.specs.Prelude.{IfOk, if◌then◌else◌}
 use Rattle.log_model.specs.Field.{IsFieldList}
 use Rattle.log_model.specs.Order.{value_cmp}
-use Rattle.lq_ast.specs.Grouping.{◌>>=◌}
+use Rattle.lq_ast.specs.Grouping.{all, ◌>>=◌}
 use Rattle.lq_ast.specs.Holds.{record_holds}
+use Rattle.lq_ast.specs.Made.{made}
 use Rattle.lq_ast.specs.Pipes.{all_piped}
 use Rattle.lq_ast.specs.Records.{Record, copy_fields, is_one_of, only_fields, rename_fields, without_fields}
 use Rattle.lq_ast.specs.Sorting.{at_most, record_cmp, sorted}
@@ -21,8 +22,9 @@ use Rattle.vl_row.specs.Place.{IsInOrder}
 use Rattle.lq_ast.specs.PipeView.{stage}
 use Rattle.lq_ast.specs.declared.pipe.Pipe.{Pipe}
 use Rattle.lq_filter.proofs.Walks.{rest_is}
-use Rattle.lq_pipes.specs.Needs.{looked_at, makes_anew, narrowed, needed}
+use Rattle.lq_pipes.specs.Needs.{looked_at, makes_anew, named_by, narrowed, needed}
 use Rattle.lq_pipes.proofs.Alike.{filtered_alike, grouped_alike, holds_alike, top_alike, uniq_alike}
+use Rattle.lq_pipes.proofs.Makings.{all_in_order, all_kept, makings_alike}
 use Rattle.lq_pipes.proofs.Narrowed.{Covers, copies_kept, covers_first, covers_head, covers_itself, covers_others}
 use Rattle.lq_pipes.proofs.Narrowed.{covers_tail, deleted_kept, in_order_copies, in_order_filtered, in_order_renames}
 use Rattle.lq_pipes.proofs.Narrowed.{only_twice, renames_kept, value_kept}
@@ -147,6 +149,15 @@ module _ (more : List (List ℕ)) where
         → map (only_fields later) (f (map less records)) ≡ map (only_fields later) (f records)
     commutes f records e = ap (map (only_fields later)) e ∙ mapped_twice (f records)
 
+-- What is left of records that are made is as good for what comes later.
+bound_alike : (later : List (List ℕ)) (others : List Stage)
+    → ((records : List Record) → Ordered records → all_piped others (map (only_fields later) records)
+    ≡ all_piped others records)
+    → (outcome : Result (List Record) (List ℕ)) → IfOk outcome Ordered
+    → (outcome >>= all_piped others) ≡ (all_kept later outcome >>= all_piped others)
+bound_alike later others enough (Ok records) h = sym (enough records h)
+bound_alike later others enough (Err name) h = refl
+
 record IsSplit (looked : List (List ℕ)) (rest : Option (List (List ℕ))) (names : List (List ℕ)) : Type 0 where
   later : List (List ℕ)
   is : rest ≡ Some later
@@ -243,6 +254,17 @@ enough_of (does.keep condition ∷ others) names e more covers records h =
     f (ordered_filtered (record_holds condition)) records h
     (commutes more split.later rest f records
     (filtered_alike more (record_holds condition) (holds_alike more condition fields) records))
+enough_of (does.make making ∷ others) names e more covers records h =
+    let looked = named_by making in
+    let split = split_needed looked (needed others) names e in
+    let mine = covers_split looked split.later names more split.whole covers in
+    let narrow = all (map (made making) (map (less more) records)) in
+    let whole = all (map (made making) records) in
+    let later = bound_alike split.later others (λ rs k. enough_of others split.later split.is split.later
+    (covers_itself split.later) rs k) in
+    later narrow (all_in_order making (map (less more) records) (ordered_less more records h))
+    ∙ ap (λ outcome. outcome >>= all_piped others) (makings_alike making more split.later mine records h)
+    ∙ sym (later whole (all_in_order making records h))
 
 pub enough : (stages : List Stage) (records : List Record) → AllByRecursion IsFieldList records
     → all_piped stages (map (narrowed (needed stages)) records) ≡ all_piped stages records

@@ -9,6 +9,7 @@ use Rattle.std.specs.Ordering.{is_eq}
 use Rattle.std.specs.declared.cmp.Ordering.{Ordering}
 use Rattle.lq_ast.specs.Grouping.{all, group_record, ◌>>=◌}
 use Rattle.lq_ast.specs.Groups.{group_tuples, key_tuple}
+use Rattle.lq_ast.specs.Made as is_made
 use Rattle.lq_ast.specs.Pipes.{piped}
 use Rattle.lq_ast.specs.Records.{Record}
 use Rattle.lq_ast.specs.Sorting.{at_most, tuples}
@@ -121,6 +122,8 @@ few_at_most (is.keep condition) records made n one few e = few_made _ made n e (
 few_at_most (is.top ranking) records made n one few e =
     few_made _ made n e (taken_few ranking.most _ n (mapped_few _ _ n (sorted_few _ _ n
     (tuples_few ranking.names records n few))))
+few_at_most (is.make making) records made n one few e =
+    rw (length-all (map (is_made.made making) records) made e) (mapped_few (is_made.made making) records n few)
 
 pub fewer : (stage : Stage) (records made : List Record) (bound : ℕ) → 1 < bound → length records < bound
     → piped stage records ≡ given made → length made < bound

@@ -3,6 +3,8 @@ pub mod Alike
 pub mod Among
 pub mod Enough
 pub mod Fewer
+pub mod MadeOnes
+pub mod Makings
 pub mod Merged
 pub mod Narrowed
 pub mod Piping

@@ -240,7 +240,7 @@ pub set_kept : (names : List (List ℕ)) (name value : List ℕ) (r : Record) �
 set_kept names name [] r s = removed_kept names name r
 set_kept names name (byte ∷ bytes) r s = inserted_kept names name (byte ∷ bytes) r s
 
-put_kept : (names : List (List ℕ)) (name value : List ℕ) (r : Record) → IsInOrder r
+pub put_kept : (names : List (List ℕ)) (name value : List ℕ) (r : Record) → IsInOrder r
     → only_fields names (put_field r name value)
     ≡ cond (is_one_of names name) (put_field (only_fields names r) name value) (only_fields names r)
 put_kept names name value r s =
@@ -335,7 +335,7 @@ pub in_order_set : (r : Record) (name value : List ℕ) → IsInOrder r → IsIn
 in_order_set r name [] s = in_order_removed r name s
 in_order_set r name (byte ∷ bytes) s = in_order_inserted r name (byte ∷ bytes) s
 
-in_order_put : (r : Record) (name value : List ℕ) → IsInOrder r → IsInOrder (put_field r name value)
+pub in_order_put : (r : Record) (name value : List ℕ) → IsInOrder r → IsInOrder (put_field r name value)
 in_order_put r name value s =
     let set = in_order_set r name value s in
     elim (is_empty name) as (λ t. IsInOrder (cond t r (set_field r name value))) [

@@ -23,6 +23,7 @@ plain_patterns (does.uniq distinct) e = refl
 plain_patterns (does.stats grouping) e = let bad : ⊥ = cc in absurd bad
 plain_patterns (does.keep condition) e = let bad : ⊥ = cc in absurd bad
 plain_patterns (does.top ranking) e = refl
+plain_patterns (does.make making) e = refl
 
 -- what is neither `stats` nor `filter`
 pub is_plain_pipe : (p : Pipe) → ((s : StatsPipe) → p ≡ pipe.Stats s → ⊥) → ((f : Filter) → p ≡ pipe.Keep f → ⊥)
@@ -38,6 +39,7 @@ is_plain_pipe (pipe.Uniq u) h k = refl
 is_plain_pipe (pipe.Stats s) h k = absurd (h s refl)
 is_plain_pipe (pipe.Keep f) h k = absurd (k f refl)
 is_plain_pipe (pipe.Top t) h k = refl
+is_plain_pipe (pipe.Make m) h k = refl
 
 pub plain_counted : (p : Pipe) (n : ℕ) → is_plain (stage p) ≡ true → n ≡ n + length (patterns_of_stage (stage p))
 plain_counted p n e = rw (plain_patterns (stage p) e) (omega arith)

@@ -10,7 +10,7 @@ use Rattle.lq_filter.specs.Refusal.{IsRefusal}
 use Rattle.lq_filter.specs.declared.fault.PrepareFault.{PrepareFault}
 use Rattle.lq_filter.specs.declared.fault.PrepareFault.TheVariants as prepare
 use Rattle.lq_pipes.specs.Faults.{IsMadeFault, IsPipeFault, IsRefused, of_preparing, of_statistics}
-use Rattle.lq_pipes.specs.RowPipes.{Passes}
+use Rattle.lq_pipes.specs.Passing.{Passes}
 use Rattle.lq_pipes.specs.declared.fault.PipeFault.{PipeFault}
 use Rattle.lq_pipes.specs.declared.fault.PipeFault.TheVariants as pipe
 use Rattle.lq_stats.specs.Finish.{IsFault}

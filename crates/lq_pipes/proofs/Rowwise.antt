@@ -18,7 +18,7 @@ use Rattle.lq_pipes.proofs.Narrowed.{Covers, covers_head, covers_itself, covers_
 use Rattle.lq_pipes.proofs.Piping.{piped_first}
 use Rattle.lq_pipes.proofs.Walked.{whole_taken}
 use Rattle.lq_pipes.specs.Needs.{narrowed}
-use Rattle.lq_pipes.specs.RowPipes.{Keeps, Passes}
+use Rattle.lq_pipes.specs.Passing.{Keeps, Passes}
 
 -- ---- pieces
 

@@ -12,10 +12,16 @@ use Rattle.lq_pipes.specs.declared.fault.PipeFault.{PipeFault}
 use Rattle.lq_pipes.specs.declared.fault.PipeFault.TheVariants.{RegexRefused, Overflow, Memory}
 use Rattle.lq_stats.specs.declared.fault.StatFault.{StatFault}
 use Rattle.lq_stats.specs.declared.fault.StatFault.TheVariants as stat
+use Rattle.row_pipes.specs.declared.fault.MakeFault.{MakeFault}
+use Rattle.row_pipes.specs.declared.fault.MakeFault.TheVariants as make
 
 abbrev pub of_statistics : StatFault → PipeFault
 of_statistics (stat.Overflow name) = Overflow name
 of_statistics stat.Memory = Memory
+
+abbrev pub of_making : MakeFault → PipeFault
+of_making (make.Overflow name) = Overflow name
+of_making make.Memory = Memory
 
 abbrev pub of_preparing : PrepareFault → PipeFault
 of_preparing (prepare.RegexRefused nth) = RegexRefused nth
@@ -33,8 +39,8 @@ IsMadeFault made (RegexRefused nth) = ⊥
 IsMadeFault made (Overflow name) = made ≡ Err name
 IsMadeFault made Memory = Unit {0}
 
--- The first pattern is refused that cannot be read. All can be read where a total overflows: the first one of these
--- pipes over these records.
+-- The first pattern is refused that cannot be read. All can be read where a total of `stats` or a number of `math`
+-- overflows: the first one of these pipes over these records.
 abbrev pub IsPipeFault : List Stage → List Record → PipeFault → Type 0
 IsPipeFault stages records (RegexRefused nth) = IsRefused (flat_map patterns_of_stage stages) (RegexRefused nth)
 IsPipeFault stages records (Overflow name) =

@@ -2,8 +2,8 @@ pub mod Cells
 pub mod Faults
 pub mod Merge
 pub mod Needs
+pub mod Passing
 pub mod Projector
-pub mod RowPipes
 pub mod RowRecords
 pub mod Steps
 pub mod Tokens

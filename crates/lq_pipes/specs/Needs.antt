@@ -4,6 +4,8 @@ use Rattle.std.specs.Prelude.{if◌then◌else◌}
 use Rattle.std.specs.Option.{option_map_or}
 use Rattle.lq_ast.specs.Condition.{Condition, Conditions}
 use Rattle.lq_ast.specs.Condition as is
+use Rattle.lq_ast.specs.Making.{Expression, Making, MathItem, extract, format, len, math, two, value_of, whole}
+use Rattle.lq_ast.specs.PatternText.{PatternPiece, named, plain}
 use Rattle.lq_ast.specs.Records.{Record, only_fields}
 use Rattle.lq_ast.specs.Stage.{Stage, Statistic}
 use Rattle.lq_ast.specs.Stage as does
@@ -39,6 +41,25 @@ abbrev mutual
 abbrev pub asked_by_statistic : Statistic → List (List ℕ)
 asked_by_statistic s = s.names ++ option_map_or asked_by s.only []
 
+abbrev pub named_in_piece : PatternPiece → List (List ℕ)
+named_in_piece (plain text) = []
+named_in_piece (named name) = name ∷ []
+
+abbrev pub named_in_expression : Expression → List (List ℕ)
+named_in_expression (whole n) = []
+named_in_expression (value_of field) = field ∷ []
+named_in_expression (two op left right) = named_in_expression left ++ named_in_expression right
+
+abbrev pub named_in_item : MathItem → List (List ℕ)
+named_in_item item = named_in_expression item.0
+
+-- the fields whose values a pipe that sets fields names
+abbrev pub named_by : Making → List (List ℕ)
+named_by (extract pieces from) = from ∷ []
+named_by (format pieces name) = flat_map named_in_piece pieces
+named_by (len from name) = from ∷ []
+named_by (math items) = flat_map named_in_item items
+
 -- the fields that a pipe looks at
 abbrev pub looked_at : Stage → List (List ℕ)
 looked_at (does.fields names) = names
@@ -53,6 +74,7 @@ looked_at (does.stats grouping) =
     map (λ key. key.0) grouping.keys ++ flat_map asked_by_statistic grouping.statistics
 looked_at (does.keep condition) = asked_by condition
 looked_at (does.top ranking) = ranking.names
+looked_at (does.make making) = named_by making
 
 -- It makes its records of these fields only.
 abbrev pub makes_anew : Stage → Bool

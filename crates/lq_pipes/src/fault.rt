@@ -1,5 +1,6 @@
 use lq_filter::PrepareFault;
 use lq_stats::StatFault;
+use row_pipes::MakeFault;
 use std::alloc::{AllocError, AllocFailed};
 use vl_row::Text;
 
@@ -9,9 +10,10 @@ pub enum PipeFault {
     /// The regular expression with this number, counted from 0 in the order of the pipes' text, is the first that
     /// cannot be read.
     RegexRefused { nth: u32 },
-    /// The total of the function of `stats` with this name is not a 64-bit integer.
+    /// The total of the function of `stats` with this name, or a number of `math` for the field of this name, is not a
+    /// 64-bit integer.
     Overflow { name: Text },
-    /// Memory is wanting.
+    /// Out of memory.
     Memory,
 }
 
@@ -61,6 +63,20 @@ impl From<StatFault> for PipeFault {
         match fault {
             StatFault::Overflow { name } => PipeFault::Overflow { name },
             StatFault::Memory => PipeFault::Memory,
+        }
+    }
+}
+
+impl From<MakeFault> for PipeFault {
+    ghost use Rattle.std.specs.Prelude.{◌≡◌};
+    ghost use Rattle.lq_pipes.specs.Faults.{of_making};
+
+    ghost from_gives = { λ fault made. made ≡ of_making fault };
+
+    fn from(fault: MakeFault) -> PipeFault {
+        match fault {
+            MakeFault::Overflow { name } => PipeFault::Overflow { name },
+            MakeFault::Memory => PipeFault::Memory,
         }
     }
 }

@@ -3,14 +3,19 @@ ghost use Rattle.std.specs.Prelude.{◌≡◌, [], ◌∷◌, ◌++◌, IfOk, Li
 ghost use Rattle.std.specs.List.{AllByRecursion};
 ghost use Rattle.log_model.specs.Field.{IsFieldList};
 ghost use Rattle.lq_ast.specs.Condition.{conditions};
+ghost use Rattle.lq_ast.specs.MakingView.{expression, making, math_item, pattern_piece, pattern_pieces};
 ghost use Rattle.lq_ast.specs.PipeView.{group_by, grouping, name_pair, sort_by, sorting, stage, statistic};
 ghost use Rattle.lq_ast.specs.Pipes.{all_piped};
 ghost use Rattle.lq_ast.specs.Records.{Record};
 ghost use Rattle.lq_ast.specs.View.{condition};
 ghost use Rattle.lq_pipes.specs.Needs.{asked_among, asked_by, asked_by_statistic, looked_at, makes_anew};
+ghost use Rattle.lq_pipes.specs.Needs.{named_by, named_in_expression, named_in_item, named_in_piece};
 ghost use Rattle.lq_pipes.specs.Needs.{narrowed, needed};
 
-use lq_ast::{Filter, Func, Pair, Pipe, SortKey, SortPipe, StatKey, StatsPipe};
+use lq_ast::{
+    Expr, Filter, Func, MathItem, Pair, Pattern, Piece, Pipe, RowPipe, SortKey, SortPipe, StatKey,
+    StatsPipe,
+};
 use std::alloc::{AllocError, Global};
 use std::marker::Model;
 use vl_row::Text;
@@ -93,6 +98,7 @@ fn push_pipe(alloc: Global, pipe: &Pipe, names: &mut Vec<Text>) -> Result<(), Al
         Pipe::Stats(stats) => push_stats(alloc, stats, names),
         Pipe::Keep(filter) => push_filter(alloc, filter, names),
         Pipe::Top(top) => push_all(alloc, top.names.as_slice(), names),
+        Pipe::Make(making) => push_making(alloc, making, names),
         Pipe::Delete(_) | Pipe::Limit(_) | Pipe::Offset(_) => Ok(()),
     }
 }
@@ -203,4 +209,56 @@ fn push_filters(alloc: Global, filters: &[Filter], names: &mut Vec<Text>) -> Res
         push_filter(alloc, filter, names)?;
     }
     Ok(())
+}
+
+fn push_making(alloc: Global, pipe: &RowPipe, names: &mut Vec<Text>) -> Result<(), AllocError>
+    ensures { OnOk result (names.new.items ≡ names.old.items ++ named_by (making pipe.now)) }
+{
+    match pipe {
+        RowPipe::Extract { from, .. } | RowPipe::Len { from, .. } => push_one(alloc, from, names),
+        RowPipe::Format { pattern, .. } => push_pattern(alloc, pattern, names),
+        RowPipe::Math { items } => push_items(alloc, items.as_slice(), names),
+    }
+}
+
+fn push_pattern(alloc: Global, pattern: &Pattern, names: &mut Vec<Text>) -> Result<(), AllocError>
+    ensures { OnOk result (names.new.items
+        ≡ names.old.items ++ flat_map named_in_piece (pattern_pieces pattern.now)) }
+{
+    for piece in pattern.pieces.as_slice() {
+        push_piece(alloc, piece, names)?;
+    }
+    Ok(())
+}
+
+fn push_piece(alloc: Global, piece: &Piece, names: &mut Vec<Text>) -> Result<(), AllocError>
+    ensures { OnOk result (names.new.items ≡ names.old.items ++ named_in_piece (pattern_piece piece.now)) }
+{
+    match piece {
+        Piece::Plain(_) => Ok(()),
+        Piece::Name(name) => push_one(alloc, name, names),
+    }
+}
+
+fn push_items(alloc: Global, items: &[MathItem], names: &mut Vec<Text>) -> Result<(), AllocError>
+    ensures { OnOk result (names.new.items
+        ≡ names.old.items ++ flat_map named_in_item (map math_item items.now)) }
+{
+    for item in items {
+        push_expression(alloc, &item.expr, names)?;
+    }
+    Ok(())
+}
+
+fn push_expression(alloc: Global, expr: &Expr, names: &mut Vec<Text>) -> Result<(), AllocError>
+    ensures { OnOk result (names.new.items ≡ names.old.items ++ named_in_expression (expression expr.now)) }
+{
+    match expr {
+        Expr::Whole(_) => Ok(()),
+        Expr::Named(field) => push_one(alloc, field, names),
+        Expr::Two { left, right, .. } => {
+            push_expression(alloc, left, names)?;
+            push_expression(alloc, right, names)
+        }
+    }
 }

@@ -16,8 +16,8 @@ use vl_row::Recs;
 
 /// Returns the records that the pipes make of others, one pipe after another. All their regular expressions are read
 /// first: `RegexRefused` comes only where the one with that number is the first that cannot be read, and `Overflow`
-/// exactly where the first total that is not a 64-bit integer is that of the function with this name. The seed of the
-/// tables of values is the fixed one.
+/// exactly where the first number that is not a 64-bit integer is the total of the function of `stats` with this name, or
+/// a number of `math` for the field of this name. The seed of the tables of values is the fixed one.
 pub fn apply(alloc: Global, pipes: &[Pipe], r: Recs) -> Result<Recs, PipeFault>
     requires few { length r < 2 ^ 32 }
     ensures ok { IfOk result (λ made. all_piped (map stage pipes.now) r ≡ Ok made) }

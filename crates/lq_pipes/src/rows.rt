@@ -16,9 +16,9 @@ ghost use Rattle.lq_stats.specs.Plan.{IsPlanOf};
 use crate::fault::PipeFault;
 use crate::kept::keep;
 use crate::needed::Needs;
+use crate::passing::pass_rows;
 use crate::pipes::{run_all, steps};
 use crate::projector::record_law;
-use crate::row_pipes::pass_rows;
 use crate::row_records::RowRecords;
 use crate::step::{Step, run_plain};
 use lent_row::LentRow;
@@ -116,7 +116,7 @@ impl<'p> Step<'p> {
         ensures fault { IfErr result (IsMadeFault (piped (stage_of self.now) (records_left R.event rows.entry))) }
     {
         match self {
-            Step::Plain(pipe) => Ok(apply_plain_to_rows(alloc, seed, pipe, rows)?),
+            Step::Plain(pipe) => apply_plain_to_rows(alloc, seed, pipe, rows),
             Step::Stats(stats, plan) => statistics_of_rows(alloc, stats, plan, rows),
             Step::Keep(asked) => Ok(keep(alloc, asked, rows.rest(alloc)?)?),
         }
@@ -130,19 +130,20 @@ fn apply_plain_to_rows<R: LentRow>(
     seed: HashSeed,
     pipe: &Pipe,
     rows: RowRecords<'_, R>,
-) -> Result<Recs, AllocError>
+) -> Result<Recs, PipeFault>
     requires plain { is_plain (stage pipe.now) ≡ true }
     requires few { length (records_left R.event rows) < 2 ^ 32 }
-    ensures { IfOk result (λ made. piped (stage pipe.now) (records_left R.event rows.entry) ≡ Ok made) }
+    ensures ok { IfOk result (λ made. piped (stage pipe.now) (records_left R.event rows.entry) ≡ Ok made) }
+    ensures fault { IfErr result (IsMadeFault (piped (stage pipe.now) (records_left R.event rows.entry))) }
 {
     match pipe {
         Pipe::Uniq(uniq) => {
             let tally = tally_of_rows(alloc, seed, uniq.names.as_slice(), rows)?;
-            tally.uniq(alloc, uniq)
+            Ok(tally.uniq(alloc, uniq)?)
         }
         Pipe::Top(top) => {
             let tally = tally_of_rows(alloc, seed, top.names.as_slice(), rows)?;
-            tally.top(alloc, top)
+            Ok(tally.top(alloc, top)?)
         }
         _ => run_plain(alloc, seed, pipe, rows.rest(alloc)?),
     }

@@ -13,12 +13,13 @@ ghost use Rattle.lq_stats.specs.Plan.{IsPlanOf};
 use crate::fault::PipeFault;
 use crate::fields::{copy, delete_fields, keep_fields, rename};
 use crate::kept::{keep, limit, offset};
+use crate::making::make_all;
 use lq_ast::{Pipe, StatsPipe};
 use lq_filter::{Inner, PrepareFault, prepare_inner_numbered};
 use lq_order::{sort_recs_seeded, top_recs_seeded, uniq_recs_seeded};
 use lq_stats::Plan;
 use lq_tuple::HashSeed;
-use std::alloc::{AllocError, Global};
+use std::alloc::Global;
 use vl_row::Recs;
 
 /// A pipe whose regular expressions are read.
@@ -60,7 +61,7 @@ impl<'p> Step<'p> {
         ensures fault { IfErr result (IsMadeFault (piped (stage_of self.now) r)) }
     {
         match self {
-            Step::Plain(pipe) => Ok(run_plain(alloc, seed, pipe, r)?),
+            Step::Plain(pipe) => run_plain(alloc, seed, pipe, r),
             Step::Stats(stats, plan) => statistics(alloc, stats, plan, r),
             Step::Keep(asked) => Ok(keep(alloc, asked, r)?),
         }
@@ -73,20 +74,22 @@ pub(crate) fn run_plain(
     seed: HashSeed,
     pipe: &Pipe,
     r: Recs,
-) -> Result<Recs, AllocError>
+) -> Result<Recs, PipeFault>
     requires { is_plain (stage pipe.now) ≡ true }
-    ensures { IfOk result (λ made. piped (stage pipe.now) r ≡ Ok made) }
+    ensures ok { IfOk result (λ made. piped (stage pipe.now) r ≡ Ok made) }
+    ensures fault { IfErr result (IsMadeFault (piped (stage pipe.now) r)) }
 {
     match pipe {
         Pipe::Fields(names) => Ok(keep_fields(names.as_slice(), r)),
         Pipe::Delete(names) => Ok(delete_fields(names.as_slice(), r)),
-        Pipe::Rename(pairs) => rename(alloc, pairs.as_slice(), r),
-        Pipe::Copy(pairs) => copy(alloc, pairs.as_slice(), r),
+        Pipe::Rename(pairs) => Ok(rename(alloc, pairs.as_slice(), r)?),
+        Pipe::Copy(pairs) => Ok(copy(alloc, pairs.as_slice(), r)?),
         Pipe::Limit(most) => Ok(limit(*most, r)),
         Pipe::Offset(first) => Ok(offset(*first, r)),
-        Pipe::Sort(sort) => sort_recs_seeded(alloc, seed, sort, r),
-        Pipe::Uniq(uniq) => uniq_recs_seeded(alloc, seed, uniq, r),
-        Pipe::Top(top) => top_recs_seeded(alloc, seed, top, r),
+        Pipe::Sort(sort) => Ok(sort_recs_seeded(alloc, seed, sort, r)?),
+        Pipe::Uniq(uniq) => Ok(uniq_recs_seeded(alloc, seed, uniq, r)?),
+        Pipe::Top(top) => Ok(top_recs_seeded(alloc, seed, top, r)?),
+        Pipe::Make(making) => make_all(alloc, making, r),
         Pipe::Stats(_) | Pipe::Keep(_) => unreachable!(),
     }
 }

@@ -4,4 +4,5 @@ pub mod Naming
 pub mod Outcomes
 pub mod Phrases
 pub mod Reading
+pub mod Splitting
 pub mod Moments

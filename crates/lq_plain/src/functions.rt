@@ -138,7 +138,8 @@ fn are_empty(names: &[Text], fields: &FieldList) -> bool
     }
 }
 
-fn decimal(alloc: Global, number: usize) -> Result<Text, AllocError>
+/// Returns the number as text.
+pub(crate) fn decimal(alloc: Global, number: usize) -> Result<Text, AllocError>
     ensures { IfOk result (λ text. text ≡ decimal number) }
 {
     let text = number.to_string(alloc)?;

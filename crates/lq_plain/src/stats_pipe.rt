@@ -4,7 +4,7 @@ ghost use Rattle.std.specs.List.{AllByRecursion};
 ghost use Rattle.lq_ast.specs.Grouping.{all, group_record, grouped, set_statistics};
 ghost use Rattle.lq_ast.specs.Patterns.{CanBeRead, patterns_of_grouping};
 ghost use Rattle.lq_ast.specs.PipeView.{group_by, grouping, statistic};
-ghost use Rattle.lq_ast.specs.Records.{put_field, put_fields};
+ghost use Rattle.lq_ast.specs.Records.{put_fields};
 ghost use Rattle.lq_plain.specs.Outcome.{prepend};
 ghost use Rattle.lq_plain.specs.Refusal.{IsRefusal};
 
@@ -12,6 +12,7 @@ use crate::fault::PlainFault;
 use crate::functions::statistic_text;
 use crate::groups::{group_tuples, members};
 use crate::patterns::check_functions;
+use crate::put::put;
 use lq_ast::{Func, StatKey, StatsPipe};
 use std::alloc::{AllocError, Global};
 use vl_row::{FieldList, Items, Recs, Text};
@@ -115,14 +116,4 @@ fn put_keys(
             }
         },
     }
-}
-
-/// Sets a field, unless its name is empty.
-fn put(alloc: Global, fields: &mut FieldList, name: &str, value: &str) -> Result<(), AllocError>
-    ensures { OnOk result (fields.new ≡ put_field fields.old name.now value.now) }
-{
-    if name.is_empty() {
-        return Ok(());
-    }
-    fields.set(alloc, name, value)
 }

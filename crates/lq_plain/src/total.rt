@@ -44,7 +44,8 @@ fn total(numbers: &[i64]) -> i128
     sum
 }
 
-fn decimal(alloc: Global, number: i64) -> Result<Text, AllocError>
+/// Returns the number as text.
+pub(crate) fn decimal(alloc: Global, number: i64) -> Result<Text, AllocError>
     ensures { IfOk result (λ text. text ≡ signed_decimal number) }
 {
     let text = number.to_string(alloc)?;

@@ -47,7 +47,7 @@ asked_none s = at s.only
     at None = refl
     at (Some condition) = refl
 
-asked_few : (s : Statistic) (records : List Record) → length (asked s.only records) ≤ length records
+pub asked_few : (s : Statistic) (records : List Record) → length (asked s.only records) ≤ length records
 asked_few s records = at s.only
   where
     at : (o : Option Condition) → length (asked o records) ≤ length records
@@ -81,7 +81,7 @@ members_more : (keys : List GroupBy) (records : List Record) (r : Record) (t : T
     ≡ cond (is_eq (tuple_cmp (key_tuple keys r) t)) (members keys records t ++ r ∷ []) (members keys records t)
 members_more keys records r t = filter_more (λ s. is_eq (tuple_cmp (key_tuple keys s) t)) records r
 
-members_none : (keys : List GroupBy) (records : List Record) (t : Tuple)
+pub members_none : (keys : List GroupBy) (records : List Record) (t : Tuple)
     → count tuple_cmp t (map (key_tuple keys) records) ≡ 0 → members keys records t ≡ []
 members_none keys records t none =
     filter_none (λ s. is_eq (tuple_cmp (key_tuple keys s) t)) records
@@ -89,7 +89,7 @@ members_none keys records t none =
     (λ s. eq_turned (key_tuple keys s) t) records
     ∙ sym (count_made (λ u. is_eq (tuple_cmp t u)) (key_tuple keys) records) ∙ none)
 
-members_few : (keys : List GroupBy) (records : List Record) (t : Tuple)
+pub members_few : (keys : List GroupBy) (records : List Record) (t : Tuple)
     → length (members keys records t) ≤ length records
 members_few keys records t =
     let is = length-filter (λ s. is_eq (tuple_cmp (key_tuple keys s) t)) records in

@@ -1,7 +1,12 @@
 pub mod Arrays
+pub mod Entering
+pub mod Extremes
 pub mod Finishing
 pub mod Gathering
+pub mod JoinedStates
+pub mod Joining
 pub mod Measuring
 pub mod Moments
 pub mod Ordering
 pub mod Taking
+pub mod Wording

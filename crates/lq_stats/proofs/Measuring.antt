@@ -20,7 +20,7 @@ use Rattle.lq_ast.specs.Tuples.{insert_by, sorted_by}
 use Rattle.lq_tuple.proofs.Lists.{filter_more}
 use Rattle.lq_tuple.proofs.Once.{count_cons, count_more, filtered_same, once_alike, sorted_same}
 use Rattle.lq_tuple.proofs.Tuples.{value_tells}
-use Rattle.lq_stats.specs.Measure.{AreMeasured, are_filled, greater, lesser, sum_of, with_number, within_128}
+use Rattle.lq_stats.specs.Measure.{AreMeasured, are_filled, greater, lesser, sum_of, with_number, with_sum, within_128}
 use Rattle.lq_tuple.specs.Once.{count}
 use Rattle.lq_stats.specs.declared.measure.Measure.{Measure}
 use Rattle.lq_stats.specs.declared.measure.Measure.TheVariants.{Sum, Min, Max, UniqValues}
@@ -103,6 +103,43 @@ fold_moved a b [] = refl
 fold_moved a b (n ∷ ns) =
     let moved : (a +ℤ b) +ℤ n ≡ a +ℤ (b +ℤ n) = omega (arith, ints) in
     ap (λ (z : ℤ). fold (λ sum k. sum +ℤ k) z ns) moved ∙ fold_moved a (b +ℤ n) ns
+
+total_joined : (ms ns : List ℤ) (a : ℤ)
+    → fold (λ sum k. sum +ℤ k) a (ms ++ ns) ≡ fold (λ sum k. sum +ℤ k) a ms +ℤ fold (λ sum k. sum +ℤ k) (pos 0) ns
+total_joined [] ns a =
+    let none : a ≡ a +ℤ pos 0 = omega (arith, ints) in
+    ap (λ (z : ℤ). fold (λ sum k. sum +ℤ k) z ns) none ∙ fold_moved a (pos 0) ns
+total_joined (m ∷ ms) ns a = total_joined ms ns (a +ℤ m)
+
+-- the sum of both, where the second has some
+sum_of_both : (ms : List ℤ) (n : ℤ) (ns : List ℤ)
+    → sum_of (ms ++ n ∷ ns) ≡ Some (unwrap_or (sum_of ms) (pos 0) +ℤ fold (λ sum k. sum +ℤ k) (pos 0) (n ∷ ns))
+sum_of_both [] n ns =
+    let none : fold (λ sum k. sum +ℤ k) (pos 0) (n ∷ ns) ≡ pos 0 +ℤ fold (λ sum k. sum +ℤ k) (pos 0) (n ∷ ns) =
+    omega (arith, ints) in
+    ap (λ (z : ℤ). Some z) none
+sum_of_both (m ∷ ms) n ns = ap (λ (z : ℤ). Some z) (total_joined (m ∷ ms) (n ∷ ns) (pos 0))
+
+with_both : (ms ns : List ℤ) → AllByRecursion (FitsSigned w64) ms → AllByRecursion (FitsSigned w64) ns
+    → length ms + length ns < 2 ^ 64 → with_sum (sum_of ms) (sum_of ns) ≡ sum_of (ms ++ ns)
+with_both ms [] fits more few = ap sum_of (sym (append-nil ms))
+with_both ms (n ∷ ns) fits more few =
+    let one = sum_within ms fits in
+    let other = sum_within (n ∷ ns) more in
+    let same = stays_within (unwrap_or (sum_of ms) (pos 0) +ℤ fold (λ sum k. sum +ℤ k) (pos 0) (n ∷ ns))
+    (omega (arith, ints, one.0, other.0)) (omega (arith, ints, one.1, other.1)) in
+    ap (λ (z : ℤ). Some z) same ∙ sym (sum_of_both ms n ns)
+
+-- the sum of the numbers of two lists
+pub sum_joined : (values more : List (List ℕ)) → length values + length more < 2 ^ 64
+    → with_sum (sum_of (filter_map number_of values)) (sum_of (filter_map number_of more))
+    ≡ sum_of (filter_map number_of (values ++ more))
+sum_joined values more few =
+    let one = numbers_few values in
+    let other = numbers_few more in
+    with_both (filter_map number_of values) (filter_map number_of more) (numbers_fit values) (numbers_fit more)
+    (omega arith)
+    ∙ ap sum_of (sym (filter_map-append number_of values more))
 
 sum_of_joined : (n : ℤ) (ns : List ℤ) → sum_of (n ∷ ns) ≡ joined (Some n) (sum_of ns)
 unfolding joined

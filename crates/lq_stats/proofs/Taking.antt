@@ -1,7 +1,9 @@
 -- What functions keep of records, as one more comes.
 use Rattle.std.proofs.Common.{◌≡◌, ℕ, ◌+◌, ◌*◌, ◌-◌, ◌^◌, ◌<◌, ◌≤◌, Bool, true, false, not, ◌||◌, cond, List, [], ◌∷◌}
-use Rattle.std.proofs.Common.{◌++◌, length, map, append_assoc, length-append, get_or, take, is_some, Option, Some, None, min, refl, sym, ap, ◌∙◌, arith}
-use Rattle.std.proofs.lemmas.List.{length-map, length-take, map_more, map_push}
+use Rattle.std.proofs.Common.{◌++◌, length, map, append_assoc, length-append, get_or, take, is_some, Option, Some}
+use Rattle.std.proofs.Common.{None, min, refl, sym, ap, ◌∙◌, arith}
+use Rattle.std.proofs.lemmas.List.{length-map, length-take, map-append, map_more, map_push}
+use Rattle.std.proofs.lemmas.List.Elements.{filter-append}
 use Rattle.std.proofs.lemmas.List.Sums.{count_by-le-length, length-filter}
 use Rattle.std.specs.List.{count_by, filter, filter_map}
 use Rattle.std.specs.Ordering.{is_eq}
@@ -9,7 +11,7 @@ use Rattle.log_model.specs.Field.{field_value}
 use Rattle.log_model.specs.Order.{number_of, value_cmp}
 use Rattle.lq_ast.specs.Records.{Record}
 use Rattle.lq_ast.specs.Statistics.{counted, first_text, has_some, last_text, values}
-use Rattle.lq_ast.specs.Tuples.{is_wholly_empty, sorted_by, tuple_of}
+use Rattle.lq_ast.specs.Tuples.{Tuple, is_wholly_empty, sorted_by, tuple_of}
 use Rattle.lq_tuple.proofs.Lists.{filter_more}
 use Rattle.lq_tuple.proofs.Once.{count_cons, count_joined, count_more}
 use Rattle.lq_stats.specs.Measure.{are_filled, sum_of}
@@ -152,3 +154,65 @@ none_greatest greatest is names = rw (no_values names) is
 pub none_words : (words : Words) → AreWords words [] → (names : List (List ℕ))
     → AreWords words (are_filled (values names []))
 none_words words h names = rw (no_values names) h
+
+-- ---- the records of two lists
+
+kept_joined : (keep : Record → Bool) (records others : List Record)
+    → length (filter keep (records ++ others)) ≡ length (filter keep records) + length (filter keep others)
+kept_joined keep records others =
+    ap length (filter-append keep records others) ∙ length-append (filter keep records) (filter keep others)
+
+pub counts_joined : (names : List (List ℕ)) (records others : List Record)
+    → counted names (records ++ others) ≡ counted names records + counted names others
+counts_joined [] records others = length-append records others
+counts_joined (name ∷ names) records others = kept_joined (has_some (name ∷ names)) records others
+
+pub empty_joined : (names : List (List ℕ)) (records others : List Record)
+    → length (filter (λ r. not (has_some names r)) (records ++ others))
+    ≡ length (filter (λ r. not (has_some names r)) records) + length (filter (λ r. not (has_some names r)) others)
+empty_joined names records others = kept_joined (λ r. not (has_some names r)) records others
+
+-- the tuples that are not wholly empty
+abbrev pub filled_tuples : List (List ℕ) → List Record → List Tuple
+filled_tuples names records = filter (λ tuple. not (is_wholly_empty tuple)) (map (tuple_of names) records)
+
+pub tuples_joined : (names : List (List ℕ)) (records others : List Record)
+    → filled_tuples names (records ++ others) ≡ filled_tuples names records ++ filled_tuples names others
+tuples_joined names records others =
+    ap (filter (λ tuple. not (is_wholly_empty tuple))) (map-append (tuple_of names) records others)
+    ∙ filter-append (λ tuple. not (is_wholly_empty tuple)) (map (tuple_of names) records) (map (tuple_of names) others)
+
+pub values_joined : (x : List ℕ) (names : List (List ℕ)) (records others : List Record)
+    → count value_cmp x (values names (records ++ others))
+    ≡ count value_cmp x (values names records ++ values names others)
+values_joined x [] records others = refl
+values_joined x (name ∷ names) records others =
+    let test = λ (y : List ℕ). is_eq (value_cmp x y) in
+    let made = map (λ s. field_value s name) records in
+    let more = map (λ s. field_value s name) others in
+    let both = map (λ s. field_value s name) (records ++ others) in
+    let whole = count_joined test both (values names (records ++ others)) in
+    let made_more = map-append (λ s. field_value s name) records others in
+    let front = ap (count_by test) made_more ∙ count_joined test made more in
+    let rest = values_joined x names records others ∙ count_joined test (values names records) (values names others) in
+    let all = count_joined test (made ++ values names records) (more ++ values names others) in
+    let one = count_joined test made (values names records) in
+    let other = count_joined test more (values names others) in
+    omega (arith, whole, front, rest, all, one, other)
+
+values_many : (names : List (List ℕ)) (records others : List Record) → length records + length others ≤ 2 ^ 32
+    → length (values names records) + length (values names others) ≤ length names * 2 ^ 32
+values_many [] records others few = omega arith
+values_many (name ∷ names) records others few =
+    let more = values_many names records others few in
+    let made = length-map records (λ s. field_value s name) in
+    let other = length-map others (λ s. field_value s name) in
+    let whole = length-append (map (λ s. field_value s name) records) (values names records) in
+    let all = length-append (map (λ s. field_value s name) others) (values names others) in
+    omega arith
+
+pub values_both : (names : List (List ℕ)) (records others : List Record) → length names < 2 ^ 32
+    → length records + length others ≤ 2 ^ 32 → length (values names records) + length (values names others) < 2 ^ 64
+values_both names records others few bound =
+    let many = values_many names records others bound in
+    omega arith

@@ -1,6 +1,6 @@
 -- What a function has kept of some values.
 use Rattle.std.specs.Prelude.{◌≡◌, ℕ, not, ◌||◌, List, [], ◌∷◌, filter, filter_map, ℤ, pos, ◌+ℤ◌, Option, Some, None}
-use Rattle.std.specs.Prelude.{unwrap_or, if◌then◌else◌, neg_ℤ, ◌-◌, ◌^◌, int_le, int_lt}
+use Rattle.std.specs.Prelude.{unwrap_or, if◌then◌else◌, neg_ℤ, ◌-◌, ◌^◌, int_le, int_lt, ◌+◌, ◌<◌, ◌++◌, length}
 use Rattle.std.specs.Option.{option_map_or}
 use Rattle.std.specs.Ordering.{is_lt, is_gt}
 use Rattle.log_model.specs.Field.{is_empty}
@@ -57,3 +57,15 @@ abbrev pub greater : List ℕ → List ℕ → List ℕ
 greater greatest value =
     if is_empty value then greatest
     else (if is_empty greatest || is_gt (value_cmp value greatest) then value else greatest)
+
+-- ---- the values of two lists
+
+-- a sum with another, where either may be of no numbers
+abbrev pub with_sum : Option ℤ → Option ℤ → Option ℤ
+with_sum sum more = option_map_or (λ n. Some (within_128 (unwrap_or sum (pos 0) +ℤ n))) more sum
+
+-- The new state is what the function keeps of both lists of values, if these are fewer than 2^64.
+abbrev pub JoinsValues : Measure → Measure → Measure → Type 0
+JoinsValues old other new =
+    (values more : List (List ℕ)) → length values + length more < 2 ^ 64 → AreMeasured old values
+    → AreMeasured other more → AreMeasured new (values ++ more)

@@ -1,5 +1,6 @@
 -- What a function has kept of some records.
-use Rattle.std.specs.Prelude.{◌≡◌, ℕ, ◌<◌, ◌^◌, Bool, true, false, not, List, [], ◌∷◌, ◌++◌, length, filter, map}
+use Rattle.std.specs.Prelude.{◌≡◌, ℕ, ◌+◌, ◌<◌, ◌≤◌, ◌^◌, Bool, true, false, not, List, [], ◌∷◌, ◌++◌, length, filter}
+use Rattle.std.specs.Prelude.{map}
 use Rattle.lq_ast.specs.Records.{Record}
 use Rattle.lq_ast.specs.Statistics.{counted, has_some, values}
 use Rattle.lq_ast.specs.Tuples.{is_wholly_empty, tuple_of}
@@ -34,3 +35,10 @@ abbrev pub Takes : List (List ℕ) → State → State → Record → Type 0
 Takes names old new r =
     (records : List Record) → length records < 2 ^ 32 → AreTaken names old records
     → AreTaken names new (records ++ r ∷ [])
+
+-- The new state is that of the records of both, if these are at most 2^32 and the fields fewer than that.
+abbrev pub Joins : State → State → State → Type 0
+Joins old other new =
+    (names : List (List ℕ)) (records others : List Record) → length names < 2 ^ 32
+    → length records + length others ≤ 2 ^ 32 → AreTaken names old records → AreTaken names other others
+    → AreTaken names new (records ++ others)

@@ -2,7 +2,8 @@
 ghost use Rattle.std.specs.Prelude.{◌≡◌, [], map, IfOk, OnOk};
 ghost use Rattle.lq_stats.specs.Key.{grouped_by};
 ghost use Rattle.lq_stats.specs.Function.{scanned_statistic};
-ghost use Rattle.lq_stats.specs.Groups.{AreStates, IsEntered, TakeRecord, TakeRecords, TakesOne, TakesRecord};
+ghost use Rattle.lq_stats.specs.Groups.{AreStates, IsEntered, JoinGroups, JoinStates, JoinsAt, TakeRecord};
+ghost use Rattle.lq_stats.specs.Groups.{TakeRecords, TakeStates, TakesOne, TakesRecord};
 ghost use Rattle.lq_tuple.specs.Places.{AreKnown};
 
 use crate::function_scan::FunctionScan;
@@ -45,6 +46,27 @@ impl States {
         let count = scans.len().min(self.list.len());
         for i in 0..count {
             add_to(&mut self.list[i], scratch, &mut scans[i], fields)?;
+        }
+        Ok(())
+    }
+
+    /// Takes what the same functions have kept of other records.
+    fn merge(&mut self, alloc: Global, other: States) -> Result<(), AllocError>
+        ensures { OnOk result (JoinStates self.old.list.items other.list.items self.new.list.items) }
+    {
+        let States { mut list } = other;
+        while let Some(state) = list.pop() {
+            self.take(alloc, list.len(), state)?;
+        }
+        Ok(())
+    }
+
+    /// Takes what the function at this place has kept of other records.
+    fn take(&mut self, alloc: Global, place: usize, state: State) -> Result<(), AllocError>
+        ensures { OnOk result (JoinsAt place state self.old.list.items self.new.list.items) }
+    {
+        if place < self.list.len() {
+            return self.list[place].merge(alloc, state);
         }
         Ok(())
     }
@@ -142,5 +164,31 @@ impl Groups {
         let states = States::of(alloc, scratch.seed, scans)?;
         self.states.push(states)?;
         Ok(place)
+    }
+    /// Takes the groups of other records.
+    pub(crate) fn merge(&mut self, alloc: Global, other: Groups) -> Result<(), AllocError>
+        ensures { OnOk result (JoinGroups self.old other self.new) }
+    {
+        let Groups { places, mut states } = other;
+        let texts = places.texts(alloc)?;
+        while let Some(kept) = states.pop() {
+            let place = states.len();
+            if place < texts.len() {
+                self.take(alloc, texts[place], kept)?;
+            }
+        }
+        Ok(())
+    }
+
+    /// Takes the states of more records of the tuple with this text.
+    fn take(&mut self, alloc: Global, text: &str, states: States) -> Result<(), AllocError>
+        ensures { OnOk result (TakeStates self.old self.new text.now states) }
+    {
+        let place = self.places.place(alloc, text)?;
+        if place < self.states.len() {
+            return self.states[place].merge(alloc, states);
+        }
+        self.states.push(states)?;
+        Ok(())
     }
 }

@@ -1,7 +1,7 @@
 //! What some functions keep of the values that they are given.
 ghost use Rattle.std.specs.Prelude.{◌≡◌, ◌<◌, ◌^◌, ◌++◌, [], ◌∷◌, List, ℕ, length, OnOk, if◌then◌else◌};
 ghost use Rattle.log_model.specs.Field.{is_empty};
-ghost use Rattle.lq_stats.specs.Measure.{AreMeasured, measure_call};
+ghost use Rattle.lq_stats.specs.Measure.{AreMeasured, JoinsValues, measure_call};
 ghost use Rattle.lq_stats.specs.Measure as spec;
 ghost use Rattle.lq_stats.specs.Words.{AreWords};
 
@@ -38,6 +38,37 @@ impl Measure {
             Measure::Min(least) => keep_least(alloc, least, value),
             Measure::Max(greatest) => keep_greatest(alloc, greatest, value),
             Measure::UniqValues(words) => keep_word(alloc, words, value),
+        }
+    }
+
+    /// Takes what the same function has kept of other values.
+    pub(crate) fn merge(&mut self, alloc: Global, other: Measure) -> Result<(), AllocError>
+        ensures call { measure_call self.new ≡ measure_call self.old }
+        ensures taken { OnOk result (measure_call other ≡ measure_call self.old → JoinsValues self.old other self.new) }
+    {
+        match other {
+            Measure::Sum(more) => {
+                if let Measure::Sum(sum) = self {
+                    *sum = with_sum(*sum, more);
+                }
+                Ok(())
+            }
+            Measure::Min(value) => {
+                if let Measure::Min(least) = self {
+                    take_lesser(least, value);
+                }
+                Ok(())
+            }
+            Measure::Max(value) => {
+                if let Measure::Max(greatest) = self {
+                    take_greater(greatest, value);
+                }
+                Ok(())
+            }
+            Measure::UniqValues(others) => match self {
+                Measure::UniqValues(words) => words.merge(alloc, others),
+                _ => Ok(()),
+            },
         }
     }
 }
@@ -88,4 +119,42 @@ fn keep_word(alloc: Global, words: &mut Words, value: &str) -> Result<(), AllocE
         return Ok(());
     }
     words.add(alloc, value)
+}
+
+/// Returns the sum of both, either of which may be of no numbers.
+fn with_sum(sum: Option<i128>, more: Option<i128>) -> Option<i128>
+    ensures { result ≡ spec.with_sum sum more }
+{
+    match more {
+        Some(more) => Some(sum.unwrap_or(0).saturating_add(more)),
+        None => sum,
+    }
+}
+
+/// Puts a value in place of the least so far, if it is less.
+fn take_lesser(least: &mut Text, value: Text)
+    ensures { least.new ≡ spec.lesser least.old value }
+{
+    let kept = least.as_str();
+    let text = value.as_str();
+    if text.is_empty() {
+        return;
+    }
+    if kept.is_empty() || value_order(text, kept) == Ordering::Less {
+        *least = value;
+    }
+}
+
+/// Puts a value in place of the greatest so far, if it is greater.
+fn take_greater(greatest: &mut Text, value: Text)
+    ensures { greatest.new ≡ spec.greater greatest.old value }
+{
+    let kept = greatest.as_str();
+    let text = value.as_str();
+    if text.is_empty() {
+        return;
+    }
+    if kept.is_empty() || value_order(text, kept) == Ordering::Greater {
+        *greatest = value;
+    }
 }

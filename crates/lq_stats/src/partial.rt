@@ -78,6 +78,17 @@ impl Partial {
         self.plan.add_all(alloc, &mut self.gathered, records)
     }
 
+    /// Takes the statistics of other records, which are of the same pipe: these are then of the records of both. After
+    /// an allocation fails the statistics may only be dropped.
+    pub fn merge(&mut self, alloc: Global, other: Partial) -> Result<(), AllocError>
+        requires few { rows self.old + rows other ≤ 2 ^ 32 }
+        ensures { OnOk result ((g : Grouping) (records others : List Record) → StandsFor self.old g records
+            → StandsFor other g others → StandsFor self.new g (records ++ others)) }
+    {
+        let Partial { gathered, .. } = other;
+        self.plan.merge(alloc, &mut self.gathered, gathered)
+    }
+
     /// Returns a record for each group in tuple order, without keys always one. `Overflow` names the first function of
     /// the first group whose total is not a 64-bit integer.
     pub fn finish(self, alloc: Global) -> Result<Recs, StatFault>

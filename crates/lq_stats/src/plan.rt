@@ -106,6 +106,26 @@ impl Plan {
         Ok(())
     }
 
+    /// Takes what is gathered of other records for the same plan. After an allocation fails, what is gathered may only
+    /// be dropped.
+    pub fn merge(
+        &self,
+        alloc: Global,
+        gathered: &mut Gathered,
+        other: Gathered,
+    ) -> Result<(), AllocError>
+        requires few { gathered_rows gathered.old + gathered_rows other ≤ 2 ^ 32 }
+        ensures counted { OnOk result (gathered_rows gathered.new ≡ gathered_rows gathered.old + gathered_rows other) }
+        ensures taken { OnOk result ((g : Grouping) (before others : List Record) → IsPlanOf self.now g
+            → IsGathered gathered.old g before → IsGathered other g others
+            → IsGathered gathered.new g (before ++ others)) }
+    {
+        let Gathered { groups, rows, .. } = other;
+        gathered.groups.merge(alloc, groups)?;
+        gathered.rows += rows;
+        Ok(())
+    }
+
     /// Returns a record for each group in tuple order, without keys always one. `Overflow` names the first function of
     /// the first group whose total is not a 64-bit integer.
     pub fn finish(&self, alloc: Global, gathered: Gathered) -> Result<Recs, StatFault>

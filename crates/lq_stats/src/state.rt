@@ -5,7 +5,7 @@ ghost use Rattle.lq_ast.specs.Statistics.{has_some};
 ghost use Rattle.lq_ast.specs.Tuples.{Tuple, tuple_of};
 ghost use Rattle.lq_tuple.specs.Counted.{AreCounted};
 ghost use Rattle.lq_stats.specs.Measure.{AreMeasured, measure_call};
-ghost use Rattle.lq_stats.specs.State.{AreTaken, Takes, is_nil, state_call};
+ghost use Rattle.lq_stats.specs.State.{AreTaken, Joins, Takes, is_nil, state_call};
 
 use crate::measure::Measure;
 use crate::scratch::Scratch;
@@ -67,6 +67,38 @@ impl State {
             }
             State::CountUniq(texts) => count_tuple(texts, scratch, names, fields),
             State::OfValues(measure) => add_values(measure, scratch.alloc, names, fields),
+        }
+    }
+
+    /// Takes what the same function has kept of other records.
+    pub(crate) fn merge(&mut self, alloc: Global, other: State) -> Result<(), AllocError>
+        ensures call { state_call self.new ≡ state_call self.old }
+        ensures taken { OnOk result (state_call other ≡ state_call self.old → Joins self.old other self.new) }
+    {
+        match other {
+            State::Count(more) => {
+                if let State::Count(number) = self {
+                    *number = number.saturating_add(more);
+                }
+                Ok(())
+            }
+            State::CountEmpty(more) => {
+                if let State::CountEmpty(number) = self {
+                    *number = number.saturating_add(more);
+                }
+                Ok(())
+            }
+            State::CountUniq(others) => match self {
+                State::CountUniq(texts) => {
+                    texts.merge(others)?;
+                    Ok(())
+                }
+                _ => Ok(()),
+            },
+            State::OfValues(others) => match self {
+                State::OfValues(measure) => measure.merge(alloc, others),
+                _ => Ok(()),
+            },
         }
     }
 }

@@ -4,6 +4,7 @@ ghost use Rattle.lq_stats.specs.Words.{AreWords};
 
 use lq_tuple::{HashSeed, Places};
 use std::alloc::{AllocError, Global};
+use std::mem;
 use vl_row::Text;
 
 /// Each of some texts once.
@@ -32,6 +33,39 @@ impl Words {
         let place = self.places.place(alloc, text)?;
         if place >= self.words.len() {
             self.words.push(Text::try_of(alloc, text)?)?;
+        }
+        Ok(())
+    }
+    /// Takes the words of others, those of the smaller list into the larger one.
+    pub(crate) fn merge(&mut self, alloc: Global, mut others: Words) -> Result<(), AllocError>
+        ensures { OnOk result ((texts more : List (List ℕ)) → AreWords self.old texts → AreWords others more
+            → AreWords self.new (texts ++ more)) }
+    {
+        if self.words.len() < others.words.len() {
+            mem::swap(self, &mut others);
+        }
+        self.take_all(alloc, others.words)
+    }
+
+    /// Takes each of some words, if it is new.
+    fn take_all(&mut self, alloc: Global, mut words: Vec<Text>) -> Result<(), AllocError>
+        ensures { OnOk result ((texts : List (List ℕ)) → AreWords self.old texts
+            → AreWords self.new (texts ++ words.items)) }
+    {
+        while let Some(word) = words.pop() {
+            self.take(alloc, word)?;
+        }
+        Ok(())
+    }
+
+    /// Takes a word, if it is new.
+    fn take(&mut self, alloc: Global, word: Text) -> Result<(), AllocError>
+        ensures { OnOk result ((texts : List (List ℕ)) → AreWords self.old texts
+            → AreWords self.new (texts ++ word ∷ [])) }
+    {
+        let place = self.places.place(alloc, word.as_str())?;
+        if place >= self.words.len() {
+            self.words.push(word)?;
         }
         Ok(())
     }

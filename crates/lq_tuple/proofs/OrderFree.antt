@@ -1,7 +1,7 @@
 -- The law: for pipes that forget the order, records with the same items give the same.
 use Rattle.std.proofs.Common.{◌≡◌, ℕ, ◌^◌, ◌&&◌, nat_lt, true, not, cond, List, [], ◌∷◌, length, map, filter}
 use Rattle.std.proofs.Common.{ℤ, pos, neg_ℤ, int_le, int_lt, zip, decimal, codes, Option, Some, None, take, refl, ap}
-use Rattle.std.proofs.Common.{◌∙◌, arith}
+use Rattle.std.proofs.Common.{◌∙◌, arith, sym, Result, Ok}
 use Rattle.std.specs.List.{dedup, filter_map}
 use Rattle.std.specs.Fmt.{signed_decimal}
 use Rattle.std.specs.Ordering.{is_eq, nat_cmp}
@@ -16,8 +16,10 @@ use Rattle.log_model.specs.Row.{Row, record_of}
 use Rattle.lq_ast.specs.Grouping.{◌>>=◌, all, asked, group_record, grouped, put, set_statistics, statistic_text}
 use Rattle.lq_ast.specs.Groups.{group_tuples, key_tuple, members}
 use Rattle.lq_ast.specs.Holds.{holds, record_holds}
+use Rattle.lq_ast.specs.Made.{extract_fields, formatted}
+use Rattle.lq_ast.specs.Making as makes
 use Rattle.lq_ast.specs.Pipes.{all_piped}
-use Rattle.lq_ast.specs.Records.{Record, put_fields, only_fields, without_fields, rename_fields, copy_fields}
+use Rattle.lq_ast.specs.Records.{Record, put_field, put_fields, only_fields, without_fields, rename_fields, copy_fields}
 use Rattle.lq_ast.specs.Sorting.{at_most, counted_record, hits, top, tuple_record, tuples, uniq}
 use Rattle.lq_ast.specs.Stage.{Distinct, GroupBy, Grouping, Ranking, Stage, Statistic}
 use Rattle.lq_ast.specs.Stage as is
@@ -168,6 +170,18 @@ same_top r xs ys h =
 
 -- ---- pipes
 
+all_made : {A B E : Type 0} (f : A → B) (xs : List A) → all {E = E} (map (λ x. Ok (f x)) xs) ≡ Ok (map f xs)
+all_made f [] = refl
+all_made {E = E} f (x ∷ xs) = ap (λ (made : Result (List _) E). made >>= λ ys. Ok (f x ∷ ys)) (all_made f xs)
+
+-- pipes after one that makes a record of each
+after_making : (f : Record → Record) (stages : List Stage) (xs ys : List Record)
+    → all_piped stages (map f xs) ≡ all_piped stages (map f ys)
+    → (all (map (λ r. Ok (f r)) xs) >>= all_piped stages) ≡ (all (map (λ r. Ok (f r)) ys) >>= all_piped stages)
+after_making f stages xs ys same =
+    ap (λ made. made >>= all_piped stages) (all_made f xs) ∙ same
+    ∙ sym (ap (λ made. made >>= all_piped stages) (all_made f ys))
+
 pub same_piped : (stages : List Stage) (xs ys : List Record) → forget_order stages ≡ true → HaveSameItems xs ys
     → all_piped stages xs ≡ all_piped stages ys
 same_piped [] xs ys e h = absurd cc
@@ -193,6 +207,17 @@ same_piped (is.uniq distinct ∷ stages) xs ys e h = ap (all_piped stages) (same
 same_piped (is.stats grouping ∷ stages) xs ys e h =
     ap (λ made. made >>= all_piped stages) (same_grouped grouping xs ys h)
 same_piped (is.top ranking ∷ stages) xs ys e h = ap (all_piped stages) (same_top ranking xs ys h)
+same_piped (is.make (makes.extract pieces from) ∷ stages) xs ys e h =
+    after_making (extract_fields pieces from) stages xs ys
+    (same_piped stages (map (extract_fields pieces from) xs) (map (extract_fields pieces from) ys) e
+    (same_made (extract_fields pieces from) xs ys h))
+same_piped (is.make (makes.format pieces name) ∷ stages) xs ys e h =
+    let set = λ (r : Record). put_field r name (formatted pieces r) in
+    after_making set stages xs ys (same_piped stages (map set xs) (map set ys) e (same_made set xs ys h))
+same_piped (is.make (makes.len from name) ∷ stages) xs ys e h =
+    let set = λ (r : Record). put_field r name (decimal (length (field_value r from))) in
+    after_making set stages xs ys (same_piped stages (map set xs) (map set ys) e (same_made set xs ys h))
+same_piped (is.make (makes.math items) ∷ stages) xs ys e h = absurd cc
 
 -- ---- evaluation
 

@@ -192,18 +192,22 @@ found_again list parts old new whole on w =
     bytes [] files = tt
     bytes (p ∷ parts) files = (sym (w.read p.file) ∙ files.0.1, bytes parts files.1)
 
+pub numbers_now : {V : Type 0} (store : StoreState V) (list : Listing) (parts : List Listed) (past : Past)
+    → IsCatalog list parts → IsOnVault list parts past → store.generation ≡ list.generation
+    → store.next_file ≡ list.next_file → HasNumbersOf (found_in (content past)) store
+numbers_now store list parts past whole on generation next = pick on.live
+  where
+    pick : HasList list past → HasNumbersOf (found_in (content past)) store
+    pick (inl none) = subst (λ found. HasNumbersOf found store) (sym none.1)
+        (generation ∙ none.0, next ∙ (whole.fresh none.0).2)
+    pick (inr there) = subst (λ found. HasNumbersOf found store) (sym there.1) (generation, next)
+
 pub numbers_of : {V : Type 0} (store : StoreState V) (list : Listing) (parts : List Listed) (old new : Past)
     → IsCatalog list parts → IsOnVault list parts new → IsOnlySynced old new → store.generation ≡ list.generation
     → store.next_file ≡ list.next_file → HasNumbersOf (found_in (content old)) store
-numbers_of store list parts old new whole on w generation next = pick on.live
-  where
-    same : found_in (content new) ≡ found_in (content old)
-    same = ap found_in (same_contents old new w.read)
-
-    pick : HasList list new → HasNumbersOf (found_in (content old)) store
-    pick (inl none) = subst (λ found. HasNumbersOf found store) (sym none.1 ∙ same)
-        (generation ∙ none.0, next ∙ (whole.fresh none.0).2)
-    pick (inr there) = subst (λ found. HasNumbersOf found store) (sym there.1 ∙ same) (generation, next)
+numbers_of store list parts old new whole on w generation next =
+    subst (λ found. HasNumbersOf found store) (ap found_in (same_contents old new w.read))
+    (numbers_now store list parts new whole on generation next)
 
 -- ---- faults
 

@@ -46,6 +46,10 @@ HasNumbersOf None store = ⊥
 HasNumbersOf (Some None) store = (store.generation ≡ 0) × (store.next_file ≡ 2)
 HasNumbersOf (Some (Some list)) store = (store.generation ≡ list.generation) × (store.next_file ≡ list.next_file)
 
+-- The numbers of the store are those of the image's live list.
+abbrev pub HasNumbersIn : {V : Type 0} → Image → StoreState V → Type 0
+HasNumbersIn image store = HasNumbersOf (found_in image) store
+
 -- The fault says nothing of the contents.
 abbrev pub IsOutside : ReopenFault → Type 0
 IsOutside fault = (fault ≡ VaultFault) ⊎ (fault ≡ Memory)

@@ -6,9 +6,8 @@ ghost use Rattle.day_model.specs.Days.{AreOfTheirDays};
 ghost use Rattle.vl_io.specs.Faults.{Rose};
 ghost use Rattle.vl_vault.specs.Disk.{content};
 ghost use Rattle.vl_vault.specs.Moments.{Always, EachImage};
-ghost use Rattle.parts_list.specs.Slots.{found_in};
 ghost use Rattle.part_store.specs.Finds.{FindsBatches, FindsOldOrNew, FindsParts, HoldsBatches};
-ghost use Rattle.part_store.specs.Reopening.{AreListedDurable, HasNumbersOf, IsOnlySynced, IsOutside, IsReopenFault};
+ghost use Rattle.part_store.specs.Reopening.{AreListedDurable, HasNumbersIn, IsOnlySynced, IsOutside, IsReopenFault};
 ghost use Rattle.part_store.specs.Reopening.{vault_after};
 ghost use Rattle.part_store.specs.State.{AreStored, HasSameList, IsReplaced, IsSpent, day_part_of, listed_of};
 
@@ -61,7 +60,7 @@ impl<V: Vault> Store<V> {
     pub fn reopen(alloc: Global, vault: V) -> Result<Store<V>, (ReopenFault, V)>
         requires durable { V.is_told → AreListedDurable (V.past vault) }
         ensures found { V.is_told → IfOk result (λ store. FindsParts store.front store.parts (content (V.past vault))) }
-        ensures numbers { V.is_told → IfOk result (HasNumbersOf (found_in (content (V.past vault)))) }
+        ensures numbers { V.is_told → IfOk result (HasNumbersIn (content (V.past vault))) }
         ensures batches { IfOk result HoldsBatches }
         ensures on { IfOk result (λ store. store.halted ≡ None) }
         ensures only { V.is_told → FindsBatches (content (V.past vault))
@@ -125,6 +124,14 @@ impl<V: Vault> Store<V> {
     pub fn finds_law(&self)
         ensures { V.is_told → self.now.halted ≡ None
             → EachImage (FindsParts self.now.front self.now.parts) (V.past self.now.vault) }
+    {
+        let _ = &self.catalog;
+    }
+
+    /// Says that the numbers are those of the list that the vault has now. This does nothing.
+    pub fn numbers_law(&self)
+        ensures { V.is_told → self.now.halted ≡ None
+            → HasNumbersIn (content (V.past self.now.vault)) self.now }
     {
         let _ = &self.catalog;
     }

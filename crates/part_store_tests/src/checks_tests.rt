@@ -1,5 +1,6 @@
 //! What crashes and faults leave while parts are replaced.
 
+use crate::numbers_tests;
 use crate::store_tests::{TestFault, add, crashed_store, new_store, replace_first};
 use part_store::{ReopenFault, Store, StoreFault};
 use std::alloc::Global;
@@ -133,6 +134,22 @@ fn halts(alloc: Global, failing: u64) -> Result<bool, TestFault> {
     Ok(refused && kept && leaves_one_of_two(alloc, &vault, made)?)
 }
 
+/// Returns whether the store halts where the removal of the old part fails, and nothing else does. Then each image has
+/// the new parts, since their list was synced before.
+fn halts_at_removal(alloc: Global) -> Result<bool, TestFault> {
+    let calls = vault_after(alloc, 3)?.calls();
+    let mut store = new_store(alloc, &[calls.saturating_sub(1)])?;
+    let made = made_changes(alloc, &mut store)?;
+    let halted = made == 2 && store.halted() == Some(1) && has_places(&store, 2);
+    let vault = store.into_vault();
+    let mut same = halted && vault.calls() == calls;
+    for choice in 0..IMAGES {
+        let store = crashed_store(alloc, &vault, vault.calls(), choice)?;
+        same = same && has_places(&store, 3);
+    }
+    Ok(same)
+}
+
 /// Returns whether the check of this name holds.
 pub fn holds(alloc: Global, name: &str) -> Result<bool, TestFault> {
     if let Some(call) = name.strip_prefix("fault ") {
@@ -141,5 +158,8 @@ pub fn holds(alloc: Global, name: &str) -> Result<bool, TestFault> {
     if let Some(number) = name.strip_prefix("change ") {
         return leaves_old_or_new(alloc, number.parse::<u64>().unwrap_or(0));
     }
-    Ok(false)
+    if name == "removal" {
+        return halts_at_removal(alloc);
+    }
+    numbers_tests::holds(alloc, name)
 }

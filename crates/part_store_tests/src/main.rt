@@ -1,10 +1,12 @@
 //! Tests of `part_store`.
 //!
-//! A line is the name of a check: of what a crash leaves while parts are replaced, of the order of the parts, or of the
-//! call of a number that fails, as `fault 3`. The program writes whether it holds.
+//! A line is the name of a check: of what a crash leaves while parts are replaced, of the call of a number that fails,
+//! as `fault 3`, of a removal that alone fails, or of a list of the last numbers or of another version. The program
+//! writes whether it holds.
 #![tactic(auto)]
 
 mod checks_tests;
+mod numbers_tests;
 mod store_tests;
 
 use checks_tests::holds;

@@ -11,6 +11,7 @@ use Rattle.lq_filter.specs.declared.fault.PrepareFault.TheVariants as refusals
 use Rattle.lq_parse.specs.Query.{IsQueryText}
 use Rattle.lq_parse.specs.QueryFault.{QueryFault}
 use Rattle.lq_parse.specs.QueryFault.TheVariants.{Lex, Syntax, TooDeep, BadNumber, BadTime, BadDuration}
+use Rattle.lq_parse.specs.QueryFault.TheVariants.{BadPattern}
 use Rattle.lq_parse.specs.QueryFault.TheVariants.{Memory}
 use Rattle.query_run.specs.Asked.{IsNoReadableQuery, refused_by, refused_pattern}
 use Rattle.query_run.specs.declared.query.QueryRefusal.TheVariants as outcomes
@@ -30,6 +31,7 @@ IsOther (TooDeep at) = Unit {0}
 IsOther (BadNumber at) = Unit {0}
 IsOther (BadTime at) = Unit {0}
 IsOther (BadDuration at) = Unit {0}
+IsOther (BadPattern at) = Unit {0}
 IsOther Memory = ⊥
 
 abbrev failed : (Q : Type 0) → QueryFault → Result Q QueryFault
@@ -55,6 +57,7 @@ only_memory Q c (TooDeep at) finds = absurd (other_fault Q c (TooDeep at) tt fin
 only_memory Q c (BadNumber at) finds = absurd (other_fault Q c (BadNumber at) tt finds)
 only_memory Q c (BadTime at) finds = absurd (other_fault Q c (BadTime at) tt finds)
 only_memory Q c (BadDuration at) finds = absurd (other_fault Q c (BadDuration at) tt finds)
+only_memory Q c (BadPattern at) finds = absurd (other_fault Q c (BadPattern at) tt finds)
 only_memory Q c Memory finds = refl
 
 -- The query that was read is the one that the text spells.

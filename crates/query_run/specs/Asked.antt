@@ -57,6 +57,7 @@ refused_by (faults.TooDeep at) = Unspelled (faults.TooDeep at)
 refused_by (faults.BadNumber at) = Unspelled (faults.BadNumber at)
 refused_by (faults.BadTime at) = Unspelled (faults.BadTime at)
 refused_by (faults.BadDuration at) = Unspelled (faults.BadDuration at)
+refused_by (faults.BadPattern at) = Unspelled (faults.BadPattern at)
 refused_by faults.Memory = Memory
 
 -- the refusal that a fault of preparing is

@@ -82,7 +82,7 @@ def pipe_text(kind, *parts):
         return "keep " + filter_text(parts[0])
     if kind == "Top":
         return f"top {parts[0]}" + all_shown(parts[1])
-    return {"Sort": sort_text, "Uniq": uniq_text, "Stats": stats_text}[kind](*parts)
+    return OTHER_PIPES[kind](*parts)
 
 
 def limit_text(limit):
@@ -107,6 +107,39 @@ def function_text(call, names, only, name):
     condition = "" if only is None else " if " + filter_text(only)
     return f"; {call}{all_shown(names)}{condition} as{shown(name)}"
 
+
+def extract_text(pattern, field):
+    return f"extract from{shown(field)}" + pattern_text(pattern)
+
+
+def format_text(pattern, name):
+    return f"format as{shown(name)}" + pattern_text(pattern)
+
+
+def pattern_text(pattern):
+    return "".join(f" {kind}{shown(piece)}" for kind, piece in pattern)
+
+
+def len_text(field, name):
+    return f"len{shown(field)} as{shown(name)}"
+
+
+def math_text(items):
+    return "math" + "".join(f";{expression_text(expression)} as{shown(name)}" for expression, name in items)
+
+
+def expression_text(expression):
+    kind, *parts = expression
+    if kind == "Two":
+        operator, left, right = parts
+        return f" ({expression_text(left)} {operator}{expression_text(right)})"
+    return f" {parts[0]}" if kind == "Whole" else shown(parts[0])
+
+
+OTHER_PIPES = {
+    "Sort": sort_text, "Uniq": uniq_text, "Stats": stats_text, "Extract": extract_text, "Format": format_text,
+    "Len": len_text, "Math": math_text,
+}  # fmt: skip
 
 LETTERS = "ab_9é日٣🙂\u0301 \u00a0\u2003./-|()[]{},:=!~*<>+\"'`\\nrt#$%&;?@^"
 

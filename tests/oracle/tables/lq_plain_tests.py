@@ -132,7 +132,7 @@ def cases_of_limits(random):
 
 
 def cases(random):
-    lines = ["", "a\t", "*\ta=1", "a | fields b\ta=1", "(\ta=1"]
+    lines = ["", "a\t", "*\ta=1", "a | fields b\ta=1", "(\ta=1", "a | math b + 1 as c\ta=1", "a | len(b) c\t_msg=a"]
     for _ in range(900):
         text = query_of(random, lambda made: made.filter(3))
         lines.append("\t".join([text, *records_of(random, 8)]))

@@ -14,7 +14,13 @@ def answers(stdin):
         number = numbers.setdefault(text, len(numbers))
         shown = "".join(f"[{value}]" for value in values)
         lines.append(f"{number} {text} {shown}" + ("" if any(values) else " empty"))
-    return table([*lines, *numbers, str(len(numbers))])
+    return table([*lines, *numbers, str(len(numbers)), *merged(list(numbers))])
+
+
+def merged(texts):
+    """Returns for each place how many texts the ones before it have with those behind it, and with all."""
+    parts = [(texts[:place], texts[place:]) for place in range(len(texts) + 1)]
+    return [f"{len({*before, *after})} {len({*before, *texts})}" for before, after in parts]
 
 
 def pairs(fields):

@@ -48,7 +48,9 @@ def answer(line):
 PIPES = (
     "fields n, app", "sort by (n desc)", "sort by (_time, n)", "limit 3", "offset 2", "uniq by (app) with hits",
     "top 2 by (n)", "stats by (app) count() as all, sum(n) as s", "stats sum(n) as s", "filter n:>2",
-    "filter n:~\"[\"", "stats by (n) min(_time) as n, uniq_values(app) as app",
+    "filter n:~\"[\"", "stats by (n) min(_time) as n, uniq_values(app) as app", "extract \"<a> <_>\"",
+    "extract \"<c>-\" from host", "format \"<app>:<n>\" as app", "len(_msg) as n", "math n * n as q, q mod 7 as r",
+    "math n - 1 as n",
 )  # fmt: skip
 
 

@@ -1,8 +1,9 @@
 use Rattle.std.proofs.Common.{Err}
 use Rattle.grammar.specs.Spelling.{too_deep, refused}
 use Rattle.grammar.specs.Reading.{flawed}
-use Rattle.lq_grammar.specs.Values.{bad_number, bad_time, bad_duration}
+use Rattle.lq_grammar.specs.Values.{bad_number, bad_time, bad_duration, bad_pattern}
 use Rattle.lq_grammar.specs.declared.fault.Stop.TheVariants.{Stuck, TooDeep, BadNumber, BadTime, BadDuration}
+use Rattle.lq_grammar.specs.declared.fault.Stop.TheVariants.{BadPattern}
 use Rattle.lq_parse.proofs.Stops.{outcome_when, few_left, syntax_at, fails_so}
 use Rattle.lq_parse.proofs.query.fault_of.Goals as goal
 
@@ -37,3 +38,9 @@ returns-in-BadDuration c =
     outcome_when c.args.text.now c.args.tokens.now c.requires.text
     (Err (flawed (refused bad_duration) c.in-BadDuration.at))
     (fails_so c.args.tokens.now c.args.stop (BadDuration c.in-BadDuration.at) c.in-BadDuration.is c.requires.stops)
+
+pub returns-in-BadPattern : goal.returns-in-BadPattern
+returns-in-BadPattern c =
+    outcome_when c.args.text.now c.args.tokens.now c.requires.text
+    (Err (flawed (refused bad_pattern) c.in-BadPattern.at))
+    (fails_so c.args.tokens.now c.args.stop (BadPattern c.in-BadPattern.at) c.in-BadPattern.is c.requires.stops)

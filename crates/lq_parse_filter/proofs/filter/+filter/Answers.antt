@@ -7,9 +7,8 @@ use Rattle.lq_ast.specs.Condition.{all_of, any_of}
 use Rattle.lq_ast.specs.View.{condition}
 use Rattle.lq_grammar.specs.declared.role.Role.TheVariants.{Or}
 use Rattle.lq_grammar.specs.Roles.{any}
-use Rattle.lq_grammar.specs.Values.{denied}
 use Rattle.lq_grammar.specs.LogsQL.{and, next_unary, behind, negation, inner_negation, unary, inner}
-use Rattle.lq_grammar.specs.LogsQL.{selector, time_end, row_unit}
+use Rattle.lq_grammar.specs.LogsQL.{selector, time_end, row_unit, denied_of}
 use Rattle.lq_grammar.specs.Clauses.{at}
 use Rattle.lq_parse_filter.proofs.Behind.{behind_read, next_read}
 use Rattle.lq_parse_filter.proofs.Denied.{not_read}
@@ -57,7 +56,7 @@ or-others-preserved t c = (
 
 pub negation-returns : goal.negation-returns
 negation-returns t c =
-    ap (mapped (λ made. denied made (option_copied c.args.field)))
+    ap (mapped (λ value. denied_of value (option_copied c.args.field)))
     (name_read c.args.depth (negation c.args.scope) c.args.tokens.now c.in_ok-rest.rest.now (omega arith) c.in_ok-rest.ensures)
     ∙ deny_ok (option_copied c.args.field) (at (c.args.depth - 1) (unary c.args.scope) c.in_ok-rest.rest.now)
     (condition c.in_ok-filter.filter) c.in_ok-filter.rest.now c.in_ok-filter.ensures
@@ -77,7 +76,7 @@ negation-returns-in_err-filter t c =
 
 pub inner_negation-returns : goal.inner_negation-returns
 inner_negation-returns t c =
-    ap (mapped (λ made. denied made (option_copied c.args.field)))
+    ap (mapped (λ value. denied_of value (option_copied c.args.field)))
     (name_read c.args.depth (inner_negation c.args.scope) c.args.tokens.now c.in_ok-rest.rest.now (omega arith) c.in_ok-rest.ensures)
     ∙ deny_ok (option_copied c.args.field) (at (c.args.depth - 1) (inner c.args.scope) c.in_ok-rest.rest.now)
     (condition c.in_ok-filter.filter) c.in_ok-filter.rest.now c.in_ok-filter.ensures
