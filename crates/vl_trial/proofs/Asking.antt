@@ -36,7 +36,9 @@ use Rattle.lq_grammar.specs.LogsQL.{record_pipe, group_pipe, stats_pipe, funcs, 
 use Rattle.lq_grammar.specs.LogsQL.{call_of_one, name_call, counted, groups_by, key_list, keys, key, step_end, step}
 use Rattle.lq_grammar.specs.LogsQL.{top_pipe, most, by_most, word_most, most_end, uniq_pipe, uniq_rest, uniq_end}
 use Rattle.lq_grammar.specs.LogsQL.{hits, sort_pipe, sort_rest, sort_end, cut, offset, sort_keys, sort_key, direction}
-use Rattle.lq_grammar.specs.LogsQL.{limit, count, pairs, pair, new_name, name_list, names}
+use Rattle.lq_grammar.specs.LogsQL.{limit, count, pairs, pair, new_name, name_list, names, set_name, target, source}
+use Rattle.lq_grammar.specs.LogsQL.{extract_pieces, format_pieces, extract_pipe, format_pipe, len_pipe, atom, factor_op}
+use Rattle.lq_grammar.specs.LogsQL.{next_factor, term, sum_op, next_term, expr, math_item, math_items, row_pipe}
 use Rattle.lq_grammar.proofs.Answered.{reading, answered_query}
 use Rattle.vl_trial.proofs.Lexed.{tokens_in, tokens_sound}
 
@@ -65,8 +67,10 @@ unfolding chars encode_utf8 digits is_word_char ucd_category token_at item_of nu
     inner time_end stream_value stream_end word_unit row_unit record_unit unit unary next_unary and or
     names name_list new_name pair pairs count limit direction sort_key sort_keys offset cut sort_end sort_rest sort_pipe
     hits uniq_end uniq_rest uniq_pipe most_end by_most word_most most top_pipe step step_end key keys key_list groups_by
-    counted name_call call_of_one call naming if_end func_end func funcs stats_pipe group_pipe record_pipe
-    pipe pipes query
+    counted name_call call_of_one call naming if_end func_end func funcs stats_pipe
+    set_name target source extract_pieces format_pieces extract_pipe format_pipe len_pipe
+    atom factor_op next_factor term sum_op next_term expr math_item math_items row_pipe
+    group_pipe record_pipe pipe pipes query
 asked_in text = read_of (found_in text)
 
 tokens_of : (o : Option (List Token)) (asked : Question) → read_of o ≡ Some (Ok asked)
